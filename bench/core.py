@@ -30,13 +30,13 @@ ghost use Rattle.vt_part.specs.Table.{end_of};
 
 use std::alloc::Global;
 use std::io::{self, ErrorKind, Read};
-use vt_answer::{Store, read, write};
 use vt_base::{Scorer, Sha1Scorer};
 use vt_core::{Core, Devices, Event, Out};
 use vt_disk::Disk;
-use vt_drive::{Driven, end};
+use vt_handler::{Store, read, write};
 use vt_memdisk::MemDisk;
 use vt_part::Part;
+use vt_requests::{Driven, end};
 use vt_shard::Sizes;
 
 /// How many arenas there are, and how many bytes each has.
@@ -250,7 +250,7 @@ fn driven<D: Disk + Drop>(
 }
 """
 
-DEPS = "vt_base vt_disk vt_memdisk vt_part vt_shard vt_core vt_answer vt_drive"
+DEPS = "vt_base vt_disk vt_memdisk vt_part vt_shard vt_core vt_handler vt_requests"
 
 
 def rlib_alone(folder, names):

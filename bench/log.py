@@ -29,11 +29,10 @@ use std::env;
 use std::io::{self, ErrorKind, Read};
 use std::marker::Brand;
 use std::sync::ledger::{Blank, Ledger};
-use vt_base::{Key, Kind, Place, Scorer, Sha1Scorer, Text};
+use vt_base::{Key, Kind, Place, Scorer, Sha1Scorer, Steps, Text};
 use vt_clump::pack;
 use vt_log::Log;
 use vt_memdisk::{MemDisk, Never};
-use vt_steps::Steps;
 
 /// How many bytes a block has.
 const BLOCK: usize = 1_024;
@@ -147,7 +146,7 @@ def make(folder):
     shutil.copytree(os.path.join(TOP, "crates"), crates, ignore=skip)
     with open(os.path.join(TOP, "crates.txt")) as source, open(os.path.join(folder, "crates.txt"), "w") as out:
         out.writelines(line for line in source if not line.startswith("vt_prog:"))
-        out.write("sha1_rate: sha1\nlog_rate: vt_base vt_steps vt_clump vt_disk vt_memdisk vt_part vt_arena vt_log\n")
+        out.write("sha1_rate: sha1\nlog_rate: vt_base vt_clump vt_disk vt_memdisk vt_part vt_arena vt_log\n")
     programs = {"sha1_rate": RATE.replace("8_192", "1_024"), "log_rate": LOG}
     for name, text in programs.items():
         os.makedirs(os.path.join(crates, name, "src"))

@@ -27,13 +27,12 @@ use std::alloc::Global;
 use std::io::{self, ErrorKind, Read};
 use std::marker::Brand;
 use std::sync::ledger::{Blank, Ledger};
-use vt_base::{Info, Key, Kind, Place, Score, Text};
+use vt_base::{Info, Key, Kind, Place, Score, Steps, Text};
 use vt_disk::Disk;
 use vt_icache::IndexCache;
 use vt_isect::Section;
 use vt_memdisk::{MemDisk, Never};
 use vt_shard::{Shard, Sizes};
-use vt_steps::Steps;
 
 /// How long a section of 2,048 buckets is.
 const LEN: u64 = 24_576 + 2_048 * 16_896;
@@ -423,7 +422,7 @@ def make(folder):
     shutil.copytree(os.path.join(TOP, "crates"), crates, ignore=skip)
     with open(os.path.join(TOP, "crates.txt")) as source, open(os.path.join(folder, "crates.txt"), "w") as out:
         out.writelines(line for line in source if not line.startswith("vt_prog:"))
-        out.write("shard_rate: vt_base vt_steps vt_disk vt_memdisk vt_icache vt_isect vt_shard\n")
+        out.write("shard_rate: vt_base vt_disk vt_memdisk vt_icache vt_isect vt_shard\n")
     crate = os.path.join(crates, "shard_rate")
     os.makedirs(os.path.join(crate, "src"))
     with open(os.path.join(crate, "src", "main.rt"), "w") as out:

@@ -126,7 +126,7 @@ class Documents:
 
     def statuses(self, name):
         """A document for users: its table of statuses has those that the program may end with, and no others."""
-        with open(os.path.join(CRATES, "run_base", "specs", "Failure.antt"), encoding="utf-8") as text:
+        with open(os.path.join(CRATES, "run_base", "specs", "Errors.antt"), encoding="utf-8") as text:
             known = {int(it) for it in re.findall(r"(?m)^(?:status_of|server_status) .* = (\d+)$", text.read())}
         told = {cells[0] for _, _, head, cells in self.tables(name) if head[0] == "Status"}
         if told != {str(it) for it in known}:

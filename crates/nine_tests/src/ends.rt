@@ -311,11 +311,11 @@ struct Refusing {
 
 impl Refusing {
     ghost use Rattle.std.specs.Prelude.{◌≡◌, Some};
-    ghost use Rattle.vt_tree.specs.Calls.{counted};
+    ghost use Rattle.vt_tree.specs.Calls.{with_refusal};
 
     fn refuse(&mut self, alloc: Global) -> BlockErr
         ensures { record { faults = 0; refusals = self.new.refusals }
-            ≡ counted (Some result) (record { faults = 0; refusals = self.old.refusals }) }
+            ≡ with_refusal (Some result) (record { faults = 0; refusals = self.old.refusals }) }
     {
         match Text::copy_of(alloc, &[b'x'; 300]) {
             Ok(text) => {
@@ -343,10 +343,10 @@ impl Scorer for Refusing {
 
 impl Blocks for Refusing {
     ghost use Rattle.std.specs.Prelude.{◌≡◌};
-    ghost use Rattle.vt_tree.specs.Calls.{counted, refusal_of};
+    ghost use Rattle.vt_tree.specs.Calls.{with_refusal, refusal_of};
 
     ghost does = { λ s call s'. record { faults = 0; refusals = s'.refusals }
-        ≡ counted (refusal_of call) (record { faults = 0; refusals = s.refusals }) };
+        ≡ with_refusal (refusal_of call) (record { faults = 0; refusals = s.refusals }) };
 
     ghost holds = { λ s m. ⊥ };
 

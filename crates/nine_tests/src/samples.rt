@@ -1,8 +1,8 @@
 //! A small archive in memory, its view, and clients of it.
 
 ghost use Rattle.std.specs.Prelude.{◌≡◌, ◌≤◌, IfOk, length};
-ghost use Rattle.vt_tree.specs.Entries.{IsEntry};
-ghost use Rattle.nine_view.specs.Files.{IsTold};
+ghost use Rattle.vt_tree.specs.Entries.{IsTreeEntry};
+ghost use Rattle.nine_view.specs.Files.{FitsMessage};
 
 use nine_view::{Ended, View, serve_nine};
 use std::alloc::{AllocError, Global};
@@ -35,7 +35,7 @@ fn stream<B: Blocks>(
     bytes: &[u8],
     is_dir: bool,
 ) -> Result<Entry, Fail>
-    ensures { IfOk result IsEntry }
+    ensures { IfOk result IsTreeEntry }
 {
     let mut source = MemSource::new(alloc, Vec::from_slice(alloc, bytes)?);
     match write_stream(alloc, blocks, &mut source, 480, 500, is_dir) {

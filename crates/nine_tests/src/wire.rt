@@ -1,11 +1,11 @@
 //! Messages byte for byte, as they are spelled in the manual and as another encoder has them.
 
 ghost use Rattle.std.specs.Prelude.{◌≤◌, length};
-ghost use Rattle.nine_wire.specs.Frames.{spelled};
+ghost use Rattle.nine_wire.specs.Frames.{spelled_reply};
 ghost use Rattle.nine_wire.specs.Messages.{FitsReply};
 ghost use Rattle.nine_wire.specs.Views.{reply_of};
 
-use nine_wire::{Names, NineBad, Qid, Reply, Request, Stat, decode, encode};
+use nine_wire::{Names, NineError, Qid, Reply, Request, Stat, decode, encode};
 use std::test::Fail;
 use vt_rows::Rows;
 
@@ -13,9 +13,9 @@ use vt_rows::Rows;
 fn told(message: &[u8]) -> (u16, &str) {
     match decode(message) {
         Ok((tag, request)) => (tag, kind_of(&request)),
-        Err(NineBad::Short) => (0, "short"),
-        Err(NineBad::Unknown { tag }) => (tag, "unknown"),
-        Err(NineBad::Bad { tag }) => (tag, "bad"),
+        Err(NineError::Short) => (0, "short"),
+        Err(NineError::Unknown { tag }) => (tag, "unknown"),
+        Err(NineError::Bad { tag }) => (tag, "bad"),
     }
 }
 
@@ -148,7 +148,7 @@ fn names_are_read(rt: HostRuntime) -> Result<(), Fail> {
 /// Whether the reply has these bytes.
 fn is_spelled(tag: u16, reply: &Reply<'_>, wanted: &[u8]) -> bool
     requires fits { FitsReply (reply_of reply.now) }
-    requires room { length (spelled tag (reply_of reply.now)) ≤ 64 }
+    requires room { length (spelled_reply tag (reply_of reply.now)) ≤ 64 }
 {
     let mut buf = [0; 64];
     let len = encode(tag, reply, &mut buf);

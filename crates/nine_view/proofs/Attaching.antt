@@ -1,28 +1,28 @@
 -- What an attach comes to.
 use Rattle.std.proofs.Common.{◌≡◌, ◌≤◌, ◌<◌, ◌^◌, ℕ, true, false, Ok, Err, List, [], length, take, refl, arith, eq-eqb}
 use Rattle.std.proofs.lemmas.Bool.{le-leb, lt-leb, ne_eqb}
-use Rattle.vac_read.specs.declared.err.VacBad.TheVariants.{NoMemory}
+use Rattle.vac_read.specs.declared.error.VacBad.TheVariants.{NoMemory}
 use Rattle.nine_wire.specs.declared.TheConstants.{NO_FID}
-use Rattle.nine_wire.specs.Frames.{spelled}
+use Rattle.nine_wire.specs.Frames.{spelled_reply}
 use Rattle.nine_wire.specs.Messages.{r_attach, r_error}
-use Rattle.nine_view.specs.declared.failure.Denied.TheVariants.{Refused, Failed}
+use Rattle.nine_view.specs.declared.error.AnswerError.TheVariants.{Refused, Failed}
 use Rattle.nine_view.specs.declared.fid.Fid.{Fid}
-use Rattle.nine_view.specs.declared.refusal.Refusal.TheVariants.{NoAuthentication, BadFid, FidInUse, TooManyFids}
+use Rattle.nine_view.specs.declared.request_error.RequestError.TheVariants.{NoAuthentication, BadFid, FidInUse, TooManyFids}
 use Rattle.nine_view.specs.Answers.{to_attach, unopened}
 use Rattle.nine_view.specs.Failures.{failure_words}
 use Rattle.nine_view.specs.Files.{qid_of}
 use Rattle.nine_view.specs.Handling.{SetsFid}
-use Rattle.nine_view.specs.Kept.{IsKept}
-use Rattle.nine_view.specs.Known.{Known, is_known, limit, with_fid}
+use Rattle.nine_view.specs.Kept.{IsKeptView}
+use Rattle.nine_view.specs.Known.{ViewState, is_known, limit, with_fid}
 use Rattle.nine_view.proofs.Keeping.{right_with}
 use Rattle.nine_view.proofs.Limits.{least_limit}
 use Rattle.nine_view.proofs.Settled.{refused_here}
 
 -- a fid at the top folder
-abbrev pub at_top : Known → Fid
+abbrev pub at_top : ViewState → Fid
 at_top known = unopened (record { node = known.top; above = [] })
 
-module _ (tag : ℕ) (known : Known) (out : List ℕ) (fid afid : ℕ) where
+module _ (tag : ℕ) (known : ViewState) (out : List ℕ) (fid afid : ℕ) where
   pub attach_authentic : (afid ≡ NO_FID → ⊥)
       → SetsFid tag known known out (Err (Refused NoAuthentication)) (to_attach known fid afid)
   attach_authentic some =
@@ -67,10 +67,10 @@ module _ (tag : ℕ) (known : Known) (out : List ℕ) (fid afid : ℕ) where
         })
 
     pub attach_set : (fids : List (ℕ × Fid)) (len : ℕ) → is_known fid known.fids ≡ false
-        → length known.fids < 1024 → IsKept known → known.top.qid < 2 ^ 64
+        → length known.fids < 1024 → IsKeptView known → known.top.qid < 2 ^ 64
         → fids ≡ with_fid fid (at_top known) known.fids
-        → take len out ≡ spelled tag (r_attach (qid_of known.top))
-        → len ≡ length (spelled tag (r_attach (qid_of known.top)))
+        → take len out ≡ spelled_reply tag (r_attach (qid_of known.top))
+        → len ≡ length (spelled_reply tag (r_attach (qid_of known.top)))
         → SetsFid tag known (record known { fids = fids }) out (Ok len) (to_attach known fid afid)
     attach_set fids len new few kept qid set written len_is =
         let least = least_limit known kept in

@@ -3,29 +3,29 @@ use Rattle.std.proofs.Common.{◌≡◌, ◌≤◌, ◌<◌, ◌⊎◌, ℕ, tru
 use Rattle.std.specs.Prelude.{is_some, nat_lt}
 use Rattle.std.specs.Option.{option_map_or}
 use Rattle.std.proofs.lemmas.Bool.{le-leb, le-ltb, lt-leb, lt-ltb, ne_eqb}
-use Rattle.vac_read.specs.declared.err.VacBad.TheVariants.{NoMemory}
+use Rattle.vac_read.specs.declared.error.VacBad.TheVariants.{NoMemory}
 use Rattle.nine_wire.specs.declared.TheConstants.{NO_FID}
-use Rattle.nine_view.specs.declared.failure.Denied.TheVariants.{Refused, Failed}
+use Rattle.nine_view.specs.declared.error.AnswerError.TheVariants.{Refused, Failed}
 use Rattle.nine_view.specs.declared.fid.Fid.{Fid}
 use Rattle.nine_view.specs.declared.place.Place.{Place}
-use Rattle.nine_view.specs.declared.refusal.Refusal.TheVariants.{BadFid, FidInUse, FidIsOpen, TooManyFids, TooManyNames, UnknownFid}
-use Rattle.nine_view.specs.Answers.{of_fid, refused, to_names, to_walk}
-use Rattle.nine_view.specs.Known.{Known, fid_at, is_known}
+use Rattle.nine_view.specs.declared.request_error.RequestError.TheVariants.{BadFid, FidInUse, FidIsOpen, TooManyFids, TooManyNames, UnknownFid}
+use Rattle.nine_view.specs.Answers.{of_fid, refused_answer, to_names, to_walk}
+use Rattle.nine_view.specs.Known.{ViewState, fid_at, is_known}
 use Rattle.nine_view.specs.Walking.{MayWalk}
 
-module _ (known : Known) (fid newfid names : ℕ) where
+module _ (known : ViewState) (fid newfid names : ℕ) where
   pub may_unknown : fid_at fid known.fids ≡ None
       → MayWalk known fid newfid names (Err (Refused UnknownFid))
   may_unknown none words len =
       ap (λ (o : Option Fid). option_map_or (to_walk known fid newfid words) o
-      (refused known UnknownFid)) none
+      (refused_answer known UnknownFid)) none
 
   module _ (f : Fid) (at : fid_at fid known.fids ≡ Some f) where
     is_there : (words : List (List ℕ)) → of_fid known fid (to_walk known fid newfid words)
         ≡ to_walk known fid newfid words f
     is_there words =
         ap (λ (o : Option Fid). option_map_or (to_walk known fid newfid words) o
-        (refused known UnknownFid)) at
+        (refused_answer known UnknownFid)) at
 
     -- a fid that walks itself is known
     pub walks_itself : newfid ≡ fid

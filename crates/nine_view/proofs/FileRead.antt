@@ -4,19 +4,19 @@ use Rattle.vt_tree.specs.declared.entry.Entry.{Entry}
 use Rattle.vt_tree.specs.Calls.{Call}
 use Rattle.vt_tree.specs.Content.{size_of}
 use Rattle.vt_tree.specs.Maps.{Maps}
-use Rattle.vac_read.specs.declared.err.VacBad.{VacBad}
+use Rattle.vac_read.specs.declared.error.VacBad.{VacBad}
 use Rattle.vac_read.specs.Reading.{ReadsFile}
 use Rattle.vac_read.proofs.Readings.{reads_as}
 use Rattle.nine_wire.specs.Messages.{r_error, r_read}
-use Rattle.nine_view.specs.declared.failure.Denied.TheVariants.{Failed}
+use Rattle.nine_view.specs.declared.error.AnswerError.TheVariants.{Failed}
 use Rattle.nine_view.specs.Answers.{reads_file, stays}
 use Rattle.nine_view.specs.Failures.{failure_words}
 use Rattle.nine_view.specs.Handling.{Handles, Says}
-use Rattle.nine_view.specs.Known.{Known, limit}
+use Rattle.nine_view.specs.Known.{ViewState, limit}
 use Rattle.nine_view.proofs.Parts.{all_told, part_told}
 
 module _ {S : Type 0} (does : S → Call → S → Type 0) (holds : S → Maps → Type 0)
-    (score_of : List ℕ → List ℕ) (s s' : S) (tag : ℕ) (known : Known) (out : List ℕ)
+    (score_of : List ℕ → List ℕ) (s s' : S) (tag : ℕ) (known : ViewState) (out : List ℕ)
     (e : Entry) (at n : ℕ)
   where
     pub file_failed : (bad : VacBad)

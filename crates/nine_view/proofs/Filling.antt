@@ -3,7 +3,7 @@ use Rattle.std.proofs.Common.{◌≡◌, ◌+◌, ◌≤◌, ◌++◌, ℕ, Bool
 use Rattle.std.proofs.Math.Seq.{take-append-add}
 use Rattle.std.proofs.lemmas.List.{length-take-le, take-append-le, take_all}
 use Rattle.nine_view.specs.declared.serving.Ended.{Ended}
-use Rattle.nine_view.specs.Hearing.{Fills, LeavesNone, StopsSo}
+use Rattle.nine_view.specs.Hearing.{FillsBuffer, LeavesNone, StopsSo}
 
 -- the front of a buffer, and what was moved behind it
 pub taken_behind : (n more : ℕ) (buf part behind : List ℕ) → n ≤ length buf → more ≤ length part
@@ -26,7 +26,7 @@ pub fills_so : (tells : Type 0) (given given' left' : List ℕ) (taken taken' ha
     (inside : Bool) (buffer : List ℕ) (result : Result (Unit {0}) Ended) → have ≤ length buffer
     → (tells → given' ≡ given ++ take have buffer) → taken' ≡ taken + have
     → StopsSo result inside have (length buffer) taken' → (tells → LeavesNone result left')
-    → Fills tells given given' left' taken taken' inside buffer result
+    → FillsBuffer tells given given' left' taken taken' inside buffer result
 fills_so tells given given' left' taken taken' have inside buffer result within came is stops end =
     let len : length (take have buffer) ≡ have = length-take-le have buffer within in
     record {
@@ -40,7 +40,7 @@ fills_so tells given given' left' taken taken' have inside buffer result within 
 
 -- where all that was wanted came, it is the buffer
 pub whole_of : (tells : Type 0) (given given' left' : List ℕ) (taken taken' : ℕ) (inside : Bool)
-    (buffer : List ℕ) → (so : Fills tells given given' left' taken taken' inside buffer (Ok tt))
+    (buffer : List ℕ) → (so : FillsBuffer tells given given' left' taken taken' inside buffer (Ok tt))
     → so.came ≡ buffer
 whole_of tells given given' left' taken taken' inside buffer so =
     sym so.stands ∙ ap (λ (n : ℕ). take n buffer) so.stops

@@ -10,9 +10,9 @@ use Rattle.vac_read.specs.declared.node.Stored.{Stored}
 use Rattle.vac_read.specs.declared.node.Stored.TheVariants as stored
 use Rattle.vac_read.proofs.Lists.{take_more}
 use Rattle.nine_wire.specs.Messages.{FitsStat, string}
-use Rattle.nine_wire.specs.Writing.{Writes}
+use Rattle.nine_wire.specs.Writing.{WritesField}
 use Rattle.nine_view.specs.Answers.{fitting}
-use Rattle.nine_view.specs.Files.{IsTold, folder_bit, stat_in, stat_of}
+use Rattle.nine_view.specs.Files.{FitsMessage, folder_bit, stat_in, stat_of}
 
 abbrev pub FitsSoFar : (room end i : ℕ) → List Node → Type 0
 FitsSoFar room end i files =
@@ -113,7 +113,7 @@ puts_none room files buf =
 pub puts_more : (room : ℕ) (files : List Node) (i count end end' : ℕ) (buf buf' : List ℕ)
     (node : Node) → i < length files → node ≡ get_or files i node
     → PutsSoFar room files i count end buf → length (stat_in node) ≤ room - end
-    → Writes end end' buf buf' (stat_in node)
+    → WritesField end end' buf buf' (stat_in node)
     → PutsSoFar room files (i + 1) (count + 1) end' buf'
 puts_more room files i count end end' buf buf' node within is so fits writes =
     let told : List ℕ = flat_map stat_in (take i files) in
@@ -166,7 +166,7 @@ bit_most : (s : Stored) → folder_bit s ≤ 2147483648
 bit_most (stored.File e) = omega arith
 bit_most (stored.Folder entries metadata) = omega arith
 
-pub fits_stat : (node : Node) → IsTold node → node.qid < 2 ^ 64 → node.item.mtime < 2 ^ 32
+pub fits_stat : (node : Node) → FitsMessage node → node.qid < 2 ^ 64 → node.item.mtime < 2 ^ 32
     → node.size < 2 ^ 64 → FitsStat (stat_of node)
 fits_stat node told qid mtime size =
     let item = told.item in

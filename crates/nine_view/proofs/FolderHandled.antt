@@ -4,21 +4,21 @@ use Rattle.std.specs.Prelude.{IfSome, nat_lt}
 use Rattle.std.proofs.lemmas.Bool.{cases_Bool}
 use Rattle.vt_tree.specs.Calls.{Call}
 use Rattle.vt_tree.specs.Maps.{BlockMap, Maps}
-use Rattle.vac_read.specs.declared.err.VacBad.{VacBad}
+use Rattle.vac_read.specs.declared.error.VacBad.{VacBad}
 use Rattle.vac_read.specs.declared.node.Node.{Node}
 use Rattle.vac_read.specs.Nodes.{Lists}
-use Rattle.vac_read.specs.Reading.{Reads, refused_by}
+use Rattle.vac_read.specs.Reading.{ReadsArchive, refused_by}
 use Rattle.vac_read.proofs.Readings.{reads_as}
 use Rattle.nine_wire.specs.Messages.{RMessage, r_error}
-use Rattle.nine_view.specs.declared.failure.Denied.{Denied}
-use Rattle.nine_view.specs.declared.failure.Denied.TheVariants.{Failed}
+use Rattle.nine_view.specs.declared.error.AnswerError.{AnswerError}
+use Rattle.nine_view.specs.declared.error.AnswerError.TheVariants.{Failed}
 use Rattle.nine_view.specs.declared.fid.Fid.{Fid}
 use Rattle.nine_view.specs.declared.fid.Reading.{Reading}
-use Rattle.nine_view.specs.Answers.{Outcome, first_file, fitting, reads_files, reads_folder, sets_fid, stays, to_folder}
+use Rattle.nine_view.specs.Answers.{ViewOutcome, first_file, fitting, reads_files, reads_folder, sets_fid, stays, to_folder}
 use Rattle.nine_view.specs.Failures.{failure_words}
-use Rattle.nine_view.specs.Handling.{Handles, KeepsFiles, Settles, failure_of}
-use Rattle.nine_view.specs.Known.{Known, IsRight, fid_at, limit, with_fid}
-use Rattle.nine_view.specs.Replies.{IsReply, failed, fails}
+use Rattle.nine_view.specs.Handling.{Handles, KeepsFiles, SettlesRequest, archive_failure}
+use Rattle.nine_view.specs.Known.{ViewState, IsRightView, fid_at, limit, with_fid}
+use Rattle.nine_view.specs.Replies.{IsViewReply, failed, fails}
 use Rattle.nine_view.proofs.Handled.{settled_so}
 use Rattle.nine_view.proofs.Keeping.{at_with, right_fid, right_with, with_with}
 
@@ -26,12 +26,12 @@ use Rattle.nine_view.proofs.Keeping.{at_with, right_fid, right_with, with_with}
 abbrev pub with_files : Fid → List Node → Fid
 with_files f files = record f { files = Some files }
 
-abbrev pub listed : Known → (fid : ℕ) → Fid → List Node → Known
+abbrev pub listed : ViewState → (fid : ℕ) → Fid → List Node → ViewState
 listed known fid f files =
     record known { fids = with_fid fid (with_files f files) known.fids }
 
 -- what comes of a read doesn't depend on whether the files were kept before
-same_files : (known : Known) (fid : ℕ) (f : Fid) (reading : Reading) (offset room : ℕ)
+same_files : (known : ViewState) (fid : ℕ) (f : Fid) (reading : Reading) (offset room : ℕ)
     (files : List Node)
     → reads_files (listed known fid f files) fid (with_files f files) reading offset room files
     ≡ reads_files known fid f reading offset room files
@@ -47,39 +47,39 @@ same_files known fid f reading offset room files =
     ]
 
 module _ {S : Type 0} (does : S → Call → S → Type 0) (holds : S → Maps → Type 0)
-    (score_of : List ℕ → List ℕ) (s s' : S) (tag : ℕ) (old : Known) (out : List ℕ) (fid : ℕ)
+    (score_of : List ℕ → List ℕ) (s s' : S) (tag : ℕ) (old : ViewState) (out : List ℕ) (fid : ℕ)
     (f : Fid) (reading : Reading) (offset room : ℕ)
   where
     -- the files were listed
-    now_listed : (new : Known) (result : Result ℕ Denied) (files : List Node)
+    now_listed : (new : ViewState) (result : Result ℕ AnswerError) (files : List Node)
         → fid_at fid old.fids ≡ Some f
-        → Reads {X = Unit {0}} does holds score_of s s' (Ok tt)
+        → ReadsArchive {X = Unit {0}} does holds score_of s s' (Ok tt)
         (λ map. Lists map f.node.stored files)
-        → Settles tag (listed old fid f files) new out result
+        → SettlesRequest tag (listed old fid f files) new out result
         (reads_files (listed old fid f files) fid (with_files f files) reading offset room files)
         → Handles does holds score_of s s' tag old new out result
         (reads_folder fid f reading offset room)
     now_listed new result files at reads so =
-        let outcome : Outcome =
+        let outcome : ViewOutcome =
         reads_files (listed old fid f files) fid (with_files f files) reading offset room files in
-        let whole : failure_of result ≡ None = so.whole in
-        let none : refused_by (failed (failure_of result)) ≡ None =
+        let whole : archive_failure result ≡ None = so.whole in
+        let none : refused_by (failed (archive_failure result)) ≡ None =
         ap (λ (o : Option VacBad). refused_by (failed o)) whole in
         let is : stays new outcome.reply ≡ reads_files old fid f reading offset room files =
-        ap (λ (k : Known). stays k outcome.reply) so.known
+        ap (λ (k : ViewState). stays k outcome.reply) so.known
         ∙ same_files old fid f reading offset room files in
-        let kept : (map : BlockMap) → Lists map f.node.stored files → IsRight map old
-        → IsRight map (listed old fid f files) =
+        let kept : (map : BlockMap) → Lists map f.node.stored files → IsRightView map old
+        → IsRightView map (listed old fid f files) =
         λ map lists right. right_with map old fid (with_files f files) right
         (record { way = (right_fid map old fid f right at).way; files = lists }) in
         record {
           reply = outcome.reply;
           says = so.says;
           reads =
-              reads_as does holds score_of s s' (Ok tt) (failed (failure_of result)) _ _ none reads
+              reads_as does holds score_of s s' (Ok tt) (failed (archive_failure result)) _ _ none reads
               (λ map lists right. (
                 so.right map (kept map lists right),
-                subst (λ (o : Option VacBad). IsReply map old (reads_folder fid f reading offset room) o
+                subst (λ (o : Option VacBad). IsViewReply map old (reads_folder fid f reading offset room) o
                     (stays new outcome.reply)) (sym whole) (files, lists, is),
               ));
           bytes = tt;
@@ -91,14 +91,14 @@ module _ {S : Type 0} (does : S → Call → S → Type 0) (holds : S → Maps �
         }
 
     -- they couldn't be
-    pub not_listed : (mid : Known) (bad : VacBad) (files : Option (List Node))
+    pub not_listed : (mid : ViewState) (bad : VacBad) (files : Option (List Node))
         → KeepsFiles does holds score_of s s' old mid fid f (Err bad) files
         → Handles does holds score_of s s' tag old mid out (Err (Failed bad))
         (to_folder old fid f reading offset room files)
     not_listed mid bad (Some files) keeps =
         let no : Err bad ≡ Ok tt = keeps.0 in absurd (cc)
     not_listed mid bad None keeps =
-        subst (λ (k : Known). Handles does holds score_of s s' tag old k out (Err (Failed bad))
+        subst (λ (k : ViewState). Handles does holds score_of s s' tag old k out (Err (Failed bad))
         (reads_folder fid f reading offset room)) (sym keeps.0)
         (record {
           reply = r_error (failure_words (limit old) bad);
@@ -112,27 +112,27 @@ module _ {S : Type 0} (does : S → Call → S → Type 0) (holds : S → Maps �
           failed_so = refl;
         })
 
-    pub folder_handled : (mid new : Known) (result : Result ℕ Denied) (files : Option (List Node))
+    pub folder_handled : (mid new : ViewState) (result : Result ℕ AnswerError) (files : Option (List Node))
         → fid_at fid old.fids ≡ Some f → f.reading ≡ Some reading → f.files ≡ files
         → KeepsFiles does holds score_of s s' old mid fid f (Ok tt) files
         → ((g : Fid) (r : Reading) (l : List Node) → fid_at fid mid.fids ≡ Some g
         → g.reading ≡ Some r → g.files ≡ Some l
-        → Settles tag mid new out result (reads_files mid fid g r offset room l))
+        → SettlesRequest tag mid new out result (reads_files mid fid g r offset room l))
         → Handles does holds score_of s s' tag old new out result
         (to_folder old fid f reading offset room files)
     folder_handled mid new result (Some files) at read_so is keeps settles =
         let known : fid_at fid mid.fids ≡ Some f =
-        ap (λ (k : Known). fid_at fid k.fids) keeps.2 ∙ at in
+        ap (λ (k : ViewState). fid_at fid k.fids) keeps.2 ∙ at in
         subst (λ (x : S). Handles does holds score_of s x tag old new out result
         (to_folder old fid f reading offset room (Some files))) (sym keeps.1)
         (settled_so does holds score_of s tag old new out result _
-        (subst (λ (k : Known). Settles tag k new out result
+        (subst (λ (k : ViewState). SettlesRequest tag k new out result
         (reads_files k fid f reading offset room files)) keeps.2
         (settles f reading files known read_so is)))
     folder_handled mid new result None at read_so is (files, known, reads) settles =
         let found : fid_at fid mid.fids ≡ Some (with_files f files) =
-        ap (λ (k : Known). fid_at fid k.fids) known ∙ at_with fid (with_files f files) old.fids in
+        ap (λ (k : ViewState). fid_at fid k.fids) known ∙ at_with fid (with_files f files) old.fids in
         now_listed new result files at reads
-        (subst (λ (k : Known). Settles tag k new out result
+        (subst (λ (k : ViewState). SettlesRequest tag k new out result
         (reads_files k fid (with_files f files) reading offset room files)) known
         (settles (with_files f files) reading files found read_so refl))

@@ -4,15 +4,15 @@ use Rattle.std.specs.Prelude.{IfSome, nat_lt}
 use Rattle.std.specs.List.{flat_map}
 use Rattle.vac_read.specs.declared.node.Node.{Node}
 use Rattle.nine_wire.specs.Messages.{r_read}
-use Rattle.nine_view.specs.declared.failure.Denied.TheVariants.{Refused}
+use Rattle.nine_view.specs.declared.error.AnswerError.TheVariants.{Refused}
 use Rattle.nine_view.specs.declared.fid.Fid.{Fid}
 use Rattle.nine_view.specs.declared.fid.Reading.{Reading}
-use Rattle.nine_view.specs.declared.refusal.Refusal.{Refusal}
+use Rattle.nine_view.specs.declared.request_error.RequestError.{RequestError}
 use Rattle.nine_view.specs.Answers.{first_file, fitting, reads_files}
 use Rattle.nine_view.specs.Files.{stat_in}
-use Rattle.nine_view.specs.Handling.{PutsNext, Says, Settles, TellsNext, has_no_room, told_next}
-use Rattle.nine_view.specs.Kept.{IsKept}
-use Rattle.nine_view.specs.Known.{Known, IsRight, fid_at, limit, with_fid}
+use Rattle.nine_view.specs.Handling.{PutsNext, Says, SettlesRequest, TellsNext, has_no_room, told_next}
+use Rattle.nine_view.specs.Kept.{IsKeptView}
+use Rattle.nine_view.specs.Known.{ViewState, IsRightView, fid_at, limit, with_fid}
 use Rattle.nine_view.proofs.Keeping.{kept_fid, kept_with, right_fid, right_with, with_same}
 
 -- what holds of the fid that is there holds of any that is
@@ -64,28 +64,28 @@ set_here old new fid f next at set =
     subst (λ (o : Option Fid). IfSome o (λ (h : Fid).
     new ≡ with_fid fid (record h { reading = Some next }) old)) at set
 
-pub kept_reading : (known : Known) (fid : ℕ) (f : Fid) (next : Reading) (fids : List (ℕ × Fid))
-    → IsKept known → fid_at fid known.fids ≡ Some f → SetsReading known.fids fid next fids
-    → IsKept (record known { fids = fids })
+pub kept_reading : (known : ViewState) (fid : ℕ) (f : Fid) (next : Reading) (fids : List (ℕ × Fid))
+    → IsKeptView known → fid_at fid known.fids ≡ Some f → SetsReading known.fids fid next fids
+    → IsKeptView (record known { fids = fids })
 kept_reading known fid f next fids kept at set =
     let old = kept_fid known fid f kept at in
-    subst (λ (x : List (ℕ × Fid)). IsKept (record known { fids = x }))
+    subst (λ (x : List (ℕ × Fid)). IsKeptView (record known { fids = x }))
     (sym (set_here known.fids fids fid f next at set))
     (kept_with known fid (record f { reading = Some next }) kept
     (record { node = old.node; above = old.above; files = old.files }))
 
 -- a folder that is open and of which the files are kept, in a view that is this one
-module _ (tag : ℕ) (known now : Known) (view : known ≡ now) (out : List ℕ)
+module _ (tag : ℕ) (known now : ViewState) (view : known ≡ now) (out : List ℕ)
     (fid offset room : ℕ) (f : Fid) (reading : Reading) (files : List Node)
     (at : fid_at fid now.fids ≡ Some f) (reads : f.reading ≡ Some reading)
     (kept : f.files ≡ Some files)
   where
     here : fid_at fid known.fids ≡ Some f
-    here = ap (λ (k : Known). fid_at fid k.fids) view ∙ at
+    here = ap (λ (k : ViewState). fid_at fid k.fids) view ∙ at
 
-    pub folder_small : (buf : List ℕ) (why : Refusal)
+    pub folder_small : (buf : List ℕ) (why : RequestError)
         → PutsNext known.fids fid offset room buf (Err why)
-        → Settles tag now known out (Err (Refused why))
+        → SettlesRequest tag now known out (Err (Refused why))
         (reads_files now fid f reading offset room files)
     folder_small buf why none =
         let it = none f reading files here reads kept in
@@ -94,7 +94,7 @@ module _ (tag : ℕ) (known now : Known) (view : known ≡ now) (out : List ℕ)
         ∙ ap (λ (o : Option (List Node)). with_fid fid (record f { files = o }) known.fids) kept in
         let small : (length (fitting room (drop (first_file reading offset) files)) == 0
         && nat_lt (first_file reading offset) (length files)) ≡ true = it.0 in
-        subst (λ (k : Known). Settles tag k known out (Err (Refused why))
+        subst (λ (k : ViewState). SettlesRequest tag k known out (Err (Refused why))
         (reads_files k fid f reading offset room files)) view
         (rw (it.1, small) (record {
           says = refl;
@@ -109,7 +109,7 @@ module _ (tag : ℕ) (known now : Known) (view : known ≡ now) (out : List ℕ)
         → SetsReading known.fids fid next fids
         → Says tag (limit known) out total
         (r_read (flat_map stat_in (told_next put.reading put.files offset room)))
-        → Settles tag known (record known { fids = fids }) out (Ok total)
+        → SettlesRequest tag known (record known { fids = fids }) out (Ok total)
         (reads_files known fid put.f put.reading offset room put.files)
     told_here fids buf next len total put sets says =
         let set = set_here known.fids fids fid put.f next put.at sets in
@@ -143,7 +143,7 @@ module _ (tag : ℕ) (known now : Known) (view : known ≡ now) (out : List ℕ)
           whole = refl;
           right = λ map right.
               let old = right_fid map known fid put.f right put.at in
-              subst (λ (l : List (ℕ × Fid)). IsRight map (record known { fids = l })) (sym set)
+              subst (λ (l : List (ℕ × Fid)). IsRightView map (record known { fids = l })) (sym set)
               (right_with map known fid (record put.f { reading = Some next }) right
               (record { way = old.way; files = old.files }));
         })
@@ -153,12 +153,12 @@ module _ (tag : ℕ) (known now : Known) (view : known ≡ now) (out : List ℕ)
         → SetsReading known.fids fid next fids
         → Says tag (limit known) out total
         (r_read (flat_map stat_in (told_next put.reading put.files offset room)))
-        → Settles tag now (record known { fids = fids }) out (Ok total)
+        → SettlesRequest tag now (record known { fids = fids }) out (Ok total)
         (reads_files now fid f reading offset room files)
     folder_told fids buf next len total put sets says =
-        subst (λ (k : Known). Settles tag k (record known { fids = fids }) out (Ok total)
+        subst (λ (k : ViewState). SettlesRequest tag k (record known { fids = fids }) out (Ok total)
         (reads_files k fid f reading offset room files)) view
-        (told_same (λ g q m. Settles tag known (record known { fids = fids }) out (Ok total)
+        (told_same (λ g q m. SettlesRequest tag known (record known { fids = fids }) out (Ok total)
         (reads_files known fid g q offset room m)) fid known.fids
         f put.f reading put.reading files put.files here reads kept put.at put.now put.kept
         (told_here fids buf next len total put sets says))

@@ -3,40 +3,40 @@ use Rattle.std.proofs.Common.{◌≡◌, ℕ, Option, None, Result, Ok, Err, Lis
 use Rattle.std.specs.Prelude.{IfSome}
 use Rattle.vt_tree.specs.Calls.{Call}
 use Rattle.vt_tree.specs.Maps.{BlockMap, Maps}
-use Rattle.vac_read.specs.declared.err.VacBad.{VacBad}
-use Rattle.vac_read.specs.declared.err.VacBad.TheVariants.{NoMemory}
+use Rattle.vac_read.specs.declared.error.VacBad.{VacBad}
+use Rattle.vac_read.specs.declared.error.VacBad.TheVariants.{NoMemory}
 use Rattle.vac_read.specs.Reading.{refusal_of, refused_by}
 use Rattle.vac_read.proofs.Readings.{reads_nothing}
 use Rattle.nine_wire.specs.Messages.{RMessage, r_error}
-use Rattle.nine_view.specs.declared.failure.Denied.{Denied}
-use Rattle.nine_view.specs.declared.failure.Denied.TheVariants.{Refused, Failed}
+use Rattle.nine_view.specs.declared.error.AnswerError.{AnswerError}
+use Rattle.nine_view.specs.declared.error.AnswerError.TheVariants.{Refused, Failed}
 use Rattle.nine_view.specs.declared.fid.Fid.{Fid}
-use Rattle.nine_view.specs.declared.refusal.Refusal.{Refusal}
-use Rattle.nine_view.specs.Answers.{Answer, Outcome, refused, settled, sets, walks, reads_file, reads_folder, sets_fid, stays}
+use Rattle.nine_view.specs.declared.request_error.RequestError.{RequestError}
+use Rattle.nine_view.specs.Answers.{Answer, ViewOutcome, refused_answer, settled, sets, walks, reads_file, reads_folder, sets_fid, stays}
 use Rattle.nine_view.specs.Failures.{failure_words}
-use Rattle.nine_view.specs.Handling.{Handles, Sets, SetsFid, Settles, SettlesSo, failure_of}
-use Rattle.nine_view.specs.Known.{Known, limit}
-use Rattle.nine_view.specs.Replies.{AsksForBytes, IsReply, NeverFails, failed, fails}
+use Rattle.nine_view.specs.Handling.{Handles, SettlesFid, SetsFid, SettlesRequest, SettlesSo, archive_failure}
+use Rattle.nine_view.specs.Known.{ViewState, limit}
+use Rattle.nine_view.specs.Replies.{AsksForBytes, IsViewReply, NeverFails, failed, fails}
 
 module _ {S : Type 0} (does : S → Call → S → Type 0) (holds : S → Maps → Type 0)
     (score_of : List ℕ → List ℕ) (s : S) (tag : ℕ) where
-  pub settled_so : (old new : Known) (out : List ℕ) (result : Result ℕ Denied) (outcome : Outcome)
-      → Settles tag old new out result outcome
+  pub settled_so : (old new : ViewState) (out : List ℕ) (result : Result ℕ AnswerError) (outcome : ViewOutcome)
+      → SettlesRequest tag old new out result outcome
       → Handles does holds score_of s s tag old new out result (settled outcome)
   settled_so old new out result outcome so =
       let none : (f : Option VacBad) → f ≡ None → refused_by (failed f) ≡ None =
       λ f is. ap (λ (o : Option VacBad). refused_by (failed o)) is in
-      let gives : (map : BlockMap) → IsReply map old (settled outcome) (failure_of result)
+      let gives : (map : BlockMap) → IsViewReply map old (settled outcome) (archive_failure result)
       (record { reply = outcome.reply; known = new }) =
-      λ map. subst (λ (f : Option VacBad). IsReply map old (settled outcome) f
+      λ map. subst (λ (f : Option VacBad). IsViewReply map old (settled outcome) f
       (record { reply = outcome.reply; known = new })) (sym so.whole)
-      (ap (λ (k : Known). record { reply = outcome.reply; known = k }) so.known) in
+      (ap (λ (k : ViewState). record { reply = outcome.reply; known = k }) so.known) in
       record {
         reply = outcome.reply;
         says = so.says;
         reads =
-            reads_nothing does holds score_of s (failed (failure_of result)) _
-            (none (failure_of result) so.whole)
+            reads_nothing does holds score_of s (failed (archive_failure result)) _
+            (none (archive_failure result) so.whole)
             (λ map right. (so.right map right, gives map));
         bytes = tt;
         still = λ nothing. (refl, gives);
@@ -46,7 +46,7 @@ module _ {S : Type 0} (does : S → Call → S → Type 0) (holds : S → Maps �
             stays new outcome.reply ≡ fails old bad)) (sym so.whole) tt;
       }
 
-  pub settles : (old new : Known) (out : List ℕ) (result : Result ℕ Denied) (answer : Answer)
+  pub settles : (old new : ViewState) (out : List ℕ) (result : Result ℕ AnswerError) (answer : Answer)
       → SettlesSo tag old new out result answer
       → Handles does holds score_of s s tag old new out result answer
   settles old new out result (settled outcome) so = settled_so old new out result outcome so
@@ -55,14 +55,14 @@ module _ {S : Type 0} (does : S → Call → S → Type 0) (holds : S → Maps �
   settles old new out result (reads_file file at n) so = absurd so
   settles old new out result (reads_folder fid f reading offset room) so = absurd so
 
-  pub refused_so : (old : Known) (out : List ℕ) (why : Refusal)
-      → Handles does holds score_of s s tag old old out (Err (Refused why)) (refused old why)
+  pub refused_so : (old : ViewState) (out : List ℕ) (why : RequestError)
+      → Handles does holds score_of s s tag old old out (Err (Refused why)) (refused_answer old why)
   refused_so old out why =
       settled_so old old out (Err (Refused why)) _
       (record { says = refl; known = refl; whole = refl; right = λ map right. right })
 
   -- memory was short, and nothing has changed
-  pub no_memory : (old : Known) (out : List ℕ) (answer : Answer) → (NeverFails answer → ⊥)
+  pub no_memory : (old : ViewState) (out : List ℕ) (answer : Answer) → (NeverFails answer → ⊥)
       → AsksForBytes does holds score_of s s answer
       → Handles does holds score_of s s tag old old out (Err (Failed NoMemory)) answer
   no_memory old out answer may bytes = record {
@@ -78,8 +78,8 @@ module _ {S : Type 0} (does : S → Call → S → Type 0) (holds : S → Maps �
   }
 
   -- a fid was set, or memory was short
-  pub sets_handles : (old new : Known) (out : List ℕ) (result : Result ℕ Denied) (fid : ℕ)
-      (f : Fid) (reply : RMessage) → Sets tag old new out result (sets_fid old fid f reply)
+  pub sets_handles : (old new : ViewState) (out : List ℕ) (result : Result ℕ AnswerError) (fid : ℕ)
+      (f : Fid) (reply : RMessage) → SettlesFid tag old new out result (sets_fid old fid f reply)
       → Handles does holds score_of s s tag old new out result (sets fid f reply)
   sets_handles old new out (Ok len) fid f reply so = record {
     reply = so.reply;
@@ -111,11 +111,11 @@ module _ {S : Type 0} (does : S → Call → S → Type 0) (holds : S → Maps �
     whole = λ never. absurd never;
     failed_so =
         ap (λ (r : RMessage). stays new r) so.says
-        ∙ ap (λ (k : Known). stays k (r_error (failure_words (limit old) bad))) so.done.1;
+        ∙ ap (λ (k : ViewState). stays k (r_error (failure_words (limit old) bad))) so.done.1;
   }
 
   -- either of both
-  pub sets_so : (old new : Known) (out : List ℕ) (result : Result ℕ Denied) (answer : Answer)
+  pub sets_so : (old new : ViewState) (out : List ℕ) (result : Result ℕ AnswerError) (answer : Answer)
       → SetsFid tag old new out result answer
       → Handles does holds score_of s s tag old new out result answer
   sets_so old new out result (settled outcome) so = settled_so old new out result outcome so

@@ -4,8 +4,8 @@ use Rattle.std.proofs.lemmas.List.{take-append-le, take_all}
 use Rattle.nine_wire.proofs.Numbers.{AreSmall}
 use Rattle.nine_view.specs.declared.serving.Ended.{Ended}
 use Rattle.nine_view.specs.declared.serving.Ended.TheVariants.{Closed, Cut, Malformed, Spent, ReadFault, WriteFault, NoMemory}
-use Rattle.nine_view.specs.Hearing.{Fills, Hears, StopsSo}
-use Rattle.nine_view.specs.Serving.{GoesOut, IsNoSize, size_in}
+use Rattle.nine_view.specs.Hearing.{FillsBuffer, HearsMessage, StopsSo}
+use Rattle.nine_view.specs.Serving.{GoesOut, IsNoSize, message_size}
 use Rattle.nine_view.proofs.Filling.{whole_of}
 use Rattle.nine_view.proofs.Frames.{is_message}
 use Rattle.nine_view.proofs.Taking.{ends_in_front, ends_inside, size_in_front}
@@ -32,8 +32,8 @@ unsaid NoMemory inside came wanted taken stops = absurd stops
 module _ (tells : Type 0) (given given' left' : List ℕ) (limit taken taken' : ℕ) where
   -- it ended before the size field was whole
   pub ended_in_front : (ended : Ended) (front buffer : List ℕ) → length front ≡ 4
-      → Fills tells given given' left' taken taken' false front (Err ended)
-      → Hears tells given given' left' limit taken taken' buffer (Err ended)
+      → FillsBuffer tells given given' left' taken taken' false front (Err ended)
+      → HearsMessage tells given given' left' limit taken taken' buffer (Err ended)
   ended_in_front ended front buffer four so =
       let stops : StopsSo (Err ended) false (length so.came) 4 taken' =
       subst (λ (n : ℕ). StopsSo (Err ended) false (length so.came) n taken') four so.stops in
@@ -51,9 +51,9 @@ module _ (tells : Type 0) (given given' left' : List ℕ) (limit taken taken' : 
 
   -- no message has the size that it says
   pub malformed : (size : ℕ) (front behind buffer : List ℕ) → length front ≡ 4
-      → Fills tells given given' left' taken taken' false front (Ok tt)
-      → size ≡ size_in (front ++ behind) → (size < 7) ⊎ (limit < size)
-      → Hears tells given given' left' limit taken taken' buffer (Err (Malformed (taken' - 4)))
+      → FillsBuffer tells given given' left' taken taken' false front (Ok tt)
+      → size ≡ message_size (front ++ behind) → (size < 7) ⊎ (limit < size)
+      → HearsMessage tells given given' left' limit taken taken' buffer (Err (Malformed (taken' - 4)))
   malformed size front behind buffer four so is wrong =
       let whole : so.came ≡ front =
       whole_of tells given given' left' taken taken' false front so in
@@ -69,7 +69,7 @@ module _ (tells : Type 0) (given given' left' : List ℕ) (limit taken taken' : 
             len,
             subst (λ (n : ℕ). IsNoSize limit n)
                 (is ∙ size_in_front front behind four
-                ∙ ap (λ (l : List ℕ). size_in l) (sym whole)) wrong,
+                ∙ ap (λ (l : List ℕ). message_size l) (sym whole)) wrong,
           ),
           refl,
           λ same. cc,
@@ -79,8 +79,8 @@ module _ (tells : Type 0) (given given' left' : List ℕ) (limit taken taken' : 
 
 module _ (tells : Type 0) (given mid given' left left' : List ℕ) (limit taken between taken' : ℕ)
     (front rest : List ℕ) (four : length front ≡ 4)
-    (first : Fills tells given mid left taken between false front (Ok tt))
-    (size : ℕ) (is : size ≡ size_in (front ++ rest)) (least : 7 ≤ size) (most : size ≤ limit)
+    (first : FillsBuffer tells given mid left taken between false front (Ok tt))
+    (size : ℕ) (is : size ≡ message_size (front ++ rest)) (least : 7 ≤ size) (most : size ≤ limit)
   where
     here : first.came ≡ front
     here = whole_of tells given mid left taken between false front first
@@ -95,12 +95,12 @@ module _ (tells : Type 0) (given mid given' left left' : List ℕ) (limit taken 
 
     -- it ended inside it
     pub ended_inside : (ended : Ended) (part buffer : List ℕ) → length part ≡ size - 4
-        → Fills tells mid given' left' between taken' true part (Err ended)
-        → Hears tells given given' left' limit taken taken' buffer (Err ended)
+        → FillsBuffer tells mid given' left' between taken' true part (Err ended)
+        → HearsMessage tells given given' left' limit taken taken' buffer (Err ended)
     ended_inside ended part buffer len so =
-        let field : size_in front ≡ size = sym (is ∙ size_in_front front rest four) in
-        let wanted : length part ≡ size_in front - 4 = len ∙ ap (λ (n : ℕ). n - 4) (sym field) in
-        let stops : StopsSo (Err ended) true (length so.came) (size_in front - 4) taken' =
+        let field : message_size front ≡ size = sym (is ∙ size_in_front front rest four) in
+        let wanted : length part ≡ message_size front - 4 = len ∙ ap (λ (n : ℕ). n - 4) (sym field) in
+        let stops : StopsSo (Err ended) true (length so.came) (message_size front - 4) taken' =
         subst (λ (n : ℕ). StopsSo (Err ended) true (length so.came) n taken') wanted so.stops in
         let four_came : length first.came ≡ 4 = ap (λ (l : List ℕ). length l) here ∙ four in
         let first_taken = first.taken_is in
@@ -113,8 +113,8 @@ module _ (tells : Type 0) (given mid given' left left' : List ℕ) (limit taken 
           hears = (
             ends_inside ended limit taken taken' front so.came four (omega arith) (omega arith)
                 (omega arith) stops,
-            (unsaid ended true (length so.came) (size_in front - 4) taken' stops).0,
-            (unsaid ended true (length so.came) (size_in front - 4) taken' stops).1,
+            (unsaid ended true (length so.came) (message_size front - 4) taken' stops).0,
+            (unsaid ended true (length so.came) (message_size front - 4) taken' stops).1,
           );
           at_end = so.at_end;
         }
@@ -122,8 +122,8 @@ module _ (tells : Type 0) (given mid given' left left' : List ℕ) (limit taken 
     -- all of it came
     pub heard : (part behind : List ℕ) → length part ≡ size - 4 → size < 2 ^ 32
         → AreSmall (front ++ (part ++ behind))
-        → Fills tells mid given' left' between taken' true part (Ok tt)
-        → Hears tells given given' left' limit taken taken' (front ++ (part ++ behind)) (Ok size)
+        → FillsBuffer tells mid given' left' between taken' true part (Ok tt)
+        → HearsMessage tells given given' left' limit taken taken' (front ++ (part ++ behind)) (Ok size)
     heard part behind len fits small so =
         let all : so.came ≡ part = whole_of tells mid given' left' between taken' true part so in
         let four_came : length first.came ≡ 4 = ap (λ (l : List ℕ). length l) here ∙ four in
@@ -155,14 +155,14 @@ module _ (tells : Type 0) (given mid given' left left' : List ℕ) (limit taken 
     -- where the buffer is written in two parts
     pub heard_behind : (part behind : List ℕ) → length part ≡ size - 4 → size < 2 ^ 32
         → AreSmall (take 4 (front ++ rest) ++ (part ++ behind))
-        → Fills tells mid given' left' between taken' true part (Ok tt)
-        → Hears tells given given' left' limit taken taken'
+        → FillsBuffer tells mid given' left' between taken' true part (Ok tt)
+        → HearsMessage tells given given' left' limit taken taken'
         (take 4 (front ++ rest) ++ (part ++ behind)) (Ok size)
     heard_behind part behind len fits small so =
         let front_is : take 4 (front ++ rest) ≡ front =
         take-append-le 4 front rest (omega arith) ∙ take_all 4 front (omega arith) in
         subst (λ (l : List ℕ).
-        Hears tells given given' left' limit taken taken' (l ++ (part ++ behind)) (Ok size))
+        HearsMessage tells given given' left' limit taken taken' (l ++ (part ++ behind)) (Ok size))
         (sym front_is)
         (heard part behind len fits
         (subst (λ (l : List ℕ). AreSmall (l ++ (part ++ behind))) front_is small) so)

@@ -4,11 +4,11 @@ use Rattle.std.specs.List.{All, AllByRecursion}
 use Rattle.std.proofs.lemmas.Bool.{cases_Bool}
 use Rattle.vt_tree.specs.Maps.{BlockMap}
 use Rattle.vac_read.specs.declared.node.Node.{Node}
-use Rattle.vac_read.specs.Nodes.{AreEntries, FitsItem}
+use Rattle.vac_read.specs.Nodes.{AreNodeEntries, FitsToldItem}
 use Rattle.nine_view.specs.declared.fid.Fid.{Fid}
-use Rattle.nine_view.specs.Files.{IsTold}
-use Rattle.nine_view.specs.Kept.{IsKept, IsKeptFid}
-use Rattle.nine_view.specs.Known.{Known, IsRight, IsRightFid, fid_at, with_fid, without_fid}
+use Rattle.nine_view.specs.Files.{FitsMessage}
+use Rattle.nine_view.specs.Kept.{IsKeptView, IsKeptFid}
+use Rattle.nine_view.specs.Known.{ViewState, IsRightView, IsRightFid, fid_at, with_fid, without_fid}
 
 module _ (P : Fid → Type 0) (fid : ℕ) where
   pub all_with : (f : Fid) (fids : List (ℕ × Fid)) → AllByRecursion (λ e. P e.1) fids → P f
@@ -68,47 +68,47 @@ module _ (fid : ℕ) where
 
 -- ---- all that a view keeps
 
-pub kept_with : (known : Known) (fid : ℕ) (f : Fid) → IsKept known → IsKeptFid f
-    → IsKept (record known { fids = with_fid fid f known.fids })
+pub kept_with : (known : ViewState) (fid : ℕ) (f : Fid) → IsKeptView known → IsKeptFid f
+    → IsKeptView (record known { fids = with_fid fid f known.fids })
 kept_with known fid f kept is = record {
   top = kept.top;
   msize = kept.msize;
   fids = all_with IsKeptFid fid f known.fids kept.fids is;
 }
 
-pub kept_without : (known : Known) (fid : ℕ) → IsKept known
-    → IsKept (record known { fids = without_fid fid known.fids })
+pub kept_without : (known : ViewState) (fid : ℕ) → IsKeptView known
+    → IsKeptView (record known { fids = without_fid fid known.fids })
 kept_without known fid kept = record {
   top = kept.top;
   msize = kept.msize;
   fids = all_without IsKeptFid fid known.fids kept.fids;
 }
 
-pub kept_fid : (known : Known) (fid : ℕ) (f : Fid) → IsKept known
+pub kept_fid : (known : ViewState) (fid : ℕ) (f : Fid) → IsKeptView known
     → fid_at fid known.fids ≡ Some f → IsKeptFid f
 kept_fid known fid f kept at = one_at IsKeptFid fid f known.fids kept.fids at
 
 -- it stands for an archive as before
 
-pub right_with : (map : BlockMap) (known : Known) (fid : ℕ) (f : Fid) → IsRight map known
+pub right_with : (map : BlockMap) (known : ViewState) (fid : ℕ) (f : Fid) → IsRightView map known
     → IsRightFid map known.top f
-    → IsRight map (record known { fids = with_fid fid f known.fids })
+    → IsRightView map (record known { fids = with_fid fid f known.fids })
 right_with map known fid f right is =
     all_with (λ (g : Fid). IsRightFid map known.top g) fid f known.fids right is
 
-pub right_without : (map : BlockMap) (known : Known) (fid : ℕ) → IsRight map known
-    → IsRight map (record known { fids = without_fid fid known.fids })
+pub right_without : (map : BlockMap) (known : ViewState) (fid : ℕ) → IsRightView map known
+    → IsRightView map (record known { fids = without_fid fid known.fids })
 right_without map known fid right =
     all_without (λ (g : Fid). IsRightFid map known.top g) fid known.fids right
 
-pub right_fid : (map : BlockMap) (known : Known) (fid : ℕ) (f : Fid) → IsRight map known
+pub right_fid : (map : BlockMap) (known : ViewState) (fid : ℕ) (f : Fid) → IsRightView map known
     → fid_at fid known.fids ≡ Some f → IsRightFid map known.top f
 right_fid map known fid f right at =
     one_at (λ (g : Fid). IsRightFid map known.top g) fid f known.fids right at
 
 -- ---- what is told of files
 
-pub told_all : (nodes : List Node) → All (λ (n : Node). AreEntries n.stored) nodes
-    → All (λ (n : Node). FitsItem n.item) nodes → All IsTold nodes
+pub told_all : (nodes : List Node) → All (λ (n : Node). AreNodeEntries n.stored) nodes
+    → All (λ (n : Node). FitsToldItem n.item) nodes → All FitsMessage nodes
 told_all nodes entries items k d within =
     record { item = items k d within; entries = entries k d within }

@@ -3,20 +3,20 @@ use Rattle.std.proofs.Common.{◌≡◌, ℕ, true, false, Option, Some, None, L
 use Rattle.std.specs.Prelude.{is_some}
 use Rattle.std.specs.Option.{option_map_or}
 use Rattle.nine_view.specs.declared.fid.Fid.{Fid}
-use Rattle.nine_view.specs.declared.refusal.Refusal.TheVariants.{UnknownFid}
-use Rattle.nine_view.specs.Answers.{Answer, of_fid, refused}
-use Rattle.nine_view.specs.Known.{Known, fid_at, is_known}
+use Rattle.nine_view.specs.declared.request_error.RequestError.TheVariants.{UnknownFid}
+use Rattle.nine_view.specs.Answers.{Answer, of_fid, refused_answer}
+use Rattle.nine_view.specs.Known.{ViewState, fid_at, is_known}
 
-module _ (P : Answer → Type 0) (known : Known) (fid : ℕ) (answer : Fid → Answer) where
+module _ (P : Answer → Type 0) (known : ViewState) (fid : ℕ) (answer : Fid → Answer) where
   pub of_known : (f : Fid) → fid_at fid known.fids ≡ Some f → P (answer f)
       → P (of_fid known fid answer)
   of_known f at is =
-      subst (λ (o : Option Fid). P (option_map_or answer o (refused known UnknownFid))) (sym at) is
+      subst (λ (o : Option Fid). P (option_map_or answer o (refused_answer known UnknownFid))) (sym at) is
 
-  pub of_unknown : fid_at fid known.fids ≡ None → P (refused known UnknownFid)
+  pub of_unknown : fid_at fid known.fids ≡ None → P (refused_answer known UnknownFid)
       → P (of_fid known fid answer)
   of_unknown none is =
-      subst (λ (o : Option Fid). P (option_map_or answer o (refused known UnknownFid))) (sym none)
+      subst (λ (o : Option Fid). P (option_map_or answer o (refused_answer known UnknownFid))) (sym none)
       is
 
 some_one : (o : Option Fid) → is_some o ≡ true → (f : Fid) × (o ≡ Some f)

@@ -5,19 +5,19 @@ use Rattle.vt_tree.specs.Calls.{Call}
 use Rattle.vt_tree.specs.Maps.{Maps}
 use Rattle.vac_read.specs.declared.node.Stored.{Stored}
 use Rattle.vac_read.specs.declared.node.Stored.TheVariants as stored
-use Rattle.nine_view.specs.declared.failure.Denied.{Denied}
-use Rattle.nine_view.specs.declared.failure.Denied.TheVariants.{Refused}
+use Rattle.nine_view.specs.declared.error.AnswerError.{AnswerError}
+use Rattle.nine_view.specs.declared.error.AnswerError.TheVariants.{Refused}
 use Rattle.nine_view.specs.declared.fid.Fid.{Fid}
 use Rattle.nine_view.specs.declared.fid.Reading.{Reading}
-use Rattle.nine_view.specs.declared.refusal.Refusal.TheVariants.{BadOffset, FidNotOpen, UnknownFid}
+use Rattle.nine_view.specs.declared.request_error.RequestError.TheVariants.{BadOffset, FidNotOpen, UnknownFid}
 use Rattle.nine_view.specs.Answers.{Answer, of_fid, to_folder, to_read, to_stored}
 use Rattle.nine_view.specs.Handling.{Handles}
-use Rattle.nine_view.specs.Known.{Known, fid_at}
+use Rattle.nine_view.specs.Known.{ViewState, fid_at}
 use Rattle.nine_view.proofs.Handled.{refused_so}
 use Rattle.nine_view.proofs.OfFids.{of_known, of_unknown}
 
 module _ {S : Type 0} (does : S → Call → S → Type 0) (holds : S → Maps → Type 0)
-    (score_of : List ℕ → List ℕ) (tag : ℕ) (known : Known) (out : List ℕ) (fid offset room : ℕ)
+    (score_of : List ℕ → List ℕ) (tag : ℕ) (known : ViewState) (out : List ℕ) (fid offset room : ℕ)
   where
     abbrev asked : Answer
     asked = of_fid known fid (λ f. to_read known fid offset room f f.reading)
@@ -40,7 +40,7 @@ module _ {S : Type 0} (does : S → Call → S → Type 0) (holds : S → Maps �
         (Err (Refused FidNotOpen)) (to_read known fid offset room f o)) (sym closed)
         (refused_so does holds score_of s tag known out FidNotOpen))
 
-    pub read_of : (s s' : S) (new : Known) (result : Result ℕ Denied) (f : Fid) (r : Reading)
+    pub read_of : (s s' : S) (new : ViewState) (result : Result ℕ AnswerError) (f : Fid) (r : Reading)
         (st : Stored) → fid_at fid known.fids ≡ Some f → f.reading ≡ Some r → f.node.stored ≡ st
         → Handles does holds score_of s s' tag known new out result
         (to_stored known fid f r offset room st)
@@ -60,7 +60,7 @@ module _ {S : Type 0} (does : S → Call → S → Type 0) (holds : S → Maps �
     read_elsewhere s f r entries metadata bad =
         rw bad (refused_so does holds score_of s tag known out BadOffset)
 
-    pub read_here : (s s' : S) (new : Known) (result : Result ℕ Denied) (f : Fid) (r : Reading)
+    pub read_here : (s s' : S) (new : ViewState) (result : Result ℕ AnswerError) (f : Fid) (r : Reading)
         (entries metadata : Entry) → (not (offset == 0) && not (offset == r.offset)) ≡ false
         → Handles does holds score_of s s' tag known new out result
         (to_folder known fid f r offset room f.files)

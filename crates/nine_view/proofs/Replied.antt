@@ -2,32 +2,32 @@
 use Rattle.std.proofs.Common.{◌≡◌, ◌≤◌, ℕ, Option, None, Result, Err, List, length, take, sym, ◌∙◌, ap, subst, arith}
 use Rattle.vt_tree.specs.Calls.{Call}
 use Rattle.vt_tree.specs.Maps.{Maps}
-use Rattle.vac_read.specs.declared.err.VacBad.{VacBad}
+use Rattle.vac_read.specs.declared.error.VacBad.{VacBad}
 use Rattle.nine_wire.specs.Messages.{RMessage, r_error}
-use Rattle.nine_view.specs.declared.failure.Denied.{Denied}
-use Rattle.nine_view.specs.declared.failure.Denied.TheVariants.{Refused}
-use Rattle.nine_view.specs.declared.refusal.Refusal.{Refusal}
-use Rattle.nine_view.specs.Answers.{Answer, Asked, answer_to, refused}
-use Rattle.nine_view.specs.Handling.{Handles, Says, SaysSo, failure_of}
-use Rattle.nine_view.specs.Known.{Known, limit}
-use Rattle.nine_view.specs.Refusals.{words_of}
-use Rattle.nine_view.specs.Replies.{Comes, Replies}
+use Rattle.nine_view.specs.declared.error.AnswerError.{AnswerError}
+use Rattle.nine_view.specs.declared.error.AnswerError.TheVariants.{Refused}
+use Rattle.nine_view.specs.declared.request_error.RequestError.{RequestError}
+use Rattle.nine_view.specs.Answers.{Answer, Asked, answer_to, refused_answer}
+use Rattle.nine_view.specs.Handling.{Handles, Says, SaysSo, archive_failure}
+use Rattle.nine_view.specs.Known.{ViewState, limit}
+use Rattle.nine_view.specs.Refusals.{refusal_words}
+use Rattle.nine_view.specs.Replies.{MessageComes, AnswersMessage}
 use Rattle.nine_view.proofs.Handled.{refused_so}
 
 module _ {S : Type 0} (does : S → Call → S → Type 0) (holds : S → Maps → Type 0)
-    (score_of : List ℕ → List ℕ) (s : S) (old : Known) (message : List ℕ) (tag : ℕ) (asked : Asked)
-    (comes : Comes message tag asked) (out' : List ℕ) (len : ℕ) (failure : Option VacBad)
+    (score_of : List ℕ → List ℕ) (s : S) (old : ViewState) (message : List ℕ) (tag : ℕ) (asked : Asked)
+    (comes : MessageComes message tag asked) (out' : List ℕ) (len : ℕ) (failure : Option VacBad)
   where
-    pub replied : (s' : S) (new : Known) (out : List ℕ) (result : Result ℕ Denied)
+    pub replied : (s' : S) (new : ViewState) (out : List ℕ) (result : Result ℕ AnswerError)
         → Handles does holds score_of s s' tag old new out result (answer_to old asked)
         → ((reply : RMessage) → SaysSo tag (limit old) out result reply
         → Says tag (limit old) out' len reply)
-        → failure ≡ failure_of result
-        → Replies does holds score_of s s' old new message (take len out') failure
+        → failure ≡ archive_failure result
+        → AnswersMessage does holds score_of s s' old new message (take len out') failure
     replied s' new out result so says same =
         let told = says so.reply so.says in
         subst (λ (f : Option VacBad).
-        Replies does holds score_of s s' old new message (take len out') f) (sym same)
+        AnswersMessage does holds score_of s s' old new message (take len out') f) (sym same)
         (record {
           tag = tag;
           asked = asked;
@@ -44,9 +44,9 @@ module _ {S : Type 0} (does : S → Call → S → Type 0) (holds : S → Maps �
         })
 
     -- what can't be read is refused
-    pub misread : (why : Refusal) → answer_to old asked ≡ refused old why → 256 ≤ limit old
-        → Says tag 256 out' len (r_error (words_of why)) → failure ≡ None
-        → Replies does holds score_of s s old old message (take len out') failure
+    pub misread : (why : RequestError) → answer_to old asked ≡ refused_answer old why → 256 ≤ limit old
+        → Says tag 256 out' len (r_error (refusal_words why)) → failure ≡ None
+        → AnswersMessage does holds score_of s s old old message (take len out') failure
     misread why is least says none =
         replied s old out' (Err (Refused why))
         (subst (λ (a : Answer). Handles does holds score_of s s tag old old out' (Err (Refused why)) a)

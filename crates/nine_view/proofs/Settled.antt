@@ -3,35 +3,35 @@ use Rattle.std.proofs.Common.{◌≡◌, ◌≤◌, ◌<◌, ◌^◌, ℕ, true,
 use Rattle.std.specs.Prelude.{is_some, nat_lt, unwrap_or}
 use Rattle.std.proofs.lemmas.Bool.{ltb-false}
 use Rattle.vt_tree.specs.Maps.{BlockMap}
-use Rattle.nine_wire.specs.Frames.{spelled}
+use Rattle.nine_wire.specs.Frames.{spelled_reply}
 use Rattle.nine_wire.specs.Messages.{FitsReply, FitsStat, r_clunk, r_error, r_open, r_stat}
-use Rattle.nine_view.specs.declared.failure.Denied.TheVariants.{Refused}
+use Rattle.nine_view.specs.declared.error.AnswerError.TheVariants.{Refused}
 use Rattle.nine_view.specs.declared.fid.Fid.{Fid}
-use Rattle.nine_view.specs.declared.refusal.Refusal.{Refusal}
-use Rattle.nine_view.specs.declared.refusal.Refusal.TheVariants.{FidIsOpen, ReadOnly, SmallCount, UnknownFid}
-use Rattle.nine_view.specs.Answers.{Answer, Outcome, of_fid, refused, refuses, settled, with_known, to_open, to_stat, may_open, iounit, unread}
+use Rattle.nine_view.specs.declared.request_error.RequestError.{RequestError}
+use Rattle.nine_view.specs.declared.request_error.RequestError.TheVariants.{FidIsOpen, ReadOnly, SmallCount, UnknownFid}
+use Rattle.nine_view.specs.Answers.{Answer, ViewOutcome, of_fid, refused_answer, refuses, settled, with_known, to_open, to_stat, may_open, iounit, unread}
 use Rattle.nine_view.specs.Files.{qid_of, stat_of}
-use Rattle.nine_view.specs.Handling.{Settles, SettlesSo}
-use Rattle.nine_view.specs.Kept.{IsKept}
-use Rattle.nine_view.specs.Known.{Known, IsRight, fid_at, is_known, limit, with_fid, without_fid}
-use Rattle.nine_view.specs.Refusals.{words_of}
+use Rattle.nine_view.specs.Handling.{SettlesRequest, SettlesSo}
+use Rattle.nine_view.specs.Kept.{IsKeptView}
+use Rattle.nine_view.specs.Known.{ViewState, IsRightView, fid_at, is_known, limit, with_fid, without_fid}
+use Rattle.nine_view.specs.Refusals.{refusal_words}
 use Rattle.nine_view.proofs.Keeping.{right_fid, right_with, right_without}
 use Rattle.nine_view.proofs.Limits.{least_limit}
 use Rattle.nine_view.proofs.Sizes.{stat_len}
 use Rattle.nine_view.proofs.OfFids.{none_known, of_known, of_unknown, one_known}
 
-module _ (tag : ℕ) (known : Known) (out : List ℕ) where
+module _ (tag : ℕ) (known : ViewState) (out : List ℕ) where
   -- a refusal changes nothing
-  pub refused_here : (why : Refusal)
-      → Settles tag known known out (Err (Refused why)) (refuses known why)
+  pub refused_here : (why : RequestError)
+      → SettlesRequest tag known known out (Err (Refused why)) (refuses known why)
   refused_here why = record { says = refl; known = refl; whole = refl; right = λ map right. right }
 
   -- the reply was written, and is no longer than it may be
-  pub said_here : (len : ℕ) (new : Known) (outcome : Outcome) → FitsReply outcome.reply
-      → take len out ≡ spelled tag outcome.reply → len ≡ length (spelled tag outcome.reply)
+  pub said_here : (len : ℕ) (new : ViewState) (outcome : ViewOutcome) → FitsReply outcome.reply
+      → take len out ≡ spelled_reply tag outcome.reply → len ≡ length (spelled_reply tag outcome.reply)
       → len ≤ limit known → new ≡ outcome.known
-      → ((map : BlockMap) → IsRight map known → IsRight map new)
-      → Settles tag known new out (Ok len) outcome
+      → ((map : BlockMap) → IsRightView map known → IsRightView map new)
+      → SettlesRequest tag known new out (Ok len) outcome
   said_here len new outcome fits is len_is short same right = record {
     says = record { fits = fits; is = is; len_is = len_is; short = short };
     known = same;
@@ -51,7 +51,7 @@ module _ (tag : ℕ) (known : Known) (out : List ℕ) where
 
   pub read_only_here : (fid : ℕ) → is_known fid known.fids ≡ true
       → SettlesSo tag known known out (Err (Refused ReadOnly))
-      (of_fid known fid (λ f. refused known ReadOnly))
+      (of_fid known fid (λ f. refused_answer known ReadOnly))
   read_only_here fid is =
       let one = one_known fid known.fids is in
       of_known (SettlesSo tag known known out (Err (Refused ReadOnly))) known fid _ one.0 one.1
@@ -60,14 +60,14 @@ module _ (tag : ℕ) (known : Known) (out : List ℕ) where
   -- ---- a fid that goes
 
   right_gone : (fid : ℕ) (fids : List (ℕ × Fid)) → fids ≡ without_fid fid known.fids
-      → (map : BlockMap) → IsRight map known → IsRight map (record known { fids = fids })
+      → (map : BlockMap) → IsRightView map known → IsRightView map (record known { fids = fids })
   right_gone fid fids gone map right =
-      subst (λ (l : List (ℕ × Fid)). IsRight map (record known { fids = l })) (sym gone)
+      subst (λ (l : List (ℕ × Fid)). IsRightView map (record known { fids = l })) (sym gone)
       (right_without map known fid right)
 
-  pub clunked : (fid : ℕ) (fids : List (ℕ × Fid)) (len : ℕ) → IsKept known
+  pub clunked : (fid : ℕ) (fids : List (ℕ × Fid)) (len : ℕ) → IsKeptView known
       → is_known fid known.fids ≡ true → fids ≡ without_fid fid known.fids
-      → take len out ≡ spelled tag r_clunk → len ≡ length (spelled tag r_clunk)
+      → take len out ≡ spelled_reply tag r_clunk → len ≡ length (spelled_reply tag r_clunk)
       → SettlesSo tag known (record known { fids = fids }) out (Ok len)
       (of_fid known fid
       (λ f. settled (with_known known (without_fid fid known.fids) r_clunk)))
@@ -83,7 +83,7 @@ module _ (tag : ℕ) (known : Known) (out : List ℕ) where
       → fids ≡ without_fid fid known.fids
       → SettlesSo tag known (record known { fids = fids }) out (Err (Refused ReadOnly))
       (of_fid known fid (λ f. settled (with_known known (without_fid fid known.fids)
-      (r_error (words_of ReadOnly)))))
+      (r_error (refusal_words ReadOnly)))))
   removed fid fids is gone =
       let one = one_known fid known.fids is in
       of_known (SettlesSo tag known (record known { fids = fids }) out (Err (Refused ReadOnly)))
@@ -99,20 +99,20 @@ module _ (tag : ℕ) (known : Known) (out : List ℕ) where
 
   right_open : (fid : ℕ) (f : Fid) (fids : List (ℕ × Fid)) → fid_at fid known.fids ≡ Some f
       → fids ≡ with_fid fid (record f { reading = Some unread }) known.fids
-      → (map : BlockMap) → IsRight map known → IsRight map (record known { fids = fids })
+      → (map : BlockMap) → IsRightView map known → IsRightView map (record known { fids = fids })
   right_open fid f fids at same map right =
       let old = right_fid map known fid f right at in
-      subst (λ (l : List (ℕ × Fid)). IsRight map (record known { fids = l })) (sym same)
+      subst (λ (l : List (ℕ × Fid)). IsRightView map (record known { fids = l })) (sym same)
       (right_with map known fid (record f { reading = Some unread }) right
       (record { way = old.way; files = old.files }))
 
-  pub opened : (msize fid mode : ℕ) (f : Fid) (fids : List (ℕ × Fid)) (len : ℕ) → IsKept known
+  pub opened : (msize fid mode : ℕ) (f : Fid) (fids : List (ℕ × Fid)) (len : ℕ) → IsKeptView known
       → known.msize ≡ Some msize → msize < 2 ^ 32 → f.node.qid < 2 ^ 64
       → fid_at fid known.fids ≡ Some f → is_some f.reading ≡ false
       → may_open f.node.stored mode ≡ true
       → fids ≡ with_fid fid (record f { reading = Some unread }) known.fids
-      → take len out ≡ spelled tag (r_open (qid_of f.node) (iounit msize))
-      → len ≡ length (spelled tag (r_open (qid_of f.node) (iounit msize)))
+      → take len out ≡ spelled_reply tag (r_open (qid_of f.node) (iounit msize))
+      → len ≡ length (spelled_reply tag (r_open (qid_of f.node) (iounit msize)))
       → SettlesSo tag known (record known { fids = fids }) out (Ok len)
       (of_fid known fid (λ g. settled (to_open known msize fid mode g)))
   opened msize fid mode f fids len kept agreed small qid at closed may same written len_is =
@@ -141,7 +141,7 @@ module _ (tag : ℕ) (known : Known) (out : List ℕ) where
   -- ---- what is told of a file
 
   pub stat_small : (msize fid : ℕ) (f : Fid) → fid_at fid known.fids ≡ Some f
-      → nat_lt msize (length (spelled 0 (r_stat (stat_of f.node)))) ≡ true
+      → nat_lt msize (length (spelled_reply 0 (r_stat (stat_of f.node)))) ≡ true
       → SettlesSo tag known known out (Err (Refused SmallCount))
       (of_fid known fid (λ g. settled (to_stat known msize g)))
   stat_small msize fid f at small =
@@ -150,13 +150,13 @@ module _ (tag : ℕ) (known : Known) (out : List ℕ) where
 
   pub stat_told : (msize fid : ℕ) (f : Fid) (len : ℕ) → known.msize ≡ Some msize
       → fid_at fid known.fids ≡ Some f → FitsStat (stat_of f.node)
-      → nat_lt msize (length (spelled 0 (r_stat (stat_of f.node)))) ≡ false
-      → take len out ≡ spelled tag (r_stat (stat_of f.node))
-      → len ≡ length (spelled tag (r_stat (stat_of f.node)))
+      → nat_lt msize (length (spelled_reply 0 (r_stat (stat_of f.node)))) ≡ false
+      → take len out ≡ spelled_reply tag (r_stat (stat_of f.node))
+      → len ≡ length (spelled_reply tag (r_stat (stat_of f.node)))
       → SettlesSo tag known known out (Ok len)
       (of_fid known fid (λ g. settled (to_stat known msize g)))
   stat_told msize fid f len agreed at fits room written len_is =
-      let least = ltb-false msize (length (spelled 0 (r_stat (stat_of f.node)))) room in
+      let least = ltb-false msize (length (spelled_reply 0 (r_stat (stat_of f.node)))) room in
       let most : limit known ≡ msize = ap (λ (o : Option ℕ). unwrap_or o 65536) agreed in
       let here = stat_len 0 (stat_of f.node) in
       let there = stat_len tag (stat_of f.node) in

@@ -6,11 +6,11 @@ use Rattle.std.proofs.lemmas.Grind.{flat_map-append}
 use Rattle.vt_session.specs.Talk.{EndsInLast}
 use Rattle.vt_tree.specs.Calls.{Call}
 use Rattle.vt_tree.specs.Maps.{Maps}
-use Rattle.vac_read.specs.declared.err.VacBad.{VacBad}
+use Rattle.vac_read.specs.declared.error.VacBad.{VacBad}
 use Rattle.nine_view.specs.declared.serving.Ended.{Ended}
 use Rattle.nine_view.specs.declared.serving.Ended.TheVariants.{Closed, Cut, Malformed, Spent, ReadFault, WriteFault, NoMemory}
-use Rattle.nine_view.specs.Known.{Known, limit}
-use Rattle.nine_view.specs.Serving.{EndsSo, GoesOut, Serves, Talks, Turn, Turns, came_in, first_failure, said_in}
+use Rattle.nine_view.specs.Known.{ViewState, limit}
+use Rattle.nine_view.specs.Serving.{EndsSo, GoesOut, ServesConnection, AnswersInTurn, MessageTurn, Turns, came_in, first_failure, said_in}
 use Rattle.nine_view.proofs.Talking.{failure_more, talks_more}
 
 -- a part of the last piece went out, behind one more
@@ -19,7 +19,7 @@ ends_behind : (piece : List ℕ) (pieces : List (List ℕ)) (output : List ℕ)
 ends_behind piece [] output ends = absurd ends
 ends_behind piece (next ∷ pieces) output ends = (output, refl, ends)
 
-ends_more : (turns more : List Turn) (output : List ℕ)
+ends_more : (turns more : List MessageTurn) (output : List ℕ)
     → EndsInLast (map (λ turn. turn.said) more) output
     → EndsInLast (map (λ turn. turn.said) (turns ++ more)) (said_in turns ++ output)
 ends_more [] more output ends = ends
@@ -29,13 +29,13 @@ ends_more (turn ∷ turns) more output ends =
     (ends_behind turn.said (map (λ t. t.said) (turns ++ more)) (said_in turns ++ output)
     (ends_more turns more output ends))
 
-said_more : (turns more : List Turn) → said_in (turns ++ more) ≡ said_in turns ++ said_in more
+said_more : (turns more : List MessageTurn) → said_in (turns ++ more) ≡ said_in turns ++ said_in more
 said_more turns more = flat_map-append (λ turn. turn.said) turns more
 
-pub came_more : (turns more : List Turn) → came_in (turns ++ more) ≡ came_in turns ++ came_in more
+pub came_more : (turns more : List MessageTurn) → came_in (turns ++ more) ≡ came_in turns ++ came_in more
 came_more turns more = flat_map-append (λ turn. turn.message) turns more
 
-goes_out_more : (ended : Ended) (turns more : List Turn) (output : List ℕ)
+goes_out_more : (ended : Ended) (turns more : List MessageTurn) (output : List ℕ)
     → GoesOut ended more output → GoesOut ended (turns ++ more) (said_in turns ++ output)
 goes_out_more Closed turns more output out =
     ap (λ (l : List ℕ). said_in turns ++ l) out ∙ sym (said_more turns more)
@@ -53,10 +53,10 @@ goes_out_more NoMemory turns more output out =
 
 -- what was served so far
 pub record ServesSoFar {S : Type 0} (does : S → Call → S → Type 0) (holds : S → Maps → Type 0)
-    (score_of : List ℕ → List ℕ) (s s' : S) (old new : Known) (tells : Type 0)
+    (score_of : List ℕ → List ℕ) (s s' : S) (old new : ViewState) (tells : Type 0)
     (given given' written written' : List ℕ) (taken : ℕ) (failure : Option VacBad) : Type 0 where
-  pub turns : List Turn
-  pub talks : Talks does holds score_of s old turns s' new
+  pub turns : List MessageTurn
+  pub talks : AnswersInTurn does holds score_of s old turns s' new
   pub failure_is : failure ≡ first_failure turns
   pub taken_is : taken ≡ length (came_in turns)
   pub input : tells → given' ≡ given ++ came_in turns
@@ -64,9 +64,9 @@ pub record ServesSoFar {S : Type 0} (does : S → Call → S → Type 0) (holds 
 
 -- memory was short for it
 pub serves_nothing : {S : Type 0} (does : S → Call → S → Type 0) (holds : S → Maps → Type 0)
-    (score_of : List ℕ → List ℕ) (s : S) (known : Known) (tells : Type 0)
+    (score_of : List ℕ → List ℕ) (s : S) (known : ViewState) (tells : Type 0)
     (given written left : List ℕ)
-    → Serves does holds score_of s s known known tells given given written written left NoMemory 0
+    → ServesConnection does holds score_of s s known known tells given given written written left NoMemory 0
     None
 serves_nothing does holds score_of s known tells given written left = record {
   turns = [];
@@ -83,18 +83,18 @@ serves_nothing does holds score_of s known tells given written left = record {
 }
 
 module _ {S : Type 0} (does : S → Call → S → Type 0) (holds : S → Maps → Type 0)
-    (score_of : List ℕ → List ℕ) (a b c : S) (u v w : Known) (tells : Type 0)
+    (score_of : List ℕ → List ℕ) (a b c : S) (u v w : ViewState) (tells : Type 0)
     (given given' given'' written written' written'' left' : List ℕ) (taken taken' : ℕ)
     (failure failure' : Option VacBad)
     (so : ServesSoFar does holds score_of a b u v tells given given' written written' taken failure)
   where
-    came_on : (turns : List Turn) (rest : List ℕ)
+    came_on : (turns : List MessageTurn) (rest : List ℕ)
         → came_in so.turns ++ (came_in turns ++ rest) ≡ came_in (so.turns ++ turns) ++ rest
     came_on turns rest =
         sym (append_assoc (came_in so.turns) (came_in turns) rest)
         ∙ ap (λ (l : List ℕ). l ++ rest) (sym (came_more so.turns turns))
 
-    taken_on : (turns : List Turn) (rest : List ℕ)
+    taken_on : (turns : List MessageTurn) (rest : List ℕ)
         → taken' ≡ taken + length (came_in turns ++ rest)
         → taken' ≡ length (came_in (so.turns ++ turns) ++ rest)
     taken_on turns rest is =
@@ -102,7 +102,7 @@ module _ {S : Type 0} (does : S → Call → S → Type 0) (holds : S → Maps �
         ∙ sym (length-append (came_in so.turns) (came_in turns ++ rest))
         ∙ ap (λ (l : List ℕ). length l) (came_on turns rest)
 
-    input_on : (turns : List Turn) (rest : List ℕ)
+    input_on : (turns : List MessageTurn) (rest : List ℕ)
         → (tells → given'' ≡ given' ++ (came_in turns ++ rest)) → tells
         → given'' ≡ given ++ (came_in (so.turns ++ turns) ++ rest)
     input_on turns rest is told =
@@ -116,7 +116,7 @@ module _ {S : Type 0} (does : S → Call → S → Type 0) (holds : S → Maps �
         is told ∙ ap (λ (l : List ℕ). l ++ output) (so.output told)
         ∙ append_assoc written (said_in so.turns) output
 
-    failure_on : (turns : List Turn) → failure' ≡ option_or failure (first_failure turns)
+    failure_on : (turns : List MessageTurn) → failure' ≡ option_or failure (first_failure turns)
         → failure' ≡ first_failure (so.turns ++ turns)
     failure_on turns is =
         is ∙ ap (λ (o : Option VacBad). option_or o (first_failure turns)) so.failure_is
@@ -147,7 +147,7 @@ module _ {S : Type 0} (does : S → Call → S → Type 0) (holds : S → Maps �
     pub serves_all : (ended : Ended)
         → (t : Turns does holds score_of b c v w tells given' given'' written' written'' left' taken
         taken' failure failure' (Err ended))
-        → Serves does holds score_of a c u w tells given given'' written written'' left' ended taken'
+        → ServesConnection does holds score_of a c u w tells given given'' written written'' left' ended taken'
         failure'
     serves_all ended t =
         let place : taken + length (came_in t.turns) ≡ length (came_in (so.turns ++ t.turns)) =

@@ -3,7 +3,7 @@ use Rattle.std.proofs.Common.{◌≡◌, ◌≢◌, ◌+◌, ◌-◌, ◌<◌, �
 use Rattle.nine_view.specs.declared.serving.Ended.{Ended}
 use Rattle.nine_view.specs.declared.serving.Ended.TheVariants.{Closed, Cut, Malformed, Spent, ReadFault, WriteFault, NoMemory}
 use Rattle.nine_view.specs.Hearing.{StopsSo}
-use Rattle.nine_view.specs.Serving.{EndsSo, IsCutOff, size_in}
+use Rattle.nine_view.specs.Serving.{EndsSo, IsCutOff, message_size}
 
 nothing : (came : List ℕ) → length came ≡ 0 → came ≡ []
 nothing [] none = refl
@@ -40,7 +40,7 @@ ends_in_front WriteFault limit taken taken' came is stops = absurd stops
 ends_in_front NoMemory limit taken taken' came is stops = absurd stops
 
 pub size_in_front : (front came : List ℕ) → length front ≡ 4
-    → size_in (front ++ came) ≡ size_in front
+    → message_size (front ++ came) ≡ message_size front
 size_in_front [] came four = absurd (omega arith)
 size_in_front (a ∷ []) came four = absurd (omega arith)
 size_in_front (a ∷ b ∷ []) came four = absurd (omega arith)
@@ -48,8 +48,8 @@ size_in_front (a ∷ b ∷ c ∷ []) came four = absurd (omega arith)
 size_in_front (a ∷ b ∷ c ∷ d ∷ []) came four = refl
 size_in_front (a ∷ b ∷ c ∷ d ∷ e ∷ front) came four = absurd (omega arith)
 
-cut_inside : (limit : ℕ) (front came : List ℕ) → length front ≡ 4 → 7 ≤ size_in front
-    → size_in front ≤ limit → 4 + length came < size_in front → IsCutOff limit (front ++ came)
+cut_inside : (limit : ℕ) (front came : List ℕ) → length front ≡ 4 → 7 ≤ message_size front
+    → message_size front ≤ limit → 4 + length came < message_size front → IsCutOff limit (front ++ came)
 cut_inside limit front came four least most few =
     let same = size_in_front front came four in
     let long = length-append front came in
@@ -57,9 +57,9 @@ cut_inside limit front came four least most few =
 
 -- behind a size field that a message may have
 pub ends_inside : (ended : Ended) (limit taken taken' : ℕ) (front came : List ℕ)
-    → length front ≡ 4 → 7 ≤ size_in front → size_in front ≤ limit
+    → length front ≡ 4 → 7 ≤ message_size front → message_size front ≤ limit
     → taken' ≡ taken + 4 + length came
-    → StopsSo (Err ended) true (length came) (size_in front - 4) taken'
+    → StopsSo (Err ended) true (length came) (message_size front - 4) taken'
     → EndsSo ended limit taken (front ++ came)
 ends_inside Closed limit taken taken' front came four least most is stops =
     let outside = stops.0 in absurd (cc)

@@ -3,18 +3,18 @@ use Rattle.std.proofs.Common.{◌≡◌, ◌++◌, ℕ, Option, Some, None, List
 use Rattle.std.specs.Option.{option_or}
 use Rattle.vt_tree.specs.Calls.{Call}
 use Rattle.vt_tree.specs.Maps.{Maps}
-use Rattle.vac_read.specs.declared.err.VacBad.{VacBad}
-use Rattle.nine_view.specs.Known.{Known}
-use Rattle.nine_view.specs.Serving.{Talks, Turn, first_failure}
+use Rattle.vac_read.specs.declared.error.VacBad.{VacBad}
+use Rattle.nine_view.specs.Known.{ViewState}
+use Rattle.nine_view.specs.Serving.{AnswersInTurn, MessageTurn, first_failure}
 
 module _ {S : Type 0} (does : S → Call → S → Type 0) (holds : S → Maps → Type 0)
     (score_of : List ℕ → List ℕ) where
-  pub talks_more : (turns more : List Turn) (a b c : S) (u v w : Known)
-      → Talks does holds score_of a u turns b v → Talks does holds score_of b v more c w
-      → Talks does holds score_of a u (turns ++ more) c w
+  pub talks_more : (turns more : List MessageTurn) (a b c : S) (u v w : ViewState)
+      → AnswersInTurn does holds score_of a u turns b v → AnswersInTurn does holds score_of b v more c w
+      → AnswersInTurn does holds score_of a u (turns ++ more) c w
   talks_more [] more a b c u v w (at, known) later =
-      subst (λ (s : S). Talks does holds score_of s u more c w) at
-      (subst (λ (k : Known). Talks does holds score_of b k more c w) known later)
+      subst (λ (s : S). AnswersInTurn does holds score_of s u more c w) at
+      (subst (λ (k : ViewState). AnswersInTurn does holds score_of b k more c w) known later)
   talks_more (turn ∷ turns) more a b c u v w (short, (next, replies, rest)) later = (
     short,
     (next, replies, talks_more turns more next b c turn.known v w rest later),
@@ -24,7 +24,7 @@ or_more : (a b c : Option VacBad) → option_or (option_or a b) c ≡ option_or 
 or_more None b c = refl
 or_more (Some bad) b c = refl
 
-pub failure_more : (turns more : List Turn)
+pub failure_more : (turns more : List MessageTurn)
     → first_failure (turns ++ more) ≡ option_or (first_failure turns) (first_failure more)
 failure_more [] more = refl
 failure_more (turn ∷ turns) more =

@@ -5,14 +5,14 @@ use Rattle.std.specs.Option.{option_or}
 use Rattle.std.proofs.lemmas.Bool.{cases_Bool}
 use Rattle.vt_tree.specs.Calls.{Call}
 use Rattle.vt_tree.specs.Maps.{Maps}
-use Rattle.vac_read.specs.declared.err.VacBad.{VacBad}
+use Rattle.vac_read.specs.declared.error.VacBad.{VacBad}
 use Rattle.vt_out.specs.Streams.{AppendsPrefix}
 use Rattle.nine_view.specs.declared.serving.Ended.{Ended}
 use Rattle.nine_view.specs.declared.serving.Ended.TheVariants.{Closed, Cut, Malformed, Spent, ReadFault, WriteFault, NoMemory}
-use Rattle.nine_view.specs.Hearing.{Hears}
-use Rattle.nine_view.specs.Known.{Known, limit}
-use Rattle.nine_view.specs.Replies.{Replies}
-use Rattle.nine_view.specs.Serving.{EndsSo, GoesOut, GoesOnOr, SaysAllOr, came_in, IsAtEndOr, Turn, Turns, WriteCause}
+use Rattle.nine_view.specs.Hearing.{HearsMessage}
+use Rattle.nine_view.specs.Known.{ViewState, limit}
+use Rattle.nine_view.specs.Replies.{AnswersMessage}
+use Rattle.nine_view.specs.Serving.{EndsSo, GoesOut, GoesOnOr, SaysAllOr, came_in, IsAtEndOr, MessageTurn, Turns, WriteCause}
 
 same_or : (a : Option VacBad) → a ≡ option_or a None
 same_or None = refl
@@ -30,11 +30,11 @@ not_written WriteFault old new unsaid same = absurd unsaid
 not_written NoMemory old new unsaid same = same
 
 module _ {S : Type 0} (does : S → Call → S → Type 0) (holds : S → Maps → Type 0)
-    (score_of : List ℕ → List ℕ) (s : S) (old : Known) where
+    (score_of : List ℕ → List ℕ) (s : S) (old : ViewState) where
   -- no message came
   pub unheard : (tells : Type 0) (given given' written written' left' : List ℕ)
       (taken taken' : ℕ) (failure : Option VacBad) (buffer : List ℕ) (ended : Ended)
-      → Hears tells given given' left' (limit old) taken taken' buffer (Err ended)
+      → HearsMessage tells given given' left' (limit old) taken taken' buffer (Err ended)
       → (tells → written' ≡ written)
       → Turns does holds score_of s s old old tells given given' written written' left' taken
       taken' failure failure (Err ended)
@@ -54,13 +54,13 @@ module _ {S : Type 0} (does : S → Call → S → Type 0) (holds : S → Maps �
         at_end = so.at_end;
       }
 
-  module _ (s' : S) (new : Known) (message said : List ℕ) (failed : Option VacBad)
+  module _ (s' : S) (new : ViewState) (message said : List ℕ) (failed : Option VacBad)
       (short : length message ≤ limit old)
-      (replies : Replies does holds score_of s s' old new message said failed)
+      (replies : AnswersMessage does holds score_of s s' old new message said failed)
       (taken taken' : ℕ) (failure failure' : Option VacBad)
       (counted : taken' ≡ taken + length message) (first : failure' ≡ option_or failure failed)
     where
-      abbrev this_turn : List Turn
+      abbrev this_turn : List MessageTurn
       this_turn = record { message = message; said = said; known = new; failure = failed } ∷ []
 
       turned : (tells : Type 0) (given given' written written' left' output : List ℕ)

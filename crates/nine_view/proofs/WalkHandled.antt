@@ -4,20 +4,20 @@ use Rattle.std.proofs.lemmas.Bool.{eqb-false}
 use Rattle.std.specs.Prelude.{IfErr, IfOk, OnErr, OnOk}
 use Rattle.vt_tree.specs.Calls.{Call}
 use Rattle.vt_tree.specs.Maps.{BlockMap, Maps}
-use Rattle.vac_read.specs.declared.err.VacBad.{VacBad}
-use Rattle.vac_read.specs.declared.err.VacBad.TheVariants.{NoMemory}
-use Rattle.vac_read.specs.Reading.{Reads}
+use Rattle.vac_read.specs.declared.error.VacBad.{VacBad}
+use Rattle.vac_read.specs.declared.error.VacBad.TheVariants.{NoMemory}
+use Rattle.vac_read.specs.Reading.{ReadsArchive}
 use Rattle.vac_read.proofs.Readings.{reads_as}
 use Rattle.nine_wire.specs.Messages.{Qid, r_error, r_walk}
-use Rattle.nine_view.specs.declared.failure.Denied.{Denied}
-use Rattle.nine_view.specs.declared.failure.Denied.TheVariants.{Refused, Failed}
+use Rattle.nine_view.specs.declared.error.AnswerError.{AnswerError}
+use Rattle.nine_view.specs.declared.error.AnswerError.TheVariants.{Refused, Failed}
 use Rattle.nine_view.specs.declared.place.Place.{Place}
-use Rattle.nine_view.specs.declared.refusal.Refusal.{Refusal}
+use Rattle.nine_view.specs.declared.request_error.RequestError.{RequestError}
 use Rattle.nine_view.specs.Answers.{Answer, of_fid, to_names, to_walk, unopened}
 use Rattle.nine_view.specs.Failures.{failure_words}
 use Rattle.nine_view.specs.Handling.{Handles, Says}
-use Rattle.nine_view.specs.Known.{Known, IsRight, IsWay, limit, with_fid}
-use Rattle.nine_view.specs.Refusals.{words_of}
+use Rattle.nine_view.specs.Known.{ViewState, IsRightView, IsWay, limit, with_fid}
+use Rattle.nine_view.specs.Refusals.{refusal_words}
 use Rattle.nine_view.specs.Walking.{EndsShort, MayWalk}
 use Rattle.nine_view.specs.Walks.{Walks, IsLost}
 use Rattle.nine_view.proofs.Handled.{no_memory, refused_so, sets_handles}
@@ -25,12 +25,12 @@ use Rattle.nine_view.proofs.Keeping.{right_with}
 use Rattle.nine_view.proofs.Steps.{a_walk, way_on}
 
 module _ {S W : Type 0} (does : S → Call → S → Type 0) (holds : S → Maps → Type 0)
-    (score_of : List ℕ → List ℕ) (s s' : S) (tag : ℕ) (known : Known) (out : List ℕ)
+    (score_of : List ℕ → List ℕ) (s s' : S) (tag : ℕ) (known : ViewState) (out : List ℕ)
     (newfid : ℕ) (from : Place)
   where
     -- the archive failed on the way
     pub walk_failed : (words : List (List ℕ)) (bad : VacBad) → words ≢ []
-        → Reads {X = W} does holds score_of s s' (Err bad)
+        → ReadsArchive {X = W} does holds score_of s s' (Err bad)
         (λ map. bad ≢ NoMemory → IsLost map (Ok from) words bad)
         → Handles does holds score_of s s' tag known known out (Err (Failed bad))
         (to_names newfid from words)
@@ -49,7 +49,7 @@ module _ {S W : Type 0} (does : S → Call → S → Type 0) (holds : S → Maps
 
     -- memory was short behind it
     pub walk_unset : (words : List (List ℕ)) (w : W) (P : BlockMap → Type 0) → words ≢ []
-        → Reads does holds score_of s s' (Ok w) P
+        → ReadsArchive does holds score_of s s' (Ok w) P
         → Handles does holds score_of s s' tag known known out (Err (Failed NoMemory))
         (to_names newfid from words)
     walk_unset [] w P some reads = absurd (some refl)
@@ -66,14 +66,14 @@ module _ {S W : Type 0} (does : S → Call → S → Type 0) (holds : S → Maps
     }
 
     -- the first name leads nowhere
-    pub walk_refused : (words : List (List ℕ)) (w : W) (why : Refusal) → words ≢ []
-        → Reads does holds score_of s s' (Ok w)
+    pub walk_refused : (words : List (List ℕ)) (w : W) (why : RequestError) → words ≢ []
+        → ReadsArchive does holds score_of s s' (Ok w)
         (λ map. Walks map (Ok from) words (a_walk [] (Err why)))
         → Handles does holds score_of s s' tag known known out (Err (Refused why))
         (to_names newfid from words)
     walk_refused [] w why some reads = absurd (some refl)
     walk_refused (name ∷ names) w why some reads = record {
-      reply = r_error (words_of why);
+      reply = r_error (refusal_words why);
       says = refl;
       reads =
           reads_as does holds score_of s s' (Ok w) (Ok tt) _ _ refl reads
@@ -85,9 +85,9 @@ module _ {S W : Type 0} (does : S → Call → S → Type 0) (holds : S → Maps
     }
 
     -- a later one does
-    pub walk_short : (words : List (List ℕ)) (w : W) (qids : List Qid) (why : Refusal) (len : ℕ)
+    pub walk_short : (words : List (List ℕ)) (w : W) (qids : List Qid) (why : RequestError) (len : ℕ)
         → words ≢ [] → qids ≢ [] → Says tag (limit known) out len (r_walk qids)
-        → Reads does holds score_of s s' (Ok w)
+        → ReadsArchive does holds score_of s s' (Ok w)
         (λ map. Walks map (Ok from) words (a_walk qids (Err why)))
         → Handles does holds score_of s s' tag known known out (Ok len)
         (to_names newfid from words)
@@ -108,8 +108,8 @@ module _ {S W : Type 0} (does : S → Call → S → Type 0) (holds : S → Maps
     -- all of them lead on
     pub walk_set : (words : List (List ℕ)) (w : W) (qids : List Qid) (to : Place) (len : ℕ)
         → words ≢ [] → Says tag (limit known) out len (r_walk qids)
-        → ((map : BlockMap) → IsRight map known → IsWay map known.top from.node from.above)
-        → Reads does holds score_of s s' (Ok w)
+        → ((map : BlockMap) → IsRightView map known → IsWay map known.top from.node from.above)
+        → ReadsArchive does holds score_of s s' (Ok w)
         (λ map. Walks map (Ok from) words (a_walk qids (Ok to)))
         → Handles does holds score_of s s' tag known
         (record known { fids = with_fid newfid (unopened to) known.fids }) out (Ok len)
@@ -134,40 +134,40 @@ module _ {S W : Type 0} (does : S → Call → S → Type 0) (holds : S → Maps
     }
 
     -- all of them lead on, and the fid is set there, or memory is short for it
-    pub walk_ends : (words : List (List ℕ)) (w : W) (qids : List Qid) (to : Place) (new : Known)
-        (result : Result ℕ Denied) → words ≢ []
-        → ((map : BlockMap) → IsRight map known → IsWay map known.top from.node from.above)
-        → Reads does holds score_of s s' (Ok w)
+    pub walk_ends : (words : List (List ℕ)) (w : W) (qids : List Qid) (to : Place) (new : ViewState)
+        (result : Result ℕ AnswerError) → words ≢ []
+        → ((map : BlockMap) → IsRightView map known → IsWay map known.top from.node from.above)
+        → ReadsArchive does holds score_of s s' (Ok w)
         (λ map. Walks map (Ok from) words (a_walk qids (Ok to)))
         → OnOk result (new ≡ record known { fids = with_fid newfid (unopened to) known.fids })
         → IfOk result (λ len. Says tag (limit known) out len (r_walk qids))
         → IfErr result (λ denied. denied ≡ Failed NoMemory) → OnErr result (new ≡ known)
         → Handles does holds score_of s s' tag known new out result (to_names newfid from words)
     walk_ends words w qids to new (Ok len) some way reads set says err same =
-        subst (λ (k : Known). Handles does holds score_of s s' tag known k out (Ok len)
+        subst (λ (k : ViewState). Handles does holds score_of s s' tag known k out (Ok len)
         (to_names newfid from words)) (sym set)
         (walk_set words w qids to len some says way reads)
     walk_ends words w qids to new (Err denied) some way reads set says err same =
-        subst (λ (k : Known). Handles does holds score_of s s' tag known k out (Err denied)
+        subst (λ (k : ViewState). Handles does holds score_of s s' tag known k out (Err denied)
         (to_names newfid from words)) (sym same)
-        (subst (λ (d : Denied). Handles does holds score_of s s' tag known known out (Err d)
+        (subst (λ (d : AnswerError). Handles does holds score_of s s' tag known known out (Err d)
         (to_names newfid from words)) (sym err)
         (walk_unset words w _ some reads))
 
     -- a name leads nowhere
-    pub walk_stops : (words : List (List ℕ)) (w : W) (qids : List Qid) (why : Refusal)
-        (result : Result ℕ Denied) → words ≢ []
+    pub walk_stops : (words : List (List ℕ)) (w : W) (qids : List Qid) (why : RequestError)
+        (result : Result ℕ AnswerError) → words ≢ []
         → EndsShort tag (limit known) out result qids why
-        → Reads does holds score_of s s' (Ok w)
+        → ReadsArchive does holds score_of s s' (Ok w)
         (λ map. Walks map (Ok from) words (a_walk qids (Err why)))
         → Handles does holds score_of s s' tag known known out result (to_names newfid from words)
     walk_stops words w qids why (Ok len) some ends reads =
         walk_short words w qids why len some ends.0 ends.1 reads
     walk_stops words w qids why (Err denied) some ends reads =
-        subst (λ (d : Denied). Handles does holds score_of s s' tag known known out (Err d)
+        subst (λ (d : AnswerError). Handles does holds score_of s s' tag known known out (Err d)
         (to_names newfid from words)) (sym ends.1)
         (walk_refused words w why some
-        (subst (λ (l : List Qid). Reads does holds score_of s s' (Ok w)
+        (subst (λ (l : List Qid). ReadsArchive does holds score_of s s' (Ok w)
         (λ map. Walks map (Ok from) words (a_walk l (Err why)))) ends.0 reads))
 
 pub no_names : (words : List (List ℕ)) → (length words == 0) ≡ true → words ≡ []
@@ -181,17 +181,17 @@ some_names words some = λ is. eqb-false (length words) 0 some (ap (λ (l : List
 -- ---- walks that ask for no block
 
 module _ {S : Type 0} (does : S → Call → S → Type 0) (holds : S → Maps → Type 0)
-    (score_of : List ℕ → List ℕ) (s : S) (tag : ℕ) (known : Known) (out : List ℕ) (newfid : ℕ)
+    (score_of : List ℕ → List ℕ) (s : S) (tag : ℕ) (known : ViewState) (out : List ℕ) (newfid : ℕ)
   where
     -- a walk without names sets a fid at the same place
-    pub walk_still : (from : Place) (new : Known) (result : Result ℕ Denied)
-        → ((map : BlockMap) → IsRight map known → IsWay map known.top from.node from.above)
+    pub walk_still : (from : Place) (new : ViewState) (result : Result ℕ AnswerError)
+        → ((map : BlockMap) → IsRightView map known → IsWay map known.top from.node from.above)
         → OnOk result (new ≡ record known { fids = with_fid newfid (unopened from) known.fids })
         → IfOk result (λ len. Says tag (limit known) out len (r_walk []))
         → IfErr result (λ denied. denied ≡ Failed NoMemory) → OnErr result (new ≡ known)
         → Handles does holds score_of s s tag known new out result (to_names newfid from [])
     walk_still from new (Ok len) way set says err same =
-        subst (λ (k : Known). Handles does holds score_of s s tag known k out (Ok len)
+        subst (λ (k : ViewState). Handles does holds score_of s s tag known k out (Ok len)
         (to_names newfid from [])) (sym set)
         (sets_handles does holds score_of s tag known _ out (Ok len) newfid (unopened from) (r_walk [])
         (record {
@@ -202,9 +202,9 @@ module _ {S : Type 0} (does : S → Call → S → Type 0) (holds : S → Maps �
               (record { way = way map right; files = tt });
         }))
     walk_still from new (Err denied) way set says err same =
-        subst (λ (k : Known). Handles does holds score_of s s tag known k out (Err denied)
+        subst (λ (k : ViewState). Handles does holds score_of s s tag known k out (Err denied)
         (to_names newfid from [])) (sym same)
-        (subst (λ (d : Denied). Handles does holds score_of s s tag known known out (Err d)
+        (subst (λ (d : AnswerError). Handles does holds score_of s s tag known known out (Err d)
         (to_names newfid from [])) (sym err)
         (no_memory does holds score_of s tag known out _ (λ never. never) tt))
 
@@ -216,7 +216,7 @@ module _ {S : Type 0} (does : S → Call → S → Type 0) (holds : S → Maps �
         no_memory does holds score_of s tag known out _ (λ never. never) tt
 
     -- it may not begin
-    pub walk_unbegun : (fid : ℕ) (words : List (List ℕ)) (denied : Denied)
+    pub walk_unbegun : (fid : ℕ) (words : List (List ℕ)) (denied : AnswerError)
         → MayWalk known fid newfid (length words) (Err denied)
         → Handles does holds score_of s s tag known known out (Err denied)
         (of_fid known fid (to_walk known fid newfid words))

@@ -6,9 +6,9 @@ use Rattle.std.proofs.lemmas.List.{length-map, map-append}
 use Rattle.vt_tree.proofs.Appending.{all_join}
 use Rattle.nine_wire.specs.declared.stat.Qid as wire
 use Rattle.nine_wire.specs.Messages.{Qid}
-use Rattle.nine_wire.specs.Views.{qid_of as wire_qid}
+use Rattle.nine_wire.specs.Views.{wire_qid}
 use Rattle.nine_view.specs.declared.place.Place.{Place}
-use Rattle.nine_view.specs.declared.refusal.Refusal.{Refusal}
+use Rattle.nine_view.specs.declared.request_error.RequestError.{RequestError}
 use Rattle.nine_view.specs.Files.{qid_of}
 use Rattle.nine_view.specs.Walking.{AreQids}
 use Rattle.nine_view.proofs.Steps.{qids_at}
@@ -45,31 +45,31 @@ module _ {X : Type 0} (left : Option X) (here : X → List ℕ) (others : X → 
 
 -- ---- the qids so far
 
-not_reached : (end : Result Place Refusal) → ((at : Place) → end ≡ Ok at → ⊥) → qids_at end ≡ []
+not_reached : (end : Result Place RequestError) → ((at : Place) → end ≡ Ok at → ⊥) → qids_at end ≡ []
 not_reached (Ok at) none = absurd (none at refl)
 not_reached (Err why) none = refl
 
-pub one_more : (old new : List wire.Qid) (q : wire.Qid) (end : Result Place Refusal) (at : Place)
+pub one_more : (old new : List wire.Qid) (q : wire.Qid) (end : Result Place RequestError) (at : Place)
     → new ≡ old ++ q ∷ [] → wire_qid q ≡ qid_of at.node → end ≡ Ok at
     → map wire_qid new ≡ map wire_qid old ++ qids_at end
 one_more old new q end at more is reached =
     ap (λ (l : List wire.Qid). map wire_qid l) more
     ∙ map-append wire_qid old (q ∷ [])
     ∙ ap (λ (x : Qid). map wire_qid old ++ x ∷ []) is
-    ∙ ap (λ (e : Result Place Refusal). map wire_qid old ++ qids_at e) (sym reached)
+    ∙ ap (λ (e : Result Place RequestError). map wire_qid old ++ qids_at e) (sym reached)
 
-pub no_more : (old new : List wire.Qid) (end : Result Place Refusal) → new ≡ old
+pub no_more : (old new : List wire.Qid) (end : Result Place RequestError) → new ≡ old
     → ((at : Place) → end ≡ Ok at → ⊥) → map wire_qid new ≡ map wire_qid old ++ qids_at end
 no_more old new end same none =
     ap (λ (l : List wire.Qid). map wire_qid l) same
     ∙ sym (append-nil (map wire_qid old))
     ∙ ap (λ (l : List Qid). map wire_qid old ++ l) (sym (not_reached end none))
 
-at_few : (end : Result Place Refusal) → length (qids_at end) ≤ 1
+at_few : (end : Result Place RequestError) → length (qids_at end) ≤ 1
 at_few (Ok at) = omega arith
 at_few (Err why) = omega arith
 
-pub few_more : (old new : List wire.Qid) (end : Result Place Refusal) (front : List (List ℕ))
+pub few_more : (old new : List wire.Qid) (end : Result Place RequestError) (front : List (List ℕ))
     (name : List ℕ) → map wire_qid new ≡ map wire_qid old ++ qids_at end
     → length old ≤ length front → length new ≤ length (front ++ name ∷ [])
 few_more old new end front name same few =
@@ -82,18 +82,18 @@ few_more old new end front name same few =
     omega arith
 
 -- the numbers of the files that are reached have room
-pub path_at : (end : Result Place Refusal) (at : Place) → end ≡ Ok at → at.node.qid < 2 ^ 64
+pub path_at : (end : Result Place RequestError) (at : Place) → end ≡ Ok at → at.node.qid < 2 ^ 64
     → AllByRecursion (λ q. q.path < 2 ^ 64) (qids_at end)
 path_at end at reached small =
-    subst (λ (e : Result Place Refusal). AllByRecursion (λ q. q.path < 2 ^ 64) (qids_at e))
+    subst (λ (e : Result Place RequestError). AllByRecursion (λ q. q.path < 2 ^ 64) (qids_at e))
     (sym reached) (small, tt)
 
-pub no_path : (end : Result Place Refusal) → ((at : Place) → end ≡ Ok at → ⊥)
+pub no_path : (end : Result Place RequestError) → ((at : Place) → end ≡ Ok at → ⊥)
     → AllByRecursion (λ q. q.path < 2 ^ 64) (qids_at end)
 no_path end none =
     subst (λ (l : List Qid). AllByRecursion (λ q. q.path < 2 ^ 64) l) (sym (not_reached end none)) tt
 
-pub paths_more : (old new : List wire.Qid) (end : Result Place Refusal)
+pub paths_more : (old new : List wire.Qid) (end : Result Place RequestError)
     → map wire_qid new ≡ map wire_qid old ++ qids_at end → AreQids old
     → AllByRecursion (λ q. q.path < 2 ^ 64) (qids_at end) → AreQids new
 paths_more old new end same all last =

@@ -1,18 +1,18 @@
 -- The texts of errors have room.
 use Rattle.std.proofs.Common.{◌≡◌, ◌+◌, ◌-◌, ◌≤◌, ℕ, List, length, take, sym, subst, arith, length-take}
-use Rattle.vt_tree.specs.declared.err.BlockErr.TheVariants as blocks
-use Rattle.vt_tree.specs.declared.err.TreeErr.TheVariants as trees
-use Rattle.vac_read.specs.declared.err.VacBad.{VacBad}
-use Rattle.vac_read.specs.declared.err.VacBad.TheVariants.{Tree, Root, Meta, NoMemory}
-use Rattle.nine_wire.specs.Frames.{spelled}
+use Rattle.vt_tree.specs.declared.error.BlockErr.TheVariants as blocks
+use Rattle.vt_tree.specs.declared.error.TreeErr.TheVariants as trees
+use Rattle.vac_read.specs.declared.error.VacBad.{VacBad}
+use Rattle.vac_read.specs.declared.error.VacBad.TheVariants.{Tree, Root, Meta, NoMemory}
+use Rattle.nine_wire.specs.Frames.{spelled_reply}
 use Rattle.nine_wire.specs.Messages.{IsString, RMessage, r_error}
-use Rattle.nine_view.specs.declared.refusal.Refusal.{Refusal}
-use Rattle.nine_view.specs.declared.refusal.Refusal.TheVariants.{UnknownMessage, BadMessage, VersionExpected, SmallSize, NoAuthentication, BadFid, FidInUse, TooManyFids, UnknownFid, ReadOnly, TooManyNames, FidIsOpen, NoDirectory, NoFile, FidNotOpen, BadOffset, SmallCount}
+use Rattle.nine_view.specs.declared.request_error.RequestError.{RequestError}
+use Rattle.nine_view.specs.declared.request_error.RequestError.TheVariants.{UnknownMessage, BadMessage, VersionExpected, SmallSize, NoAuthentication, BadFid, FidInUse, TooManyFids, UnknownFid, ReadOnly, TooManyNames, FidIsOpen, NoDirectory, NoFile, FidNotOpen, BadOffset, SmallCount}
 use Rattle.nine_view.specs.Failures.{failure_words}
 use Rattle.nine_view.specs.Handling.{Says}
-use Rattle.nine_view.specs.Refusals.{words_of}
+use Rattle.nine_view.specs.Refusals.{refusal_words}
 
-words_short : (why : Refusal) → length (words_of why) ≤ 100
+words_short : (why : RequestError) → length (refusal_words why) ≤ 100
 words_short UnknownMessage = omega arith
 words_short BadMessage = omega arith
 words_short VersionExpected = omega arith
@@ -58,17 +58,17 @@ module _ (tag limit : ℕ) (text wanted : List ℕ) (is : text ≡ wanted)
     pub error_fits : IsString text
     error_fits = let few = text_short in omega arith
 
-    pub error_room : length (spelled tag (r_error text)) ≤ limit
+    pub error_room : length (spelled_reply tag (r_error text)) ≤ limit
     error_room = let few = text_short in omega arith
 
-    pub error_said : (len : ℕ) (out : List ℕ) → take len out ≡ spelled tag (r_error text)
-        → len ≡ length (spelled tag (r_error text)) → Says tag limit out len (r_error wanted)
+    pub error_said : (len : ℕ) (out : List ℕ) → take len out ≡ spelled_reply tag (r_error text)
+        → len ≡ length (spelled_reply tag (r_error text)) → Says tag limit out len (r_error wanted)
     error_said len out written len_is =
         let room = error_room in
         subst (λ (l : List ℕ). Says tag limit out len (r_error l)) is
         (record { fits = error_fits; is = written; len_is = len_is; short = omega arith })
 
-pub refusal_room : (why : Refusal) → length (words_of why) + 9 ≤ 256
+pub refusal_room : (why : RequestError) → length (refusal_words why) + 9 ≤ 256
 refusal_room why = let few = words_short why in omega arith
 
 pub failure_room : (limit : ℕ) (bad : VacBad) → 256 ≤ limit

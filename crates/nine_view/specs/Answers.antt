@@ -9,17 +9,17 @@ use Rattle.vac_read.specs.declared.node.Node.{Node}
 use Rattle.vac_read.specs.declared.node.Stored.{Stored}
 use Rattle.vac_read.specs.declared.node.Stored.TheVariants as stored
 use Rattle.nine_wire.specs.declared.TheConstants.{NO_FID}
-use Rattle.nine_wire.specs.Frames.{spelled}
+use Rattle.nine_wire.specs.Frames.{spelled_reply}
 use Rattle.nine_wire.specs.Messages.{TMessage, t_version, t_auth, t_attach, t_flush, t_walk, t_open, t_create, t_read, t_write, t_clunk, t_remove, t_stat, t_wstat, RMessage, r_version, r_attach, r_flush, r_walk, r_open, r_read, r_clunk, r_stat, r_error}
 use Rattle.nine_view.specs.declared.TheConstants.{MIN_MESSAGE, MAX_MESSAGE, MAX_FIDS, MAX_NAMES}
 use Rattle.nine_view.specs.declared.fid.Fid.{Fid}
 use Rattle.nine_view.specs.declared.fid.Reading.{Reading}
 use Rattle.nine_view.specs.declared.place.Place.{Place}
-use Rattle.nine_view.specs.declared.refusal.Refusal.{Refusal}
-use Rattle.nine_view.specs.declared.refusal.Refusal.TheVariants.{UnknownMessage, BadMessage, VersionExpected, SmallSize, NoAuthentication, BadFid, FidInUse, TooManyFids, UnknownFid, ReadOnly, TooManyNames, FidIsOpen, FidNotOpen, BadOffset, SmallCount}
+use Rattle.nine_view.specs.declared.request_error.RequestError.{RequestError}
+use Rattle.nine_view.specs.declared.request_error.RequestError.TheVariants.{UnknownMessage, BadMessage, VersionExpected, SmallSize, NoAuthentication, BadFid, FidInUse, TooManyFids, UnknownFid, ReadOnly, TooManyNames, FidIsOpen, FidNotOpen, BadOffset, SmallCount}
 use Rattle.nine_view.specs.Files.{is_folder, qid_of, stat_of, stat_in}
-use Rattle.nine_view.specs.Known.{Known, fid_at, is_known, with_fid, without_fid}
-use Rattle.nine_view.specs.Refusals.{words_of}
+use Rattle.nine_view.specs.Known.{ViewState, fid_at, is_known, with_fid, without_fid}
+use Rattle.nine_view.specs.Refusals.{refusal_words}
 
 -- what a whole message comes to: no request has its type, its parameters don't fill it, or it asks
 -- something
@@ -29,14 +29,14 @@ pub data Asked : Type 0 where
   request : TMessage → Asked
 
 -- a reply, and what is known behind it
-pub record Outcome : Type 0 where
+pub record ViewOutcome : Type 0 where
   pub reply : RMessage
-  pub known : Known
+  pub known : ViewState
 
 -- what a request comes to
 pub data Answer : Type 0 where
   -- this, whatever the archive has
-  settled : Outcome → Answer
+  settled : ViewOutcome → Answer
   -- a fid is set, for which memory is needed
   sets : (fid : ℕ) → Fid → RMessage → Answer
   -- the fid is set where these names lead
@@ -48,19 +48,19 @@ pub data Answer : Type 0 where
 
 -- ---- outcomes
 
-abbrev pub stays : Known → RMessage → Outcome
+abbrev pub stays : ViewState → RMessage → ViewOutcome
 stays known reply = record { reply = reply; known = known }
 
-abbrev pub refuses : Known → Refusal → Outcome
-refuses known why = stays known (r_error (words_of why))
+abbrev pub refuses : ViewState → RequestError → ViewOutcome
+refuses known why = stays known (r_error (refusal_words why))
 
-abbrev pub refused : Known → Refusal → Answer
-refused known why = settled (refuses known why)
+abbrev pub refused_answer : ViewState → RequestError → Answer
+refused_answer known why = settled (refuses known why)
 
-abbrev pub with_known : Known → List (ℕ × Fid) → RMessage → Outcome
+abbrev pub with_known : ViewState → List (ℕ × Fid) → RMessage → ViewOutcome
 with_known known fids reply = stays (record known { fids = fids }) reply
 
-abbrev pub sets_fid : Known → (fid : ℕ) → Fid → RMessage → Outcome
+abbrev pub sets_fid : ViewState → (fid : ℕ) → Fid → RMessage → ViewOutcome
 sets_fid known fid f reply = with_known known (with_fid fid f known.fids) reply
 
 -- a fid that was set now
@@ -74,7 +74,7 @@ abbrev pub is_ours : List ℕ → Bool
 is_ours version = bytes_eq (before_first (λ b. b == 46) version) (codes "9P2000")
 
 -- all fids go, and where the version is another, none is agreed
-abbrev pub to_version : Known → (msize : ℕ) → (version : List ℕ) → Outcome
+abbrev pub to_version : ViewState → (msize : ℕ) → (version : List ℕ) → ViewOutcome
 to_version known msize version =
     let least = min msize MAX_MESSAGE in
     if nat_lt msize MIN_MESSAGE then refuses known SmallSize
@@ -90,12 +90,12 @@ to_version known msize version =
 
 -- ---- attach(5)
 
-abbrev pub to_attach : Known → (fid afid : ℕ) → Answer
+abbrev pub to_attach : ViewState → (fid afid : ℕ) → Answer
 to_attach known fid afid =
-    if not (afid == NO_FID) then refused known NoAuthentication
-    else if fid == NO_FID then refused known BadFid
-    else if is_known fid known.fids then refused known FidInUse
-    else if nat_le MAX_FIDS (length known.fids) then refused known TooManyFids
+    if not (afid == NO_FID) then refused_answer known NoAuthentication
+    else if fid == NO_FID then refused_answer known BadFid
+    else if is_known fid known.fids then refused_answer known FidInUse
+    else if nat_le MAX_FIDS (length known.fids) then refused_answer known TooManyFids
     else sets fid (unopened (record { node = known.top; above = [] })) (r_attach (qid_of known.top))
 
 -- ---- walk(5)
@@ -105,14 +105,14 @@ abbrev pub to_names : (newfid : ℕ) → Place → (names : List (List ℕ)) →
 to_names newfid at [] = sets newfid (unopened at) (r_walk [])
 to_names newfid at (name ∷ names) = walks newfid at (name ∷ names)
 
-abbrev pub to_walk : Known → (fid newfid : ℕ) → (names : List (List ℕ)) → Fid → Answer
+abbrev pub to_walk : ViewState → (fid newfid : ℕ) → (names : List (List ℕ)) → Fid → Answer
 to_walk known fid newfid names f =
     let is_new = not (is_known newfid known.fids) in
-    if nat_lt MAX_NAMES (length names) then refused known TooManyNames
-    else if is_some f.reading then refused known FidIsOpen
-    else if newfid == NO_FID then refused known BadFid
-    else if not is_new && not (newfid == fid) then refused known FidInUse
-    else if is_new && nat_le MAX_FIDS (length known.fids) then refused known TooManyFids
+    if nat_lt MAX_NAMES (length names) then refused_answer known TooManyNames
+    else if is_some f.reading then refused_answer known FidIsOpen
+    else if newfid == NO_FID then refused_answer known BadFid
+    else if not is_new && not (newfid == fid) then refused_answer known FidInUse
+    else if is_new && nat_le MAX_FIDS (length known.fids) then refused_answer known TooManyFids
     else to_names newfid (record { node = f.node; above = f.above }) names
 
 -- ---- open(5)
@@ -129,7 +129,7 @@ iounit msize = msize - 24
 abbrev pub unread : Reading
 unread = record { next = 0; offset = 0 }
 
-abbrev pub to_open : Known → (msize fid mode : ℕ) → Fid → Outcome
+abbrev pub to_open : ViewState → (msize fid mode : ℕ) → Fid → ViewOutcome
 to_open known msize fid mode f =
     if is_some f.reading then refuses known FidIsOpen
     else if not (may_open f.node.stored mode) then refuses known ReadOnly
@@ -151,55 +151,58 @@ first_file reading offset = if offset == 0 then 0 else reading.next
 
 -- A folder of these files tells of as many as have room. Where there are more and not one has, the
 -- count is too small; it isn't at the end.
-abbrev pub reads_files : Known → (fid : ℕ) → Fid → Reading → (offset room : ℕ) → List Node → Outcome
+abbrev pub reads_files : ViewState → (fid : ℕ) → Fid → Reading → (offset room : ℕ) → List Node
+    → ViewOutcome
 reads_files known fid f reading offset room files =
     let first = first_file reading offset in
     let told = fitting room (drop first files) in
     let bytes = flat_map stat_in told in
     if length told == 0 && nat_lt first (length files)
-    then sets_fid known fid (record f { files = Some files }) (r_error (words_of SmallCount))
+    then sets_fid known fid (record f { files = Some files }) (r_error (refusal_words SmallCount))
     else sets_fid known fid (record f {
       files = Some files;
       reading = Some (record { next = first + length told; offset = offset + length bytes });
     }) (r_read bytes)
 
 -- the files of an open folder are kept
-abbrev pub to_folder : Known → (fid : ℕ) → Fid → Reading → (offset room : ℕ) → Option (List Node)
+abbrev pub to_folder : ViewState → (fid : ℕ) → Fid → Reading → (offset room : ℕ)
+    → Option (List Node)
     → Answer
 to_folder known fid f reading offset room None = reads_folder fid f reading offset room
 to_folder known fid f reading offset room (Some files) =
     settled (reads_files known fid f reading offset room files)
 
 -- a folder is read from its start, or from where the last read ended
-abbrev pub to_stored : Known → (fid : ℕ) → Fid → Reading → (offset room : ℕ) → Stored → Answer
+abbrev pub to_stored : ViewState → (fid : ℕ) → Fid → Reading → (offset room : ℕ) → Stored → Answer
 to_stored known fid f reading offset room (stored.File e) = reads_file e offset room
 to_stored known fid f reading offset room (stored.Folder entries metadata) =
-    if not (offset == 0) && not (offset == reading.offset) then refused known BadOffset
+    if not (offset == 0) && not (offset == reading.offset) then refused_answer known BadOffset
     else to_folder known fid f reading offset room f.files
 
-abbrev pub to_read : Known → (fid offset room : ℕ) → Fid → Option Reading → Answer
-to_read known fid offset room f None = refused known FidNotOpen
+abbrev pub to_read : ViewState → (fid offset room : ℕ) → Fid → Option Reading → Answer
+to_read known fid offset room f None = refused_answer known FidNotOpen
 to_read known fid offset room f (Some reading) =
     to_stored known fid f reading offset room f.node.stored
 
 -- ---- stat(5)
 
-abbrev pub to_stat : Known → (msize : ℕ) → Fid → Outcome
+abbrev pub to_stat : ViewState → (msize : ℕ) → Fid → ViewOutcome
 to_stat known msize f =
     let reply = r_stat (stat_of f.node) in
-    if nat_lt msize (length (spelled 0 reply)) then refuses known SmallCount
+    if nat_lt msize (length (spelled_reply 0 reply)) then refuses known SmallCount
     else stays known reply
 
 -- ---- all requests
 
 -- the answer to a request of a fid, which must be known
-abbrev pub of_fid : Known → (fid : ℕ) → (Fid → Answer) → Answer
-of_fid known fid answer = option_map_or answer (fid_at fid known.fids) (refused known UnknownFid)
+abbrev pub of_fid : ViewState → (fid : ℕ) → (Fid → Answer) → Answer
+of_fid known fid answer =
+    option_map_or answer (fid_at fid known.fids) (refused_answer known UnknownFid)
 
 -- where a version is agreed
-abbrev pub answer_agreed : Known → (msize : ℕ) → TMessage → Answer
+abbrev pub answer_agreed : ViewState → (msize : ℕ) → TMessage → Answer
 answer_agreed known msize (t_version wanted version) = settled (to_version known wanted version)
-answer_agreed known msize (t_auth afid uname aname) = refused known NoAuthentication
+answer_agreed known msize (t_auth afid uname aname) = refused_answer known NoAuthentication
 answer_agreed known msize (t_attach fid afid uname aname) = to_attach known fid afid
 answer_agreed known msize (t_flush oldtag) = settled (stays known r_flush)
 answer_agreed known msize (t_walk fid newfid names) =
@@ -207,29 +210,29 @@ answer_agreed known msize (t_walk fid newfid names) =
 answer_agreed known msize (t_open fid mode) =
     of_fid known fid (λ f. settled (to_open known msize fid mode f))
 answer_agreed known msize (t_create fid name perm mode) =
-    of_fid known fid (λ f. refused known ReadOnly)
+    of_fid known fid (λ f. refused_answer known ReadOnly)
 answer_agreed known msize (t_read fid offset count) =
     of_fid known fid (λ f. to_read known fid offset (min count (iounit msize)) f f.reading)
 answer_agreed known msize (t_write fid offset bytes) =
-    of_fid known fid (λ f. refused known ReadOnly)
+    of_fid known fid (λ f. refused_answer known ReadOnly)
 answer_agreed known msize (t_clunk fid) =
     of_fid known fid (λ f. settled (with_known known (without_fid fid known.fids) r_clunk))
 answer_agreed known msize (t_remove fid) =
     of_fid known fid (λ f. settled
-    (with_known known (without_fid fid known.fids) (r_error (words_of ReadOnly))))
+    (with_known known (without_fid fid known.fids) (r_error (refusal_words ReadOnly))))
 answer_agreed known msize (t_stat fid) = of_fid known fid (λ f. settled (to_stat known msize f))
-answer_agreed known msize (t_wstat fid stat) = of_fid known fid (λ f. refused known ReadOnly)
+answer_agreed known msize (t_wstat fid stat) = of_fid known fid (λ f. refused_answer known ReadOnly)
 
 -- where none is agreed
-abbrev pub answer_first : Known → TMessage → Answer
+abbrev pub answer_first : ViewState → TMessage → Answer
 answer_first known (t_version wanted version) = settled (to_version known wanted version)
-answer_first known m = refused known VersionExpected
+answer_first known m = refused_answer known VersionExpected
 
-abbrev pub answer_request : Known → Option ℕ → TMessage → Answer
+abbrev pub answer_request : ViewState → Option ℕ → TMessage → Answer
 answer_request known None m = answer_first known m
 answer_request known (Some msize) m = answer_agreed known msize m
 
-abbrev pub answer_to : Known → Asked → Answer
-answer_to known unknown = refused known UnknownMessage
-answer_to known misspelled = refused known BadMessage
+abbrev pub answer_to : ViewState → Asked → Answer
+answer_to known unknown = refused_answer known UnknownMessage
+answer_to known misspelled = refused_answer known BadMessage
 answer_to known (request m) = answer_request known known.msize m

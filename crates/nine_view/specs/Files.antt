@@ -3,7 +3,7 @@ use Rattle.std.specs.Prelude.{ℕ, ◌+◌, Bool, true, false, if◌then◌else�
 use Rattle.vac_read.specs.declared.node.Node.{Node}
 use Rattle.vac_read.specs.declared.node.Stored.{Stored}
 use Rattle.vac_read.specs.declared.node.Stored.TheVariants as stored
-use Rattle.vac_read.specs.Nodes.{AreEntries, FitsItem}
+use Rattle.vac_read.specs.Nodes.{AreNodeEntries, FitsToldItem}
 use Rattle.nine_wire.specs.Messages.{Qid, Stat, stat_bytes}
 
 abbrev pub is_folder : Stored → Bool
@@ -34,6 +34,6 @@ abbrev pub stat_in : Node → List ℕ
 stat_in node = stat_bytes (stat_of node)
 
 -- what is told of it has room in a message, and its entries are those of a file or of a folder
-pub record IsTold (node : Node) : Type 0 where
-  pub item : FitsItem node.item
-  pub entries : AreEntries node.stored
+pub record FitsMessage (node : Node) : Type 0 where
+  pub item : FitsToldItem node.item
+  pub entries : AreNodeEntries node.stored

@@ -3,72 +3,74 @@ use Rattle.std.specs.Prelude.{ℕ, ◌≡◌, ◌≢◌, ◌≤◌, ◌+◌, ◌
 use Rattle.std.specs.List.{flat_map}
 use Rattle.vt_tree.specs.Calls.{Call}
 use Rattle.vt_tree.specs.Maps.{BlockMap, Maps}
-use Rattle.vac_read.specs.declared.err.VacBad.{VacBad}
-use Rattle.vac_read.specs.declared.err.VacBad.TheVariants.{NoMemory}
+use Rattle.vac_read.specs.declared.error.VacBad.{VacBad}
+use Rattle.vac_read.specs.declared.error.VacBad.TheVariants.{NoMemory}
 use Rattle.vac_read.specs.declared.node.Node.{Node}
 use Rattle.vac_read.specs.Broken.{IsBroken}
 use Rattle.vac_read.specs.Nodes.{Lists}
-use Rattle.vac_read.specs.Reading.{Reads}
-use Rattle.nine_wire.specs.Frames.{spelled}
+use Rattle.vac_read.specs.Reading.{ReadsArchive}
+use Rattle.nine_wire.specs.Frames.{spelled_reply}
 use Rattle.nine_wire.specs.Messages.{RMessage, r_error, FitsReply}
-use Rattle.nine_view.specs.declared.failure.Denied.{Denied}
+use Rattle.nine_view.specs.declared.error.AnswerError.{AnswerError}
 use Rattle.nine_view.specs.declared.fid.Fid.{Fid}
-use Rattle.nine_view.specs.declared.failure.Denied.TheVariants.{Refused, Failed}
+use Rattle.nine_view.specs.declared.error.AnswerError.TheVariants.{Refused, Failed}
 use Rattle.nine_view.specs.declared.fid.Reading.{Reading}
-use Rattle.nine_view.specs.declared.refusal.Refusal.{Refusal}
-use Rattle.nine_view.specs.declared.refusal.Refusal.TheVariants.{SmallCount}
-use Rattle.nine_view.specs.Answers.{Answer, settled, sets, Outcome, stays, sets_fid, first_file, fitting}
+use Rattle.nine_view.specs.declared.request_error.RequestError.{RequestError}
+use Rattle.nine_view.specs.declared.request_error.RequestError.TheVariants.{SmallCount}
+use Rattle.nine_view.specs.Answers.{Answer, settled, sets, ViewOutcome, stays, sets_fid, first_file, fitting}
 use Rattle.nine_view.specs.Failures.{failure_words}
 use Rattle.nine_view.specs.Files.{stat_in}
-use Rattle.nine_view.specs.Known.{Known, IsRight, fid_at, limit, with_fid}
-use Rattle.nine_view.specs.Refusals.{words_of}
-use Rattle.nine_view.specs.Replies.{IsReply, AsksForBytes, AsksNothing, NeverFails, failed, fails}
+use Rattle.nine_view.specs.Known.{ViewState, IsRightView, fid_at, limit, with_fid}
+use Rattle.nine_view.specs.Refusals.{refusal_words}
+use Rattle.nine_view.specs.Replies.{IsViewReply, AsksForBytes, AsksNoBlock, NeverFails, failed, fails}
 
 -- a reply stands in front of these bytes, which are so many
 pub record Says (tag limit : ℕ) (out : List ℕ) (len : ℕ) (reply : RMessage) : Type 0 where
   pub fits : FitsReply reply
-  pub is : take len out ≡ spelled tag reply
-  pub len_is : len ≡ length (spelled tag reply)
+  pub is : take len out ≡ spelled_reply tag reply
+  pub len_is : len ≡ length (spelled_reply tag reply)
   pub short : len ≤ limit
 
 -- the reply was said, or is an error that is still to be said
-abbrev pub SaysSo : (tag limit : ℕ) → (out : List ℕ) → Result ℕ Denied → RMessage → Type 0
+abbrev pub SaysSo : (tag limit : ℕ) → (out : List ℕ) → Result ℕ AnswerError → RMessage → Type 0
 SaysSo tag limit out (Ok len) reply = Says tag limit out len reply
-SaysSo tag limit out (Err (Refused why)) reply = reply ≡ r_error (words_of why)
+SaysSo tag limit out (Err (Refused why)) reply = reply ≡ r_error (refusal_words why)
 SaysSo tag limit out (Err (Failed bad)) reply = reply ≡ r_error (failure_words limit bad)
 
 -- why the archive failed, if it did
-abbrev pub failure_of : Result ℕ Denied → Option VacBad
-failure_of (Ok len) = None
-failure_of (Err (Refused why)) = None
-failure_of (Err (Failed bad)) = Some bad
+abbrev pub archive_failure : Result ℕ AnswerError → Option VacBad
+archive_failure (Ok len) = None
+archive_failure (Err (Refused why)) = None
+archive_failure (Err (Failed bad)) = Some bad
 
 -- what is settled was said, or is an error that is still to be said
-pub record Settles (tag : ℕ) (old new : Known) (out : List ℕ) (result : Result ℕ Denied)
-    (outcome : Outcome) : Type 0 where
+pub record SettlesRequest (tag : ℕ) (old new : ViewState) (out : List ℕ)
+    (result : Result ℕ AnswerError)
+    (outcome : ViewOutcome) : Type 0 where
   pub says : SaysSo tag (limit old) out result outcome.reply
   pub known : new ≡ outcome.known
-  pub whole : failure_of result ≡ None
-  pub right : (map : BlockMap) → IsRight map old → IsRight map new
+  pub whole : archive_failure result ≡ None
+  pub right : (map : BlockMap) → IsRightView map old → IsRightView map new
 
 -- a request was answered so
 pub record Handles {S : Type 0} (does : S → Call → S → Type 0) (holds : S → Maps → Type 0)
-    (score_of : List ℕ → List ℕ) (s s' : S) (tag : ℕ) (old new : Known) (out : List ℕ)
-    (result : Result ℕ Denied) (answer : Answer) : Type 0 where
+    (score_of : List ℕ → List ℕ) (s s' : S) (tag : ℕ) (old new : ViewState) (out : List ℕ)
+    (result : Result ℕ AnswerError) (answer : Answer) : Type 0 where
   pub reply : RMessage
   pub says : SaysSo tag (limit old) out result reply
-  pub reads : Reads does holds score_of s s' (failed (failure_of result))
-      (λ map. IsRight map old → IsRight map new
-      × IsReply map old answer (failure_of result) (record { reply = reply; known = new }))
+  pub reads : ReadsArchive does holds score_of s s' (failed (archive_failure result))
+      (λ map. IsRightView map old → IsRightView map new
+      × IsViewReply map old answer (archive_failure result) (record { reply = reply; known = new }))
   pub bytes : AsksForBytes does holds score_of s s' answer
-  pub still : AsksNothing answer → (s' ≡ s) × ((map : BlockMap)
-      → IsReply map old answer (failure_of result) (record { reply = reply; known = new }))
-  pub whole : NeverFails answer → failure_of result ≡ None
-  pub failed_so : IfSome (failure_of result) (λ bad. stays new reply ≡ fails old bad)
+  pub still : AsksNoBlock answer → (s' ≡ s) × ((map : BlockMap)
+      → IsViewReply map old answer (archive_failure result) (record { reply = reply; known = new }))
+  pub whole : NeverFails answer → archive_failure result ≡ None
+  pub failed_so : IfSome (archive_failure result) (λ bad. stays new reply ≡ fails old bad)
 
-abbrev pub SettlesSo : (tag : ℕ) → (old new : Known) → (out : List ℕ) → Result ℕ Denied → Answer
+abbrev pub SettlesSo : (tag : ℕ) → (old new : ViewState) → (out : List ℕ) → Result ℕ AnswerError
+    → Answer
     → Type 0
-SettlesSo tag old new out result (settled outcome) = Settles tag old new out result outcome
+SettlesSo tag old new out result (settled outcome) = SettlesRequest tag old new out result outcome
 SettlesSo tag old new out result answer = ⊥
 
 -- of the files of an open folder, those that the next read of it tells of
@@ -101,7 +103,7 @@ pub record TellsNext (fids : List (ℕ × Fid)) (fid offset room : ℕ) (buf : L
 
 -- what the next read tells was put into the buffer, or has no room there
 abbrev pub PutsNext : List (ℕ × Fid) → (fid offset room : ℕ) → (buf : List ℕ)
-    → Result (Reading × ℕ) Refusal → Type 0
+    → Result (Reading × ℕ) RequestError → Type 0
 PutsNext fids fid offset room buf (Ok put) = TellsNext fids fid offset room buf put.0 put.1
 PutsNext fids fid offset room buf (Err why) =
     (f : Fid) (reading : Reading) (files : List Node) → fid_at fid fids ≡ Some f
@@ -109,26 +111,27 @@ PutsNext fids fid offset room buf (Err why) =
     → (has_no_room reading files offset room ≡ true) × (why ≡ SmallCount)
 
 -- what the fid's setting came to, for which memory was there, or wasn't
-pub record Sets (tag : ℕ) (old new : Known) (out : List ℕ) (result : Result ℕ Denied)
-    (outcome : Outcome) : Type 0 where
+pub record SettlesFid (tag : ℕ) (old new : ViewState) (out : List ℕ) (result : Result ℕ AnswerError)
+    (outcome : ViewOutcome) : Type 0 where
   pub reply : RMessage
   pub says : SaysSo tag (limit old) out result reply
-  pub done : MatchOption (failure_of result)
+  pub done : MatchOption (archive_failure result)
       (record { reply = reply; known = new } ≡ outcome)
       (λ bad. (bad ≡ NoMemory) × (new ≡ old))
-  pub right : (map : BlockMap) → IsRight map old → IsRight map new
+  pub right : (map : BlockMap) → IsRightView map old → IsRightView map new
 
-abbrev pub SetsFid : (tag : ℕ) → (old new : Known) → (out : List ℕ) → Result ℕ Denied → Answer
+abbrev pub SetsFid : (tag : ℕ) → (old new : ViewState) → (out : List ℕ) → Result ℕ AnswerError
+    → Answer
     → Type 0
-SetsFid tag old new out result (settled outcome) = Settles tag old new out result outcome
+SetsFid tag old new out result (settled outcome) = SettlesRequest tag old new out result outcome
 SetsFid tag old new out result (sets fid f reply) =
-    Sets tag old new out result (sets_fid old fid f reply)
+    SettlesFid tag old new out result (sets_fid old fid f reply)
 SetsFid tag old new out result answer = ⊥
 
 -- The files of an open folder are kept, if they weren't: they were listed, unless the archive
 -- failed.
 abbrev pub KeepsFiles : {S : Type 0} → (does : S → Call → S → Type 0) → (holds : S → Maps → Type 0)
-    → (score_of : List ℕ → List ℕ) → (s s' : S) → (old new : Known) → (fid : ℕ) → Fid
+    → (score_of : List ℕ → List ℕ) → (s s' : S) → (old new : ViewState) → (fid : ℕ) → Fid
     → Result (Unit {0}) VacBad → Option (List Node) → Type 0
 KeepsFiles does holds score_of s s' old new fid f result (Some files) =
     (result ≡ Ok tt) × (s' ≡ s) × (new ≡ old)
@@ -137,9 +140,9 @@ KeepsFiles does holds score_of s s' old new fid f (Ok done) None =
     × (new ≡ record old {
       fids = with_fid fid (record f { files = Some files }) old.fids;
     })
-    × Reads {X = Unit {0}} does holds score_of s s' (Ok done)
+    × ReadsArchive {X = Unit {0}} does holds score_of s s' (Ok done)
     (λ map. Lists map f.node.stored files)
 KeepsFiles does holds score_of s s' old new fid f (Err bad) None =
     (new ≡ old)
-    × Reads {X = Unit {0}} does holds score_of s s' (Err bad)
+    × ReadsArchive {X = Unit {0}} does holds score_of s s' (Err bad)
     (λ map. bad ≢ NoMemory → IsBroken map f.node.stored bad)

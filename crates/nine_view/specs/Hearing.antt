@@ -24,7 +24,7 @@ LeavesNone (Ok done) left = Unit {0}
 LeavesNone (Err ended) left = IsAtEnd ended left
 
 -- these bytes were taken into a buffer
-pub record Fills (tells : Type 0) (given given' left' : List ℕ) (taken taken' : ℕ)
+pub record FillsBuffer (tells : Type 0) (given given' left' : List ℕ) (taken taken' : ℕ)
     (inside : Bool) (buffer : List ℕ) (result : Result (Unit {0}) Ended) : Type 0 where
   pub came : List ℕ
   pub given_is : tells → given' ≡ given ++ came
@@ -41,7 +41,7 @@ HearsSo (Err ended) limit taken buffer came =
     EndsSo ended limit taken came × GoesOut ended [] [] × (ended ≢ NoMemory)
 
 -- these bytes were taken: a message, or what ended it
-pub record Hears (tells : Type 0) (given given' left' : List ℕ) (limit taken taken' : ℕ)
+pub record HearsMessage (tells : Type 0) (given given' left' : List ℕ) (limit taken taken' : ℕ)
     (buffer : List ℕ) (result : Result ℕ Ended) : Type 0 where
   pub came : List ℕ
   pub given_is : tells → given' ≡ given ++ came

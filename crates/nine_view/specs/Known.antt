@@ -4,19 +4,19 @@ use Rattle.std.specs.List.{AllByRecursion}
 use Rattle.std.specs.Option.{option_map}
 use Rattle.vt_tree.specs.Maps.{BlockMap}
 use Rattle.vac_read.specs.declared.node.Node.{Node}
-use Rattle.vac_read.specs.Nodes.{Finds, Lists}
+use Rattle.vac_read.specs.Nodes.{FindsNode, Lists}
 use Rattle.nine_view.specs.declared.TheConstants.{MAX_MESSAGE}
 use Rattle.nine_view.specs.declared.fid.Fid.{Fid}
 
 -- the top folder; the agreed size of messages, where a version is agreed; and the fids that the
 -- client has set, each with its file
-pub record Known : Type 0 where
+pub record ViewState : Type 0 where
   pub top : Node
   pub msize : Option ℕ
   pub fids : List (ℕ × Fid)
 
 -- the most bytes that a message may have now
-abbrev pub limit : Known → ℕ
+abbrev pub limit : ViewState → ℕ
 limit known = unwrap_or known.msize MAX_MESSAGE
 
 -- ---- fids
@@ -42,7 +42,7 @@ without_fid fid (e ∷ fids) = if e.0 == fid then fids else e ∷ without_fid fi
 abbrev pub IsWay : BlockMap → (top node : Node) → (above : List Node) → Type 0
 IsWay map top node [] = node ≡ top
 IsWay map top node (up ∷ above) =
-    ((name : List ℕ) × Finds map up.stored name (Some node)) × IsWay map top up above
+    ((name : List ℕ) × FindsNode map up.stored name (Some node)) × IsWay map top up above
 
 -- the files that are kept of an open folder are those in it
 abbrev pub AreFiles : BlockMap → Node → Option (List Node) → Type 0
@@ -54,5 +54,5 @@ pub record IsRightFid (map : BlockMap) (top : Node) (f : Fid) : Type 0 where
   pub files : AreFiles map f.node f.files
 
 -- what a view knows of the files of its fids is what the archive has
-abbrev pub IsRight : BlockMap → Known → Type 0
-IsRight map known = AllByRecursion (λ e. IsRightFid map known.top e.1) known.fids
+abbrev pub IsRightView : BlockMap → ViewState → Type 0
+IsRightView map known = AllByRecursion (λ e. IsRightFid map known.top e.1) known.fids

@@ -1,23 +1,23 @@
 -- What the view says where it refuses a request (error(5)).
 use Rattle.std.specs.Prelude.{List, ℕ, codes}
-use Rattle.nine_view.specs.declared.refusal.Refusal.{Refusal}
-use Rattle.nine_view.specs.declared.refusal.Refusal.TheVariants.{UnknownMessage, BadMessage, VersionExpected, SmallSize, NoAuthentication, BadFid, FidInUse, TooManyFids, UnknownFid, ReadOnly, TooManyNames, FidIsOpen, NoDirectory, NoFile, FidNotOpen, BadOffset, SmallCount}
+use Rattle.nine_view.specs.declared.request_error.RequestError.{RequestError}
+use Rattle.nine_view.specs.declared.request_error.RequestError.TheVariants.{UnknownMessage, BadMessage, VersionExpected, SmallSize, NoAuthentication, BadFid, FidInUse, TooManyFids, UnknownFid, ReadOnly, TooManyNames, FidIsOpen, NoDirectory, NoFile, FidNotOpen, BadOffset, SmallCount}
 
-abbrev pub words_of : Refusal → List ℕ
-words_of UnknownMessage = codes "unknown message"
-words_of BadMessage = codes "bad message"
-words_of VersionExpected = codes "version expected"
-words_of SmallSize = codes "msize too small"
-words_of NoAuthentication = codes "no authentication"
-words_of BadFid = codes "bad fid"
-words_of FidInUse = codes "fid in use"
-words_of TooManyFids = codes "too many fids"
-words_of UnknownFid = codes "unknown fid"
-words_of ReadOnly = codes "read-only file system"
-words_of TooManyNames = codes "too many names"
-words_of FidIsOpen = codes "fid is open"
-words_of NoDirectory = codes "not a directory"
-words_of NoFile = codes "file does not exist"
-words_of FidNotOpen = codes "fid not open"
-words_of BadOffset = codes "bad offset"
-words_of SmallCount = codes "count too small"
+abbrev pub refusal_words : RequestError → List ℕ
+refusal_words UnknownMessage = codes "unknown message"
+refusal_words BadMessage = codes "bad message"
+refusal_words VersionExpected = codes "version expected"
+refusal_words SmallSize = codes "msize too small"
+refusal_words NoAuthentication = codes "no authentication"
+refusal_words BadFid = codes "bad fid"
+refusal_words FidInUse = codes "fid in use"
+refusal_words TooManyFids = codes "too many fids"
+refusal_words UnknownFid = codes "unknown fid"
+refusal_words ReadOnly = codes "read-only file system"
+refusal_words TooManyNames = codes "too many names"
+refusal_words FidIsOpen = codes "fid is open"
+refusal_words NoDirectory = codes "not a directory"
+refusal_words NoFile = codes "file does not exist"
+refusal_words FidNotOpen = codes "fid not open"
+refusal_words BadOffset = codes "bad offset"
+refusal_words SmallCount = codes "count too small"

@@ -3,38 +3,38 @@ use Rattle.std.specs.Prelude.{ℕ, ◌≡◌, ◌≢◌, ◌-◌, ◌≤◌, ⊤
 use Rattle.vt_tree.specs.Calls.{Call}
 use Rattle.vt_tree.specs.Content.{size_of, byte_of}
 use Rattle.vt_tree.specs.Maps.{BlockMap, Maps}
-use Rattle.vt_tree.specs.Reading.{Gives as GivesBytes}
-use Rattle.vac_read.specs.declared.err.VacBad.{VacBad}
-use Rattle.vac_read.specs.declared.err.VacBad.TheVariants.{NoMemory}
+use Rattle.vt_tree.specs.Reading.{GivesBytes}
+use Rattle.vac_read.specs.declared.error.VacBad.{VacBad}
+use Rattle.vac_read.specs.declared.error.VacBad.TheVariants.{NoMemory}
 use Rattle.vac_read.specs.declared.node.Node.{Node}
 use Rattle.vac_read.specs.Broken.{IsBroken, IsUnread}
 use Rattle.vac_read.specs.Nodes.{Lists}
-use Rattle.vac_read.specs.Reading.{Reads, ReadsFile}
-use Rattle.nine_wire.specs.Frames.{IsFrame, spelled}
+use Rattle.vac_read.specs.Reading.{ReadsArchive, ReadsFile}
+use Rattle.nine_wire.specs.Frames.{IsFrame, spelled_reply}
 use Rattle.nine_wire.specs.Messages.{TMessage, SpellsBody, is_request_type, FitsReply, RMessage, r_read, r_walk, r_error}
 use Rattle.nine_wire.specs.Messages.{Qid}
 use Rattle.nine_view.specs.declared.place.Place.{Place}
-use Rattle.nine_view.specs.declared.refusal.Refusal.{Refusal}
-use Rattle.nine_view.specs.Answers.{Asked, unknown, misspelled, request, Outcome, Answer, settled, sets, walks, reads_file, reads_folder, answer_to, stays, refuses, sets_fid, unopened, reads_files}
+use Rattle.nine_view.specs.declared.request_error.RequestError.{RequestError}
+use Rattle.nine_view.specs.Answers.{Asked, unknown, misspelled, request, ViewOutcome, Answer, settled, sets, walks, reads_file, reads_folder, answer_to, stays, refuses, sets_fid, unopened, reads_files}
 use Rattle.nine_view.specs.Failures.{failure_words}
-use Rattle.nine_view.specs.Known.{Known, IsRight, limit}
+use Rattle.nine_view.specs.Known.{ViewState, IsRightView, limit}
 use Rattle.nine_view.specs.Walks.{Walk, Walks, IsLost}
 
 -- ---- what is asked
 
 -- a type and its parameters come to this
-abbrev pub IsAsked : (type : ℕ) → (parameters : List ℕ) → Asked → Type 0
-IsAsked type parameters unknown = is_request_type type ≡ false
-IsAsked type parameters misspelled =
+abbrev pub ComesToRequest : (type : ℕ) → (parameters : List ℕ) → Asked → Type 0
+ComesToRequest type parameters unknown = is_request_type type ≡ false
+ComesToRequest type parameters misspelled =
     (is_request_type type ≡ true) × ((m : TMessage) → SpellsBody m type parameters → ⊥)
-IsAsked type parameters (request m) = SpellsBody m type parameters
+ComesToRequest type parameters (request m) = SpellsBody m type parameters
 
 -- the bytes are one whole message under this tag, and come to this
-pub record Comes (message : List ℕ) (tag : ℕ) (asked : Asked) : Type 0 where
+pub record MessageComes (message : List ℕ) (tag : ℕ) (asked : Asked) : Type 0 where
   pub type : ℕ
   pub parameters : List ℕ
   pub frame : IsFrame message type tag parameters
-  pub is : IsAsked type parameters asked
+  pub is : ComesToRequest type parameters asked
 
 -- the bytes are one whole message
 abbrev pub IsMessage : List ℕ → Type 0
@@ -44,25 +44,25 @@ IsMessage bytes = (type : ℕ) × (tag : ℕ) × (parameters : List ℕ) × IsFr
 
 -- where the names end, the fid is set; where the first of them leads nowhere that is an error, and
 -- where a later one does, the qids so far are told, and nothing is set
-abbrev pub walked : Known → (fid : ℕ) → List Qid → Result Place Refusal → Outcome
+abbrev pub walked : ViewState → (fid : ℕ) → List Qid → Result Place RequestError → ViewOutcome
 walked known fid qids (Ok at) = sets_fid known fid (unopened at) (r_walk qids)
 walked known fid [] (Err why) = refuses known why
 walked known fid (qid ∷ qids) (Err why) = stays known (r_walk (qid ∷ qids))
 
 -- so it is told that the archive failed, and nothing else changes
-abbrev pub fails : Known → VacBad → Outcome
+abbrev pub fails : ViewState → VacBad → ViewOutcome
 fails known bad = stays known (r_error (failure_words (limit known) bad))
 
 -- the outcome of an answer by what the archive has
-abbrev pub Gives : BlockMap → Known → Answer → Outcome → Type 0
-Gives map known (settled outcome) o = o ≡ outcome
-Gives map known (sets fid f reply) o = o ≡ sets_fid known fid f reply
-Gives map known (walks fid from names) o =
+abbrev pub GivesOutcome : BlockMap → ViewState → Answer → ViewOutcome → Type 0
+GivesOutcome map known (settled outcome) o = o ≡ outcome
+GivesOutcome map known (sets fid f reply) o = o ≡ sets_fid known fid f reply
+GivesOutcome map known (walks fid from names) o =
     (walk : Walk) × Walks map (Ok from) names walk × (o ≡ walked known fid walk.qids walk.end)
-Gives map known (reads_file e at n) o =
+GivesOutcome map known (reads_file e at n) o =
     (bytes : List ℕ) × GivesBytes (byte_of map e) at (min n (size_of e - at)) (Ok bytes)
     × (o ≡ stays known (r_read bytes))
-Gives map known (reads_folder fid f reading offset room) o =
+GivesOutcome map known (reads_folder fid f reading offset room) o =
     (files : List Node) × Lists map f.node.stored files
     × (o ≡ reads_files known fid f reading offset room files)
 
@@ -75,19 +75,20 @@ Lacks map (reads_file e at n) bad = IsUnread map e at (min n (size_of e - at)) b
 Lacks map (reads_folder fid f reading offset room) bad = IsBroken map f.node.stored bad
 
 -- the reply was this, by what the archive has, or it failed for this reason
-abbrev pub IsReply : BlockMap → Known → Answer → (failure : Option VacBad) → Outcome → Type 0
-IsReply map known answer None o = Gives map known answer o
-IsReply map known answer (Some bad) o = bad ≢ NoMemory → Lacks map answer bad
+abbrev pub IsViewReply : BlockMap → ViewState → Answer → (failure : Option VacBad) → ViewOutcome
+    → Type 0
+IsViewReply map known answer None o = GivesOutcome map known answer o
+IsViewReply map known answer (Some bad) o = bad ≢ NoMemory → Lacks map answer bad
 
 -- ---- whatever the archive has
 
 -- no block is asked for
-abbrev pub AsksNothing : Answer → Type 0
-AsksNothing (settled outcome) = ⊤
-AsksNothing (sets fid f reply) = ⊤
-AsksNothing (walks fid from names) = ⊥
-AsksNothing (reads_file e at n) = ⊥
-AsksNothing (reads_folder fid f reading offset room) = ⊥
+abbrev pub AsksNoBlock : Answer → Type 0
+AsksNoBlock (settled outcome) = ⊤
+AsksNoBlock (sets fid f reply) = ⊤
+AsksNoBlock (walks fid from names) = ⊥
+AsksNoBlock (reads_file e at n) = ⊥
+AsksNoBlock (reads_folder fid f reading offset room) = ⊥
 
 -- nothing fails
 abbrev pub NeverFails : Answer → Type 0
@@ -114,23 +115,23 @@ AsksForBytes does holds score_of s s' answer = ⊤
 -- what was known is right by it; and then what is known now is right too. Whatever the blocks are,
 -- the reply is one message under the message's tag, as short as agreed; what the view answers by
 -- itself is exact, without asking for a block; and a failure changes nothing.
-pub record Replies {S : Type 0} (does : S → Call → S → Type 0) (holds : S → Maps → Type 0)
-    (score_of : List ℕ → List ℕ) (s s' : S) (old new : Known) (message said : List ℕ)
+pub record AnswersMessage {S : Type 0} (does : S → Call → S → Type 0) (holds : S → Maps → Type 0)
+    (score_of : List ℕ → List ℕ) (s s' : S) (old new : ViewState) (message said : List ℕ)
     (failure : Option VacBad) : Type 0 where
   pub tag : ℕ
   pub asked : Asked
-  pub comes : Comes message tag asked
+  pub comes : MessageComes message tag asked
   pub reply : RMessage
   pub fits : FitsReply reply
-  pub said_is : said ≡ spelled tag reply
+  pub said_is : said ≡ spelled_reply tag reply
   pub short : length said ≤ limit old
-  pub reads : Reads does holds score_of s s' (failed failure)
-      (λ map. IsRight map old → IsRight map new
-      × IsReply map old (answer_to old asked) failure (record { reply = reply; known = new }))
+  pub reads : ReadsArchive does holds score_of s s' (failed failure)
+      (λ map. IsRightView map old → IsRightView map new
+      × IsViewReply map old (answer_to old asked) failure (record { reply = reply; known = new }))
   pub bytes : AsksForBytes does holds score_of s s' (answer_to old asked)
-  pub still : AsksNothing (answer_to old asked)
+  pub still : AsksNoBlock (answer_to old asked)
       → (s' ≡ s) × ((map : BlockMap)
-      → IsReply map old (answer_to old asked) failure (record { reply = reply; known = new }))
+      → IsViewReply map old (answer_to old asked) failure (record { reply = reply; known = new }))
   pub whole : NeverFails (answer_to old asked) → failure ≡ None
   pub failed_so : IfSome failure
       (λ bad. stays new reply ≡ fails old bad)

@@ -8,50 +8,52 @@ use Rattle.vt_base.specs.Faults.{HasRisen}
 use Rattle.vt_session.specs.Talk.{spent_len, EndsInLast}
 use Rattle.vt_tree.specs.Calls.{Call}
 use Rattle.vt_tree.specs.Maps.{Maps}
-use Rattle.vac_read.specs.declared.err.VacBad.{VacBad}
+use Rattle.vac_read.specs.declared.error.VacBad.{VacBad}
 use Rattle.nine_wire.specs.Frames.{head_len}
 use Rattle.nine_view.specs.declared.serving.Ended.{Ended}
 use Rattle.nine_view.specs.declared.serving.Ended.TheVariants.{Closed, Cut, Malformed, Spent, ReadFault, WriteFault, NoMemory}
-use Rattle.nine_view.specs.Known.{Known, limit}
-use Rattle.nine_view.specs.Replies.{Replies}
+use Rattle.nine_view.specs.Known.{ViewState, limit}
+use Rattle.nine_view.specs.Replies.{AnswersMessage}
 
 -- ---- messages
 
 -- a message that came in, its reply, what was known behind it, and why the archive failed, if it did
-pub record Turn : Type 0 where
+pub record MessageTurn : Type 0 where
   pub message : List ℕ
   pub said : List ℕ
-  pub known : Known
+  pub known : ViewState
   pub failure : Option VacBad
 
 -- the bytes that came in turns, and those that were said
-abbrev pub came_in : List Turn → List ℕ
+abbrev pub came_in : List MessageTurn → List ℕ
 came_in turns = flat_map (λ turn. turn.message) turns
 
-abbrev pub said_in : List Turn → List ℕ
+abbrev pub said_in : List MessageTurn → List ℕ
 said_in turns = flat_map (λ turn. turn.said) turns
 
 -- why the archive failed first, if it did
-abbrev pub first_failure : List Turn → Option VacBad
+abbrev pub first_failure : List MessageTurn → Option VacBad
 first_failure [] = None
 first_failure (turn ∷ turns) = option_or turn.failure (first_failure turns)
 
 -- the messages were answered one after another, each of them no longer than agreed, and nothing
 -- else was done
-abbrev pub Talks : {S : Type 0} → (does : S → Call → S → Type 0) → (holds : S → Maps → Type 0)
-    → (score_of : List ℕ → List ℕ) → (s : S) → Known → List Turn → (s' : S) → Known → Type 0
-Talks does holds score_of s known [] s' known' = (s' ≡ s) × (known' ≡ known)
-Talks {S} does holds score_of s known (turn ∷ turns) s' known' =
+abbrev pub AnswersInTurn : {S : Type 0} → (does : S → Call → S → Type 0)
+    → (holds : S → Maps → Type 0)
+    → (score_of : List ℕ → List ℕ) → (s : S) → ViewState → List MessageTurn → (s' : S) → ViewState
+    → Type 0
+AnswersInTurn does holds score_of s known [] s' known' = (s' ≡ s) × (known' ≡ known)
+AnswersInTurn {S} does holds score_of s known (turn ∷ turns) s' known' =
     (length turn.message ≤ limit known)
     × ((next : S)
-    × Replies does holds score_of s next known turn.known turn.message turn.said turn.failure
-    × Talks does holds score_of next turn.known turns s' known')
+    × AnswersMessage does holds score_of s next known turn.known turn.message turn.said turn.failure
+    × AnswersInTurn does holds score_of next turn.known turns s' known')
 
 -- ---- how it ends
 
 -- what the size field of a message says
-abbrev pub size_in : List ℕ → ℕ
-size_in bytes = little_number 4 bytes
+abbrev pub message_size : List ℕ → ℕ
+message_size bytes = little_number 4 bytes
 
 -- no message has this size, where so many bytes are the most
 abbrev pub IsNoSize : (limit size : ℕ) → Type 0
@@ -61,7 +63,8 @@ IsNoSize limit size = (size < head_len) ⊎ (limit < size)
 abbrev pub IsCutOff : (limit : ℕ) → List ℕ → Type 0
 IsCutOff limit rest =
     (length rest < 4)
-    ⊎ ((head_len ≤ size_in rest) × (size_in rest ≤ limit) × (length rest < size_in rest))
+    ⊎ ((head_len ≤ message_size rest) × (message_size rest ≤ limit)
+    × (length rest < message_size rest))
 
 -- Behind the last message these bytes were taken, of which the first stands at this place, and so
 -- it ended.
@@ -70,7 +73,7 @@ EndsSo Closed limit place rest = (rest ≡ []) × (place < spent_len)
 EndsSo Cut limit place rest =
     (rest ≢ []) × IsCutOff limit rest × (place + length rest < spent_len)
 EndsSo (Malformed at) limit place rest =
-    (at ≡ place) × (length rest ≡ 4) × IsNoSize limit (size_in rest)
+    (at ≡ place) × (length rest ≡ 4) × IsNoSize limit (message_size rest)
 -- as many bytes were taken as may be
 EndsSo Spent limit place rest = IsCutOff limit rest × (place + length rest ≡ spent_len)
 EndsSo ReadFault limit place rest = IsCutOff limit rest × (place + length rest < spent_len)
@@ -80,7 +83,7 @@ EndsSo WriteFault limit place rest = rest ≡ []
 EndsSo NoMemory limit place rest = (rest ≡ []) × (place ≡ 0)
 
 -- all that was said went out; where a write failed, a part of the last reply, or all of it
-abbrev pub GoesOut : Ended → List Turn → (output : List ℕ) → Type 0
+abbrev pub GoesOut : Ended → List MessageTurn → (output : List ℕ) → Type 0
 GoesOut WriteFault turns output = EndsInLast (map (λ turn. turn.said) turns) output
 GoesOut ended turns output = output ≡ said_in turns
 
@@ -111,12 +114,12 @@ WritesSo (Err ended) old new = WriteCause ended old new
 
 -- What came over a link was answered, and it ended so: of what was given and written before and
 -- behind it, where the link tells that.
-pub record Serves {S : Type 0} (does : S → Call → S → Type 0) (holds : S → Maps → Type 0)
-    (score_of : List ℕ → List ℕ) (s s' : S) (old new : Known) (tells : Type 0)
+pub record ServesConnection {S : Type 0} (does : S → Call → S → Type 0) (holds : S → Maps → Type 0)
+    (score_of : List ℕ → List ℕ) (s s' : S) (old new : ViewState) (tells : Type 0)
     (given given' written written' left' : List ℕ) (ended : Ended) (taken : ℕ)
     (failure : Option VacBad) : Type 0 where
-  pub turns : List Turn
-  pub talks : Talks does holds score_of s old turns s' new
+  pub turns : List MessageTurn
+  pub talks : AnswersInTurn does holds score_of s old turns s' new
   pub failure_is : failure ≡ first_failure turns
   pub rest : List ℕ
   pub ends : EndsSo ended (limit new) (length (came_in turns)) rest
@@ -133,7 +136,7 @@ abbrev pub GoesOnOr : Result (Unit {0}) Ended → (limit place : ℕ) → (rest 
 GoesOnOr (Ok done) limit place rest = rest ≡ []
 GoesOnOr (Err ended) limit place rest = EndsSo ended limit place rest
 
-abbrev pub SaysAllOr : Result (Unit {0}) Ended → List Turn → (output : List ℕ) → Type 0
+abbrev pub SaysAllOr : Result (Unit {0}) Ended → List MessageTurn → (output : List ℕ) → Type 0
 SaysAllOr (Ok done) turns output = output ≡ said_in turns
 SaysAllOr (Err ended) turns output = GoesOut ended turns output
 
@@ -143,11 +146,11 @@ IsAtEndOr (Err ended) left = IsAtEnd ended left
 
 -- messages were answered, and it goes on, or it ended so
 pub record Turns {S : Type 0} (does : S → Call → S → Type 0) (holds : S → Maps → Type 0)
-    (score_of : List ℕ → List ℕ) (s s' : S) (old new : Known) (tells : Type 0)
+    (score_of : List ℕ → List ℕ) (s s' : S) (old new : ViewState) (tells : Type 0)
     (given given' written written' left' : List ℕ) (taken taken' : ℕ)
     (failure failure' : Option VacBad) (result : Result (Unit {0}) Ended) : Type 0 where
-  pub turns : List Turn
-  pub talks : Talks does holds score_of s old turns s' new
+  pub turns : List MessageTurn
+  pub talks : AnswersInTurn does holds score_of s old turns s' new
   pub failure_is : failure' ≡ option_or failure (first_failure turns)
   pub rest : List ℕ
   pub ends : GoesOnOr result (limit new) (taken + length (came_in turns)) rest

@@ -5,18 +5,18 @@ ghost use Rattle.std.specs.List.{position_or_len};
 ghost use Rattle.nine_wire.specs.Messages.{RMessage, r_clunk, r_error, r_flush};
 ghost use Rattle.nine_wire.specs.Views.{message_of};
 ghost use Rattle.nine_view.specs.Answers.{request as asks, answer_to, answer_first, answer_agreed};
-ghost use Rattle.nine_view.specs.Answers.{is_ours, may_open, of_fid, refused, settled, stays};
+ghost use Rattle.nine_view.specs.Answers.{is_ours, may_open, of_fid, refused_answer, settled, stays};
 ghost use Rattle.nine_view.specs.Answers.{to_attach, to_open, to_stat, to_version, with_known};
-ghost use Rattle.nine_view.specs.Handling.{Handles, Says, SaysSo, SetsFid, Settles, SettlesSo};
-ghost use Rattle.nine_view.specs.Handling.{failure_of};
+ghost use Rattle.nine_view.specs.Handling.{Handles, Says, SaysSo, SetsFid, SettlesRequest, SettlesSo};
+ghost use Rattle.nine_view.specs.Handling.{archive_failure};
 ghost use Rattle.nine_view.specs.Known.{limit, without_fid};
-ghost use Rattle.nine_view.specs.Refusals.{words_of};
-ghost use Rattle.nine_view.specs.Replies.{IsMessage, Replies};
+ghost use Rattle.nine_view.specs.Refusals.{refusal_words};
+ghost use Rattle.nine_view.specs.Replies.{IsMessage, AnswersMessage};
 
-use crate::failure::{Denied, failure_words, first};
+use crate::error::{AnswerError, failure_words, first};
 use crate::stats::{is_folder, qid_of, stat_len, stat_of};
-use crate::{MAX_FIDS, MAX_MESSAGE, MIN_MESSAGE, Place, Reading, Refusal, View, Way};
-use nine_wire::{NO_FID, NineBad, Reply, Request, decode, encode};
+use crate::{MAX_FIDS, MAX_MESSAGE, MIN_MESSAGE, Place, Reading, RequestError, View, Way};
+use nine_wire::{NO_FID, NineError, Reply, Request, decode, encode};
 use std::alloc::Global;
 use vac_read::{Stored, VacBad};
 use vt_tree::Blocks;
@@ -44,7 +44,8 @@ impl View {
     ) -> Answered
         requires whole { IsMessage message.now }
         requires room { length out.old ≡ 65536 }
-        ensures replies { Replies B.does B.holds B.score_of blocks.old blocks.new self.old self.new
+        ensures replies { AnswersMessage B.does B.holds B.score_of blocks.old blocks.new self.old
+            self.new
             message.now (take result.len out.new) result.failure }
         ensures short { result.len ≤ limit self.old }
     {
@@ -54,9 +55,9 @@ impl View {
                 let answer = self.answer_request(alloc, blocks, tag, &request, out);
                 said(tag, limit, answer, out)
             }
-            Err(NineBad::Unknown { tag }) => refuse(tag, Refusal::UnknownMessage, out),
-            Err(NineBad::Bad { tag }) => refuse(tag, Refusal::BadMessage, out),
-            Err(NineBad::Short) => unreachable!(),
+            Err(NineError::Unknown { tag }) => refuse(tag, RequestError::UnknownMessage, out),
+            Err(NineError::Bad { tag }) => refuse(tag, RequestError::BadMessage, out),
+            Err(NineError::Short) => unreachable!(),
         }
     }
 
@@ -68,7 +69,7 @@ impl View {
         tag: u16,
         request: &Request<'_>,
         out: &mut [u8],
-    ) -> Result<usize, Denied>
+    ) -> Result<usize, AnswerError>
         requires { length out.old ≡ 65536 }
         ensures { Handles B.does B.holds B.score_of blocks.old blocks.new tag self.old self.new
             out.new result (answer_to self.old (asks (message_of request.now))) }
@@ -85,14 +86,14 @@ impl View {
         tag: u16,
         request: &Request<'_>,
         out: &mut [u8],
-    ) -> Result<usize, Denied>
+    ) -> Result<usize, AnswerError>
         requires { length out.old ≡ 65536 }
         ensures { SettlesSo tag self.old self.new out.new result
             (answer_first self.old (message_of request.now)) }
     {
         match request {
             Request::Version { msize, version } => self.version(tag, *msize, version, out),
-            _ => Err(Refusal::VersionExpected.into()),
+            _ => Err(RequestError::VersionExpected.into()),
         }
     }
 
@@ -105,7 +106,7 @@ impl View {
         msize: u32,
         request: &Request<'_>,
         out: &mut [u8],
-    ) -> Result<usize, Denied>
+    ) -> Result<usize, AnswerError>
         requires agreed { self.old.msize ≡ Some msize }
         requires least { 256 ≤ msize }
         requires room { length out.old ≡ 65536 }
@@ -114,7 +115,7 @@ impl View {
     {
         match request {
             Request::Version { msize, version } => self.version(tag, *msize, version, out),
-            Request::Auth { .. } => Err(Refusal::NoAuthentication.into()),
+            Request::Auth { .. } => Err(RequestError::NoAuthentication.into()),
             Request::Attach { fid, afid, .. } => self.attach(alloc, tag, *fid, *afid, out),
             Request::Flush { .. } => self.flush(tag, out),
             Request::Walk { fid, newfid, names } => {
@@ -142,13 +143,13 @@ impl View {
         msize: u32,
         version: &[u8],
         out: &mut [u8],
-    ) -> Result<usize, Denied>
+    ) -> Result<usize, AnswerError>
         requires { length out.old ≡ 65536 }
-        ensures { Settles tag self.old self.new out.new result
+        ensures { SettlesRequest tag self.old self.new out.new result
             (to_version self.old msize version.now) }
     {
         if msize < MIN_MESSAGE {
-            return Err(Refusal::SmallSize.into());
+            return Err(RequestError::SmallSize.into());
         }
         let msize = msize.min(MAX_MESSAGE as u32);
         self.fids.clear();
@@ -170,22 +171,22 @@ impl View {
         fid: u32,
         afid: u32,
         out: &mut [u8],
-    ) -> Result<usize, Denied>
+    ) -> Result<usize, AnswerError>
         requires agreed { IsSome self.old.msize }
         requires room { length out.old ≡ 65536 }
         ensures { SetsFid tag self.old self.new out.new result (to_attach self.old fid afid) }
     {
         if afid != NO_FID {
-            return Err(Refusal::NoAuthentication.into());
+            return Err(RequestError::NoAuthentication.into());
         }
         if fid == NO_FID {
-            return Err(Refusal::BadFid.into());
+            return Err(RequestError::BadFid.into());
         }
         if self.fids.contains(fid) {
-            return Err(Refusal::FidInUse.into());
+            return Err(RequestError::FidInUse.into());
         }
         if self.fids.len() >= MAX_FIDS {
-            return Err(Refusal::TooManyFids.into());
+            return Err(RequestError::TooManyFids.into());
         }
         let top = Place {
             node: self.top.copied(alloc)?,
@@ -196,10 +197,10 @@ impl View {
     }
 
     /// Answers a flush: what it names was answered before it (flush(5)).
-    fn flush(&self, tag: u16, out: &mut [u8]) -> Result<usize, Denied>
+    fn flush(&self, tag: u16, out: &mut [u8]) -> Result<usize, AnswerError>
         requires agreed { IsSome self.now.msize }
         requires room { length out.old ≡ 65536 }
-        ensures { Settles tag self.now self.now out.new result (stays self.now r_flush) }
+        ensures { SettlesRequest tag self.now self.now out.new result (stays self.now r_flush) }
     {
         // (so that what a view keeps is known here)
         let _ = &self.msize;
@@ -214,20 +215,20 @@ impl View {
         fid: u32,
         mode: u8,
         out: &mut [u8],
-    ) -> Result<usize, Denied>
+    ) -> Result<usize, AnswerError>
         requires agreed { self.old.msize ≡ Some msize }
         requires room { length out.old ≡ 65536 }
         ensures { SettlesSo tag self.old self.new out.new result
             (of_fid self.old fid (λ f. settled (to_open self.old msize fid mode f))) }
     {
         let Some(f) = self.fids.get(fid) else {
-            return Err(Refusal::UnknownFid.into());
+            return Err(RequestError::UnknownFid.into());
         };
         if f.reading.is_some() {
-            return Err(Refusal::FidIsOpen.into());
+            return Err(RequestError::FidIsOpen.into());
         }
         if !may_open(&f.node.stored, mode) {
-            return Err(Refusal::ReadOnly.into());
+            return Err(RequestError::ReadOnly.into());
         }
         let qid = qid_of(&f.node);
         self.fids.set_reading(fid, Reading::new());
@@ -237,57 +238,57 @@ impl View {
     }
 
     /// Refuses to change a file.
-    fn change(&self, fid: u32) -> Result<usize, Denied>
+    fn change(&self, fid: u32) -> Result<usize, AnswerError>
         ensures { (tag : ℕ) (out : List ℕ) → SettlesSo tag self.now self.now out result
-            (of_fid self.now fid (λ f. refused self.now Refusal.ReadOnly)) }
+            (of_fid self.now fid (λ f. refused_answer self.now RequestError.ReadOnly)) }
     {
         if self.fids.contains(fid) {
-            Err(Refusal::ReadOnly.into())
+            Err(RequestError::ReadOnly.into())
         } else {
-            Err(Refusal::UnknownFid.into())
+            Err(RequestError::UnknownFid.into())
         }
     }
 
     /// Forgets a fid (clunk(5)).
-    fn clunk(&mut self, tag: u16, fid: u32, out: &mut [u8]) -> Result<usize, Denied>
+    fn clunk(&mut self, tag: u16, fid: u32, out: &mut [u8]) -> Result<usize, AnswerError>
         requires agreed { IsSome self.old.msize }
         requires room { length out.old ≡ 65536 }
         ensures { SettlesSo tag self.old self.new out.new result (of_fid self.old fid (λ f.
             settled (with_known self.old (without_fid fid self.old.fids) r_clunk))) }
     {
         if !self.fids.contains(fid) {
-            return Err(Refusal::UnknownFid.into());
+            return Err(RequestError::UnknownFid.into());
         }
         self.fids.remove(fid);
         Ok(encode(tag, &Reply::Clunk, out))
     }
 
     /// Refuses to remove a file, whose fid is forgotten (remove(5)).
-    fn remove(&mut self, fid: u32) -> Result<usize, Denied>
+    fn remove(&mut self, fid: u32) -> Result<usize, AnswerError>
         ensures { (tag : ℕ) (out : List ℕ) → SettlesSo tag self.old self.new out result
             (of_fid self.old fid (λ f. settled (with_known self.old
-            (without_fid fid self.old.fids) (r_error (words_of Refusal.ReadOnly))))) }
+            (without_fid fid self.old.fids) (r_error (refusal_words RequestError.ReadOnly))))) }
     {
         if !self.fids.contains(fid) {
-            return Err(Refusal::UnknownFid.into());
+            return Err(RequestError::UnknownFid.into());
         }
         self.fids.remove(fid);
-        Err(Refusal::ReadOnly.into())
+        Err(RequestError::ReadOnly.into())
     }
 
     /// Tells of a file (stat(5)).
-    fn stat(&self, tag: u16, msize: u32, fid: u32, out: &mut [u8]) -> Result<usize, Denied>
+    fn stat(&self, tag: u16, msize: u32, fid: u32, out: &mut [u8]) -> Result<usize, AnswerError>
         requires agreed { self.now.msize ≡ Some msize }
         requires room { length out.old ≡ 65536 }
         ensures { SettlesSo tag self.now self.now out.new result
             (of_fid self.now fid (λ f. settled (to_stat self.now msize f))) }
     {
         let Some(f) = self.fids.get(fid) else {
-            return Err(Refusal::UnknownFid.into());
+            return Err(RequestError::UnknownFid.into());
         };
         let stat = stat_of(&f.node);
         if STAT_HEAD + stat_len(&stat) > msize as usize {
-            return Err(Refusal::SmallCount.into());
+            return Err(RequestError::SmallCount.into());
         }
         Ok(encode(tag, &Reply::Stat(stat), out))
     }
@@ -315,18 +316,18 @@ fn name_len(version: &[u8]) -> usize
 }
 
 /// Writes the error that is still to be said, if one is.
-fn said(tag: u16, limit: usize, answer: Result<usize, Denied>, out: &mut [u8]) -> Answered
+fn said(tag: u16, limit: usize, answer: Result<usize, AnswerError>, out: &mut [u8]) -> Answered
     requires least { 256 ≤ limit }
     requires most { limit ≤ 65536 }
     requires room { length out.old ≡ 65536 }
     ensures said { (reply : RMessage) → SaysSo tag limit out.old answer reply
         → Says tag limit out.new result.len reply }
-    ensures failure { result.failure ≡ failure_of answer }
+    ensures failure { result.failure ≡ archive_failure answer }
 {
     match answer {
         Ok(len) => Answered { len, failure: None },
-        Err(Denied::Refused(why)) => refuse(tag, why, out),
-        Err(Denied::Failed(bad)) => {
+        Err(AnswerError::Refused(why)) => refuse(tag, why, out),
+        Err(AnswerError::Failed(bad)) => {
             let len = encode(tag, &Reply::Error(failure_words(limit, &bad)), out);
             Answered {
                 len,
@@ -337,9 +338,9 @@ fn said(tag: u16, limit: usize, answer: Result<usize, Denied>, out: &mut [u8]) -
 }
 
 /// Writes a refusal.
-fn refuse(tag: u16, why: Refusal, out: &mut [u8]) -> Answered
+fn refuse(tag: u16, why: RequestError, out: &mut [u8]) -> Answered
     requires { length out.old ≡ 65536 }
-    ensures says { Says tag 256 out.new result.len (r_error (words_of why)) }
+    ensures says { Says tag 256 out.new result.len (r_error (refusal_words why)) }
     ensures failure { result.failure ≡ None }
 {
     let len = encode(tag, &Reply::Error(why.words()), out);

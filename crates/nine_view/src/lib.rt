@@ -4,12 +4,12 @@
 #![tactic(auto)]
 
 mod answering;
-mod failure;
+mod error;
 mod fid;
 mod fids;
 mod place;
 mod reading;
-mod refusal;
+mod request_error;
 mod serving;
 mod stats;
 mod view;
@@ -19,7 +19,7 @@ mod way;
 pub use answering::Answered;
 pub use fid::{Fid, Reading};
 pub use place::Place;
-pub use refusal::Refusal;
+pub use request_error::RequestError;
 pub use serving::{Ended, Served, serve_nine};
 pub use view::View;
 pub use way::Way;

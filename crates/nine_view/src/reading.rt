@@ -7,14 +7,14 @@ ghost use Rattle.vac_read.specs.declared.node.Node.{Node};
 ghost use Rattle.nine_view.specs.declared.fid.Fid.{Fid};
 ghost use Rattle.nine_view.specs.declared.fid.Reading.{Reading};
 ghost use Rattle.nine_view.specs.Answers.{first_file, of_fid, reads_files, to_folder, to_read};
-ghost use Rattle.nine_view.specs.Files.{IsTold};
-ghost use Rattle.nine_view.specs.Handling.{Handles, KeepsFiles, PutsNext, Settles};
+ghost use Rattle.nine_view.specs.Files.{FitsMessage};
+ghost use Rattle.nine_view.specs.Handling.{Handles, KeepsFiles, PutsNext, SettlesRequest};
 ghost use Rattle.nine_view.specs.Known.{fid_at, limit};
 
-use crate::failure::{Denied, first};
+use crate::error::{AnswerError, first};
 use crate::fids::Fids;
 use crate::stats::put_files;
-use crate::{Reading, Refusal, View};
+use crate::{Reading, RequestError, View};
 use nine_wire::{Reply, encode};
 use std::alloc::Global;
 use vac_read::{Node, Stored, VacBad, list, read};
@@ -31,7 +31,7 @@ impl View {
         offset: u64,
         room: u32,
         out: &mut [u8],
-    ) -> Result<usize, Denied>
+    ) -> Result<usize, AnswerError>
         requires room { room + 24 ≤ limit self.old }
         requires agreed { IsSome self.old.msize }
         requires out { length out.old ≡ 65536 }
@@ -40,10 +40,10 @@ impl View {
             (of_fid self.old fid (λ f. to_read self.old fid offset room f f.reading)) }
     {
         let Some(f) = self.fids.get(fid) else {
-            return Err(Refusal::UnknownFid.into());
+            return Err(RequestError::UnknownFid.into());
         };
         let Some(reading) = f.reading else {
-            return Err(Refusal::FidNotOpen.into());
+            return Err(RequestError::FidNotOpen.into());
         };
         match f.node.stored {
             Stored::File(_) => {
@@ -53,7 +53,7 @@ impl View {
             }
             Stored::Folder { .. } => {
                 if is_bad_offset(&reading, offset) {
-                    return Err(Refusal::BadOffset.into());
+                    return Err(RequestError::BadOffset.into());
                 }
                 self.read_folder(alloc, blocks, tag, fid, offset, room as usize, out)
             }
@@ -70,7 +70,7 @@ impl View {
         offset: u64,
         room: usize,
         out: &mut [u8],
-    ) -> Result<usize, Denied>
+    ) -> Result<usize, AnswerError>
         requires room { room + 24 ≤ limit self.old }
         requires out { length out.old ≡ 65536 }
         ensures { (f : Fid) (r : Reading) → fid_at fid self.old.fids ≡ Some f
@@ -113,12 +113,12 @@ impl View {
         offset: u64,
         room: usize,
         out: &mut [u8],
-    ) -> Result<usize, Denied>
+    ) -> Result<usize, AnswerError>
         requires room { room + 24 ≤ limit self.old }
         requires out { length out.old ≡ 65536 }
         ensures { (f : Fid) (r : Reading) (files : List Node) → fid_at fid self.old.fids ≡ Some f
             → f.reading ≡ Some r → f.files ≡ Some files
-            → Settles tag self.old self.new out.new result
+            → SettlesRequest tag self.old self.new out.new result
             (reads_files self.old fid f r offset room files) }
     {
         let (reading, len) = put_next(&self.fids, fid, offset, room, &mut self.stats)?;
@@ -135,18 +135,18 @@ fn put_next(
     offset: u64,
     room: usize,
     buf: &mut [u8],
-) -> Result<(Reading, usize), Refusal>
-    requires told { (f : Fid) → fid_at fid fids.now ≡ Some f → IfSome f.files (All IsTold) }
+) -> Result<(Reading, usize), RequestError>
+    requires told { (f : Fid) → fid_at fid fids.now ≡ Some f → IfSome f.files (All FitsMessage) }
     requires room { room ≤ length buf.old }
     ensures { PutsNext fids.now fid offset room buf.new result }
 {
     let Some((files, reading)) = listed(fids, fid) else {
-        return Err(Refusal::FidNotOpen);
+        return Err(RequestError::FidNotOpen);
     };
     let from = first_file(&reading, offset);
     let (count, len) = put_files(files_from(files, from), room, buf);
     if is_small(count, from, count_of(files)) {
-        return Err(Refusal::SmallCount);
+        return Err(RequestError::SmallCount);
     }
     let reading = Reading {
         next: from + count,

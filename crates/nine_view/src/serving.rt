@@ -3,8 +3,8 @@
 ghost use Rattle.std.specs.Prelude.{◌≡◌, ◌≢◌, ◌-◌, ◌≤◌, ◌<◌, min, IsTrue, IfErr, IfOk, OnOk, length};
 ghost use Rattle.std.specs.Option.{option_or};
 ghost use Rattle.vt_session.specs.Talk.{spent_len};
-ghost use Rattle.nine_view.specs.Hearing.{Fills, Hears};
-ghost use Rattle.nine_view.specs.Serving.{Serves, Turns, ReadCause, ReadsSo, WriteCause, WritesSo};
+ghost use Rattle.nine_view.specs.Hearing.{FillsBuffer, HearsMessage};
+ghost use Rattle.nine_view.specs.Serving.{ServesConnection, Turns, ReadCause, ReadsSo, WriteCause, WritesSo};
 
 use crate::{MAX_MESSAGE, View};
 use byteorder::{ByteOrder, LittleEndian};
@@ -53,7 +53,8 @@ pub fn serve_nine<B: Blocks, L: Link>(
     blocks: &mut B,
     link: &mut L,
 ) -> Served
-    ensures serves { Serves B.does B.holds B.score_of blocks.old blocks.new view.old view.new
+    ensures serves { ServesConnection B.does B.holds B.score_of blocks.old blocks.new view.old
+        view.new
         (IsTrue L.tells) (L.given link.old) (L.given link.new) (L.written link.old)
         (L.written link.new) (L.left link.new) result.ended result.taken result.failure }
     ensures most { result.taken ≤ spent_len }
@@ -151,7 +152,7 @@ fn hear<L: Link>(
     requires room { length message.old ≡ 65536 }
     requires most { limit ≤ 65536 }
     requires taken { taken.old ≤ spent_len }
-    ensures hears { Hears (IsTrue L.tells) (L.given link.old) (L.given link.new)
+    ensures hears { HearsMessage (IsTrue L.tells) (L.given link.old) (L.given link.new)
         (L.left link.new) limit taken.old taken.new message.new result }
     ensures most { taken.new ≤ spent_len }
     ensures written { IsTrue L.tells → L.written link.new ≡ L.written link.old }
@@ -172,7 +173,7 @@ fn hear<L: Link>(
 fn fill<L: Link>(taken: &mut u64, inside: bool, buf: &mut [u8], link: &mut L) -> Result<(), Ended>
     requires small { length buf.old ≤ 65536 }
     requires taken { taken.old ≤ spent_len }
-    ensures fills { Fills (IsTrue L.tells) (L.given link.old) (L.given link.new)
+    ensures fills { FillsBuffer (IsTrue L.tells) (L.given link.old) (L.given link.new)
         (L.left link.new) taken.old taken.new inside buf.new result }
     ensures most { taken.new ≤ spent_len }
     ensures written { IsTrue L.tells → L.written link.new ≡ L.written link.old }

@@ -3,13 +3,13 @@
 ghost use Rattle.std.specs.Prelude.{◌≡◌, ◌≤◌, length, take};
 ghost use Rattle.std.specs.List.{All, flat_map};
 ghost use Rattle.nine_wire.specs.Messages.{FitsStat, stat_bytes};
-ghost use Rattle.nine_wire.specs.Views.{qid_of as wire_qid, stat_of as wire_stat};
-ghost use Rattle.nine_view.specs.Files.{is_folder, qid_of, stat_of, stat_in, IsTold};
+ghost use Rattle.nine_wire.specs.Views.{wire_qid, wire_stat};
+ghost use Rattle.nine_view.specs.Files.{is_folder, qid_of, stat_of, stat_in, FitsMessage};
 ghost use Rattle.nine_view.specs.Answers.{fitting};
 
 use nine_wire::{Qid, Stat, put_stat};
 use vac_read::{Node, Stored};
-use vt_folder::Item;
+use vt_out::Item;
 
 /// The bit that a folder's mode has (stat(5)).
 const FOLDER: u32 = 0x8000_0000;
@@ -33,7 +33,7 @@ pub(crate) fn qid_of(node: &Node) -> Qid
 
 /// What is told of a file (stat(5)).
 pub(crate) fn stat_of(node: &Node) -> Stat<'_>
-    requires { IsTold node.now }
+    requires { FitsMessage node.now }
     ensures stat { wire_stat result ≡ stat_of node.now }
     ensures fits { FitsStat (stat_of node.now) }
 {
@@ -79,7 +79,7 @@ pub(crate) fn stat_len(stat: &Stat<'_>) -> usize
 /// Writes what is told of files to the front of the buffer, of as many as have room, and says of
 /// how many, and in how many bytes.
 pub(crate) fn put_files(files: &[Node], room: usize, buf: &mut [u8]) -> (usize, usize)
-    requires told { All IsTold files.now }
+    requires told { All FitsMessage files.now }
     requires room { room ≤ length buf.old }
     ensures count { result.0 ≡ length (fitting room files.now) }
     ensures len { result.1 ≡ length (flat_map stat_in (fitting room files.now)) }

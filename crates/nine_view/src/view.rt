@@ -1,7 +1,7 @@
 //! What a view of an archive keeps.
 
 ghost use Rattle.std.specs.Prelude.{◌≡◌, ◌≤◌, None, [], IfOk, unwrap_or};
-ghost use Rattle.nine_view.specs.Files.{IsTold};
+ghost use Rattle.nine_view.specs.Files.{FitsMessage};
 ghost use Rattle.nine_view.specs.Known.{limit};
 
 use crate::MAX_MESSAGE;
@@ -23,22 +23,22 @@ pub struct View {
 
 impl Model for View {
     ghost use Rattle.std.specs.Prelude.{◌≡◌, length};
-    ghost use Rattle.nine_view.specs.Known.{Known};
+    ghost use Rattle.nine_view.specs.Known.{ViewState};
 
-    ghost Value = { Known };
+    ghost Value = { ViewState };
 
-    ghost use Rattle.nine_view.specs.Kept.{IsKept};
+    ghost use Rattle.nine_view.specs.Kept.{IsKeptView};
 
     ghost view = { λ v. record { top = v.top; msize = v.msize; fids = v.fids } };
 
     ghost invariant = { λ v. (length v.stats.items ≡ 65536)
-        × IsKept (record { top = v.top; msize = v.msize; fids = v.fids }) };
+        × IsKeptView (record { top = v.top; msize = v.msize; fids = v.fids }) };
 }
 
 impl View {
     /// No version is agreed, and no fid is set. The buffer's memory is taken here.
     pub fn new(alloc: Global, archive: Archive) -> Result<Self, AllocError>
-        requires { IsTold archive.top }
+        requires { FitsMessage archive.top }
         ensures { IfOk result (λ view.
             view ≡ record { top = archive.top; msize = None; fids = [] }) }
     {

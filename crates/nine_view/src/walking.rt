@@ -2,17 +2,17 @@
 
 ghost use Rattle.std.specs.Prelude.{◌≡◌, ◌≤◌, IfErr, IfOk, IsSome, OnErr, OnOk, length, map};
 ghost use Rattle.vt_tree.specs.Maps.{BlockMap};
-ghost use Rattle.vac_read.specs.Reading.{Reads};
+ghost use Rattle.vac_read.specs.Reading.{ReadsArchive};
 ghost use Rattle.nine_wire.specs.Messages.{r_walk};
-ghost use Rattle.nine_wire.specs.Views.{qid_of as wire_qid};
+ghost use Rattle.nine_wire.specs.Views.{wire_qid};
 ghost use Rattle.nine_view.specs.Answers.{of_fid, to_walk, unopened};
 ghost use Rattle.nine_view.specs.Handling.{Handles, Says};
-ghost use Rattle.nine_view.specs.Known.{IsRight, IsWay, limit, with_fid};
+ghost use Rattle.nine_view.specs.Known.{IsRightView, IsWay, limit, with_fid};
 ghost use Rattle.nine_view.specs.Walking.{AreQids, EndsShort, IsToldPlace, MayWalk, TellsStep, TellsWalk};
 
-use crate::failure::Denied;
+use crate::error::AnswerError;
 use crate::stats::{is_folder, qid_of};
-use crate::{MAX_FIDS, MAX_NAMES, Place, Refusal, View};
+use crate::{MAX_FIDS, MAX_NAMES, Place, RequestError, View};
 use nine_wire::{NO_FID, Names, Qid, Reply, encode};
 use std::alloc::Global;
 use vac_read::{VacBad, find_item};
@@ -23,7 +23,7 @@ use vt_tree::Blocks;
 struct Walked {
     /// Those of the files on the way.
     qids: Vec<Qid>,
-    end: Result<Place, Refusal>,
+    end: Result<Place, RequestError>,
 }
 
 impl View {
@@ -37,7 +37,7 @@ impl View {
         newfid: u32,
         names: &Names<'_>,
         out: &mut [u8],
-    ) -> Result<usize, Denied>
+    ) -> Result<usize, AnswerError>
         requires agreed { IsSome self.old.msize }
         requires room { length out.old ≡ 65536 }
         ensures { Handles B.does B.holds B.score_of blocks.old blocks.new tag self.old self.new
@@ -63,7 +63,7 @@ impl View {
         at: Place,
         qids: &[Qid],
         out: &mut [u8],
-    ) -> Result<usize, Denied>
+    ) -> Result<usize, AnswerError>
         requires told { IsToldPlace at }
         requires few { length qids.now ≤ 16 }
         requires paths { AreQids qids.now }
@@ -73,7 +73,7 @@ impl View {
             ≡ record self.old { fids = with_fid fid (unopened at) self.old.fids }) }
         ensures says { IfOk result (λ len.
             Says tag (limit self.old) out.new len (r_walk (map wire_qid qids.now))) }
-        ensures err { IfErr result (λ denied. denied ≡ Denied.Failed VacBad.NoMemory) }
+        ensures err { IfErr result (λ denied. denied ≡ AnswerError.Failed VacBad.NoMemory) }
         ensures same { OnErr result (self.new ≡ self.old) }
     {
         self.fids.set(fid, at.unopened())?;
@@ -86,9 +86,9 @@ impl View {
         &self,
         tag: u16,
         qids: &[Qid],
-        why: Refusal,
+        why: RequestError,
         out: &mut [u8],
-    ) -> Result<usize, Denied>
+    ) -> Result<usize, AnswerError>
         requires few { length qids.now ≤ 16 }
         requires paths { AreQids qids.now }
         requires room { length out.old ≡ 65536 }
@@ -103,33 +103,39 @@ impl View {
     }
 
     /// Where a walk from this fid begins, if it may.
-    fn walked_from(&self, alloc: Global, fid: u32, newfid: u32, names: u16) -> Result<Place, Denied>
+    fn walked_from(
+        &self,
+        alloc: Global,
+        fid: u32,
+        newfid: u32,
+        names: u16,
+    ) -> Result<Place, AnswerError>
         ensures may { MayWalk self.now fid newfid names result }
         ensures few { OnOk result (names ≤ 16) }
         ensures told { IfOk result IsToldPlace }
-        ensures way { IfOk result (λ at. (map : BlockMap) → IsRight map self.now
+        ensures way { IfOk result (λ at. (map : BlockMap) → IsRightView map self.now
             → IsWay map self.now.top at.node at.above) }
     {
         let Some(f) = self.fids.get(fid) else {
-            return Err(Refusal::UnknownFid.into());
+            return Err(RequestError::UnknownFid.into());
         };
         if names > MAX_NAMES {
-            return Err(Refusal::TooManyNames.into());
+            return Err(RequestError::TooManyNames.into());
         }
         if f.reading.is_some() {
-            return Err(Refusal::FidIsOpen.into());
+            return Err(RequestError::FidIsOpen.into());
         }
         if newfid == NO_FID {
-            return Err(Refusal::BadFid.into());
+            return Err(RequestError::BadFid.into());
         }
         if newfid == fid {
             return Ok(f.place(alloc)?);
         }
         if self.fids.contains(newfid) {
-            return Err(Refusal::FidInUse.into());
+            return Err(RequestError::FidInUse.into());
         }
         if self.fids.len() >= MAX_FIDS {
-            return Err(Refusal::TooManyFids.into());
+            return Err(RequestError::TooManyFids.into());
         }
         Ok(f.place(alloc)?)
     }
@@ -143,7 +149,7 @@ fn walk_names<B: Blocks>(
     names: &Names<'_>,
 ) -> Result<Walked, VacBad>
     requires { IsToldPlace from }
-    ensures reads { Reads B.does B.holds B.score_of blocks.old blocks.new result
+    ensures reads { ReadsArchive B.does B.holds B.score_of blocks.old blocks.new result
         (TellsWalk from names.now result) }
     ensures few { IfOk result (λ w. length w.qids.items ≤ length names.now) }
     ensures paths { IfOk result (λ w. AreQids w.qids.items) }
@@ -175,20 +181,20 @@ fn step<B: Blocks>(
     blocks: &mut B,
     at: Place,
     name: &[u8],
-) -> Result<Result<Place, Refusal>, VacBad>
+) -> Result<Result<Place, RequestError>, VacBad>
     requires { IsToldPlace at }
-    ensures reads { Reads B.does B.holds B.score_of blocks.old blocks.new result
+    ensures reads { ReadsArchive B.does B.holds B.score_of blocks.old blocks.new result
         (TellsStep at name.now result) }
     ensures told { IfOk result (λ next. IfOk next IsToldPlace) }
 {
     if !is_folder(&at.node.stored) {
-        return Ok(Err(Refusal::NoDirectory));
+        return Ok(Err(RequestError::NoDirectory));
     }
     if name == b"..".as_slice() {
         return Ok(Ok(at.parent()));
     }
     match find_item(alloc, blocks, &at.node, name)? {
         Some(node) => Ok(Ok(at.into_file(node)?)),
-        None => Ok(Err(Refusal::NoFile)),
+        None => Ok(Err(RequestError::NoFile)),
     }
 }

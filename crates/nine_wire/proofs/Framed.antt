@@ -4,9 +4,9 @@ use Rattle.std.specs.Prelude.{slice_index}
 use Rattle.std.specs.List.{flat_map}
 use Rattle.byteorder.specs.Endian.{little_number, little_bytes}
 use Rattle.byteorder.specs.Numbers.{little_number-reads_back}
-use Rattle.nine_wire.specs.Frames.{IsFrame, Spells, framed, spelled}
+use Rattle.nine_wire.specs.Frames.{IsFrame, Spells, framed, spelled_reply}
 use Rattle.nine_wire.specs.Messages.{TMessage, RMessage, Qid, SpellsBody, FitsReply, r_version, r_attach, r_flush, r_walk, r_open, r_read, r_clunk, r_stat, r_error, reply_type, reply_parameters, qid_bytes}
-use Rattle.nine_wire.specs.Writing.{Writes}
+use Rattle.nine_wire.specs.Writing.{WritesField}
 use Rattle.nine_wire.proofs.ReadBack.{one_body}
 use Rattle.nine_wire.proofs.RepliesBack.{reply_in, reply_back}
 use Rattle.nine_wire.proofs.Strings.{same_front}
@@ -63,15 +63,15 @@ reply_is_short (r_stat stat) fits = let f = fits.whole in omega (arith, f)
 -- ---- a reply in a buffer
 
 pub whole_reply : (tag : ℕ) (reply : RMessage) {one two end four : ℕ}
-    {old a b c new : List ℕ} → 4 ≤ length old → Writes 4 one old a (reply_type reply ∷ [])
-    → Writes one two a b (little_bytes 2 tag) → Writes two end b c (reply_parameters reply)
-    → Writes 0 four c new (little_bytes 4 end) → Writes 0 end old new (spelled tag reply)
+    {old a b c new : List ℕ} → 4 ≤ length old → WritesField 4 one old a (reply_type reply ∷ [])
+    → WritesField one two a b (little_bytes 2 tag) → WritesField two end b c (reply_parameters reply)
+    → WritesField 0 four c new (little_bytes 4 end) → WritesField 0 end old new (spelled_reply tag reply)
 whole_reply tag reply {one} {two} {end} {four} {old} {a} {b} {c} {new} room type tagged body size =
-    let behind : Writes 4 end old c
+    let behind : WritesField 4 end old c
     (reply_type reply ∷ (little_bytes 2 tag ++ reply_parameters reply)) =
     and_then type (and_then tagged body) in
-    let front : Writes 0 4 c new (little_bytes 4 end) =
-    subst (λ (k : ℕ). Writes 0 k c new (little_bytes 4 end)) size.ends size in
+    let front : WritesField 0 4 c new (little_bytes 4 end) =
+    subst (λ (k : ℕ). WritesField 0 k c new (little_bytes 4 end)) size.ends size in
     let is : end ≡ 7 + length (reply_parameters reply) = omega (arith, behind.ends) in
     so_spelled (put_before room behind front)
     (ap (λ (n : ℕ). little_bytes 4 n
@@ -80,7 +80,7 @@ whole_reply tag reply {one} {two} {end} {four} {old} {a} {b} {c} {new} room type
 -- ---- replies one behind another
 
 pub apart : (s t : ℕ) (p q : RMessage) (x y : List ℕ) → s < 2 ^ 16 → t < 2 ^ 16 → FitsReply p
-    → FitsReply q → spelled s p ++ x ≡ spelled t q ++ y → (s ≡ t) × (p ≡ q) × (x ≡ y)
+    → FitsReply q → spelled_reply s p ++ x ≡ spelled_reply t q ++ y → (s ≡ t) × (p ≡ q) × (x ≡ y)
 apart s t p q x y s_fits t_fits p_fits q_fits h =
     let body = λ (tag : ℕ) (r : RMessage).
     reply_type r ∷ (little_bytes 2 tag ++ reply_parameters r) in
@@ -90,7 +90,7 @@ apart s t p q x y s_fits t_fits p_fits q_fits h =
     ∙ ap (little_number 4) h
     ∙ little_number-reads_back 4 (7 + length (reply_parameters q)) (body t q ++ y)
     (reply_is_short q q_fits) in
-    let two = same_front (spelled s p) (spelled t q) x y (omega (arith, size)) h in
+    let two = same_front (spelled_reply s p) (spelled_reply t q) x y (omega (arith, size)) h in
     let type : reply_type p ≡ reply_type q = ap (λ (b : List ℕ). slice_index b 4) two.0 in
     let tag : s ≡ t =
     sym (little_number-reads_back 2 s (reply_parameters p) s_fits)

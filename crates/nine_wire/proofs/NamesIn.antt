@@ -4,7 +4,7 @@ use Rattle.std.specs.List.{AllByRecursion, flat_map}
 use Rattle.byteorder.specs.Endian.{little_number}
 use Rattle.byteorder.specs.Numbers.{little_number-reads_back}
 use Rattle.nine_wire.specs.Messages.{string, IsString}
-use Rattle.nine_wire.specs.Names.{names_in, Fill}
+use Rattle.nine_wire.specs.Names.{names_in, SpellNames}
 use Rattle.nine_wire.proofs.Strings.{same_string, NoString}
 
 -- names in front of bytes are read back
@@ -48,7 +48,7 @@ all_behind (s ∷ a) more all = all_behind a more all.1
 
 -- where no string stands, there are no more names
 pub no_more : (a b : List (List ℕ)) (bytes x : List ℕ) → AllByRecursion IsString a
-    → length a < length b → bytes ≡ flat_map string a ++ x → NoString x → Fill b bytes → ⊥
+    → length a < length b → bytes ≡ flat_map string a ++ x → NoString x → SpellNames b bytes → ⊥
 no_more a b bytes x all less is none fill =
     let m = more_names a b x [] all fill.each (omega arith)
     (sym is ∙ fill.is ∙ sym (append-nil (flat_map string b))) in
@@ -63,7 +63,7 @@ no_more a b bytes x all less is none fill =
 
 -- where something is left, these names aren't all
 pub not_all : (a b : List (List ℕ)) (bytes x : List ℕ) → AllByRecursion IsString a
-    → length a ≡ length b → bytes ≡ flat_map string a ++ x → x ≢ [] → Fill b bytes → ⊥
+    → length a ≡ length b → bytes ≡ flat_map string a ++ x → x ≢ [] → SpellNames b bytes → ⊥
 not_all a b bytes x all len is more fill =
     let m = more_names a b x [] all fill.each (omega (arith, len))
     (sym is ∙ fill.is ∙ sym (append-nil (flat_map string b))) in
@@ -97,20 +97,20 @@ read_more bytes a text x y is e =
 -- all names were read
 pub filled : (bytes x : List ℕ) (a : List (List ℕ)) (count : ℕ) → AllByRecursion IsString a
     → length a ≡ count → bytes ≡ flat_map string a ++ x → length x ≡ 0
-    → (names_in count bytes ≡ a) × Fill (names_in count bytes) bytes
+    → (names_in count bytes ≡ a) × SpellNames (names_in count bytes) bytes
 filled bytes [] a count all len is none =
     let names : names_in count bytes ≡ a =
     (λ i. names_in (sym len i) (is i)) ∙ names_back a [] all in (
       names,
-      subst (λ (l : List (List ℕ)). Fill l bytes) (sym names)
+      subst (λ (l : List (List ℕ)). SpellNames l bytes) (sym names)
           (record { each = all; is = is ∙ append-nil (flat_map string a) }),
     )
 filled bytes (b ∷ x) a count all len is none = absurd (omega (arith, none))
 
 -- the first name and the others, of one more than n names
-pub first_and_others : (n : ℕ) (bytes text rest : List ℕ) → Fill (names_in (n + 1) bytes) bytes
+pub first_and_others : (n : ℕ) (bytes text rest : List ℕ) → SpellNames (names_in (n + 1) bytes) bytes
     → IsString text → bytes ≡ string text ++ rest
-    → (names_in (n + 1) bytes ≡ text ∷ names_in n rest) × Fill (names_in n rest) rest
+    → (names_in (n + 1) bytes ≡ text ∷ names_in n rest) × SpellNames (names_in n rest) rest
 first_and_others n bytes text rest fill short is = of (names_in (n + 1) bytes) refl fill
   where
     names : names_in (n + 1) bytes ≡ text ∷ names_in n rest
@@ -125,11 +125,11 @@ first_and_others n bytes text rest fill short is = of (names_in (n + 1) bytes) r
         let one : n + 1 ≡ suc n = omega arith in
         ap (λ (k : ℕ). names_in k bytes) one ∙ (λ i. first i ∷ names_in n (behind i))
 
-    of : (all : List (List ℕ)) → all ≡ names_in (n + 1) bytes → Fill all bytes
-        → (names_in (n + 1) bytes ≡ text ∷ names_in n rest) × Fill (names_in n rest) rest
+    of : (all : List (List ℕ)) → all ≡ names_in (n + 1) bytes → SpellNames all bytes
+        → (names_in (n + 1) bytes ≡ text ∷ names_in n rest) × SpellNames (names_in n rest) rest
     of all e full =
-        let here : Fill (text ∷ names_in n rest) bytes =
-        subst (λ (l : List (List ℕ)). Fill l bytes) (e ∙ names) full in
+        let here : SpellNames (text ∷ names_in n rest) bytes =
+        subst (λ (l : List (List ℕ)). SpellNames l bytes) (e ∙ names) full in
         let tail = same_string text text rest (flat_map string (names_in n rest)) short short
         (sym is ∙ here.is) in
         (names, record { each = here.each.1; is = tail.1 })

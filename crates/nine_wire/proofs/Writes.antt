@@ -2,7 +2,7 @@
 use Rattle.std.proofs.Common.{◌≡◌, ℕ, ◌+◌, ◌-◌, ◌≤◌, List, [], ◌++◌, length, take, drop, refl, sym, ◌∙◌, ap, subst, arith, append_assoc, append-nil, length-append, length-take, length-drop, take-add}
 use Rattle.std.proofs.lemmas.List.{take_at, drop_at, take_all, drop_all, drop-drop, drop-take, take-take, length-take-le}
 use Rattle.byteorder.specs.Endian.{little_bytes}
-use Rattle.nine_wire.specs.Writing.{Writes}
+use Rattle.nine_wire.specs.Writing.{WritesField}
 use borrow.Rule.Slice.PartMut.{put_mid}
 
 -- what is the same behind a place is the same further behind
@@ -12,10 +12,10 @@ drop_further m n a b h le =
     subst (λ k. drop k a ≡ drop k b) far
     (sym (drop-drop (n - m) m a) ∙ ap (drop (n - m)) h ∙ drop-drop (n - m) m b)
 
--- one field, as vt_fields tells it
+-- one field, as vt_base tells it
 pub one_field : (at end n : ℕ) (old new field : List ℕ) → end ≡ at + n → n ≡ length field
     → take (at + n) new ≡ take at old ++ field → drop (at + n) new ≡ drop (at + n) old
-    → Writes at end old new field
+    → WritesField at end old new field
 one_field at end n old new field ends wide written behind = record {
   ends = ends ∙ ap (λ (k : ℕ). at + k) wide;
   written = ap (λ (k : ℕ). take k new) ends ∙ written;
@@ -23,7 +23,7 @@ one_field at end n old new field ends wide written behind = record {
 }
 
 -- nothing
-pub no_field : (at : ℕ) (buf : List ℕ) → Writes at at buf buf []
+pub no_field : (at : ℕ) (buf : List ℕ) → WritesField at at buf buf []
 no_field at buf = record {
   ends = omega arith;
   written = sym (append-nil (take at buf));
@@ -31,8 +31,8 @@ no_field at buf = record {
 }
 
 -- one behind another
-pub and_then : {at mid end : ℕ} {old between new a b : List ℕ} → Writes at mid old between a
-    → Writes mid end between new b → Writes at end old new (a ++ b)
+pub and_then : {at mid end : ℕ} {old between new a b : List ℕ} → WritesField at mid old between a
+    → WritesField mid end between new b → WritesField at end old new (a ++ b)
 and_then {at} {mid} {end} {old} {between} {new} {a} {b} x y = record {
   ends = omega (arith, x.ends, y.ends, length-append a b);
   written = y.written ∙ ap (λ (l : List ℕ). l ++ b) x.written ∙ append_assoc (take at old) a b;
@@ -40,15 +40,15 @@ and_then {at} {mid} {end} {old} {between} {new} {a} {b} x y = record {
 }
 
 -- the same field, spelled otherwise
-pub so_spelled : {at end : ℕ} {old new a b : List ℕ} → Writes at end old new a → a ≡ b
-    → Writes at end old new b
+pub so_spelled : {at end : ℕ} {old new a b : List ℕ} → WritesField at end old new a → a ≡ b
+    → WritesField at end old new b
 so_spelled {at} {end} {old} {new} x e =
-    subst (λ (l : List ℕ). Writes at end old new l) e x
+    subst (λ (l : List ℕ). WritesField at end old new l) e x
 
 -- a field of n bytes in the part of a buffer behind a place
 pub in_part : (a n : ℕ) (xs field ys : List ℕ) → a + n ≤ length xs → length field ≡ n
     → ys ≡ field ++ drop n (take (length xs - a) (drop a xs))
-    → Writes a (a + n) xs (put_mid a (length xs - a) xs ys) field
+    → WritesField a (a + n) xs (put_mid a (length xs - a) xs ys) field
 in_part a n xs field ys fits wide begins =
     let len = length-drop a xs in
     let rest : take (length xs - a) (drop a xs) ≡ drop a xs =
@@ -70,8 +70,8 @@ in_part a n xs field ys fits wide begins =
 
 -- a field before one that is there already
 pub put_before : {at mid end : ℕ} {old between new a b : List ℕ} → mid ≤ length old
-    → Writes mid end old between b → Writes at mid between new a
-    → Writes at end old new (a ++ b)
+    → WritesField mid end old between b → WritesField at mid between new a
+    → WritesField at end old new (a ++ b)
 put_before {at} {mid} {end} {old} {between} {new} {a} {b} fits x y =
     let n : ℕ = length b in
     let far : end ≡ mid + n = x.ends in
@@ -98,11 +98,11 @@ put_before {at} {mid} {end} {old} {between} {new} {a} {b} fits x y =
 
 -- what is written before bytes says how many they are
 pub sized : (at : ℕ) {behind end : ℕ} {old between new field : List ℕ} → at + 2 ≤ length old
-    → Writes (at + 2) end old between field
-    → Writes at behind between new (little_bytes 2 (end - at - 2))
-    → Writes at end old new (little_bytes 2 (length field) ++ field)
+    → WritesField (at + 2) end old between field
+    → WritesField at behind between new (little_bytes 2 (end - at - 2))
+    → WritesField at end old new (little_bytes 2 (length field) ++ field)
 sized at {behind} {end} {old} {between} {new} {field} room x y =
-    let front : Writes at (at + 2) between new (little_bytes 2 (end - at - 2)) =
-    subst (λ (k : ℕ). Writes at k between new (little_bytes 2 (end - at - 2))) y.ends y in
+    let front : WritesField at (at + 2) between new (little_bytes 2 (end - at - 2)) =
+    subst (λ (k : ℕ). WritesField at k between new (little_bytes 2 (end - at - 2))) y.ends y in
     let len : end - at - 2 ≡ length field = omega (arith, x.ends) in
     so_spelled (put_before room x front) (ap (λ (n : ℕ). little_bytes 2 n ++ field) len)

@@ -28,5 +28,5 @@ pub record Spells (tag : ℕ) (m : TMessage) (bytes : List ℕ) : Type 0 where
   pub frame : IsFrame bytes type tag parameters
 
 -- a reply under its request's tag
-abbrev pub spelled : (tag : ℕ) → RMessage → List ℕ
-spelled tag reply = framed (reply_type reply) tag (reply_parameters reply)
+abbrev pub spelled_reply : (tag : ℕ) → RMessage → List ℕ
+spelled_reply tag reply = framed (reply_type reply) tag (reply_parameters reply)

@@ -12,6 +12,6 @@ names_in (suc n) bytes =
     take len (drop 2 bytes) ∷ names_in n (drop (2 + len) bytes)
 
 -- these names and nothing more are the bytes
-pub record Fill (names : List (List ℕ)) (bytes : List ℕ) : Type 0 where
+pub record SpellNames (names : List (List ℕ)) (bytes : List ℕ) : Type 0 where
   pub each : AllByRecursion IsString names
   pub is : bytes ≡ flat_map string names

@@ -23,12 +23,12 @@ message_of (requests.Remove fid) = t_remove fid
 message_of (requests.Stat fid) = t_stat fid
 message_of (requests.Wstat fid stat) = t_wstat fid stat.now
 
-abbrev pub qid_of : qids.Qid → Qid
-qid_of q = record { folder = q.is_folder; path = q.path }
+abbrev pub wire_qid : qids.Qid → Qid
+wire_qid q = record { folder = q.is_folder; path = q.path }
 
-abbrev pub stat_of : stats.Stat → Stat
-stat_of s = record {
-  qid = qid_of s.qid;
+abbrev pub wire_stat : stats.Stat → Stat
+wire_stat s = record {
+  qid = wire_qid s.qid;
   mode = s.mode;
   mtime = s.mtime;
   len = s.len;
@@ -39,11 +39,11 @@ stat_of s = record {
 
 abbrev pub reply_of : Reply → RMessage
 reply_of (replies.Version msize version) = r_version msize version.now
-reply_of (replies.Attach qid) = r_attach (qid_of qid)
+reply_of (replies.Attach qid) = r_attach (wire_qid qid)
 reply_of replies.Flush = r_flush
-reply_of (replies.Walk qids) = r_walk (map qid_of qids.now)
-reply_of (replies.Open qid iounit) = r_open (qid_of qid) iounit
+reply_of (replies.Walk qids) = r_walk (map wire_qid qids.now)
+reply_of (replies.Open qid iounit) = r_open (wire_qid qid) iounit
 reply_of (replies.Read bytes) = r_read bytes.now
 reply_of replies.Clunk = r_clunk
-reply_of (replies.Stat stat) = r_stat (stat_of stat)
+reply_of (replies.Stat stat) = r_stat (wire_stat stat)
 reply_of (replies.Error text) = r_error text.now

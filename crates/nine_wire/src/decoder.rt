@@ -11,27 +11,28 @@ ghost use Rattle.nine_wire.specs.Views.{message_of};
 
 use crate::fields::{string_at, u16_at, u32_at, u64_at};
 use crate::names::names_of;
-use crate::{NineBad, Request};
+use crate::{NineError, Request};
 
 /// The request that a whole message spells, and its tag. Of the tests that a message fails, the
 /// first is told: it is no whole message, no request has its type, or its parameters don't fill it.
-pub fn decode(message: &[u8]) -> Result<(u16, Request<'_>), NineBad>
+pub fn decode(message: &[u8]) -> Result<(u16, Request<'_>), NineError>
     ensures ok { IfOk result (λ m. Spells m.0 (message_of m.1) message.now) }
     ensures only { (tag : ℕ) (m : TMessage) → Spells tag m message.now →
         IsOkAnd result (λ r. (r.0 ≡ tag) × (message_of r.1 ≡ m)) }
-    ensures short { IsErrOf result NineBad.Short ↔ IsCutShort message.now }
-    ensures unknown { (tag : ℕ) → IsErrOf result (NineBad.Unknown tag) ↔ IsUnknown message.now tag }
-    ensures bad { (tag : ℕ) → IsErrOf result (NineBad.Bad tag) ↔ IsMisspelled message.now tag }
+    ensures short { IsErrOf result NineError.Short ↔ IsCutShort message.now }
+    ensures unknown { (tag : ℕ) → IsErrOf result (NineError.Unknown tag)
+        ↔ IsUnknown message.now tag }
+    ensures bad { (tag : ℕ) → IsErrOf result (NineError.Bad tag) ↔ IsMisspelled message.now tag }
 {
     let Some((kind, tag, parameters)) = split_message(message) else {
-        return Err(NineBad::Short);
+        return Err(NineError::Short);
     };
     if !is_request(kind) {
-        return Err(NineBad::Unknown { tag });
+        return Err(NineError::Unknown { tag });
     }
     match request_of(kind, parameters) {
         Some(request) => Ok((tag, request)),
-        None => Err(NineBad::Bad { tag }),
+        None => Err(NineError::Bad { tag }),
     }
 }
 

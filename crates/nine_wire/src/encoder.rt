@@ -4,23 +4,23 @@ ghost use Rattle.std.specs.Prelude.{◌≡◌, ◌+◌, ◌*◌, ◌≤◌, ◌+
 ghost use Rattle.std.specs.Prelude.{length, take, drop, map};
 ghost use Rattle.byteorder.specs.Endian.{little_bytes};
 ghost use Rattle.std.specs.List.{flat_map};
-ghost use Rattle.nine_wire.specs.Frames.{spelled};
+ghost use Rattle.nine_wire.specs.Frames.{spelled_reply};
 ghost use Rattle.nine_wire.specs.Messages.{FitsReply, FitsStat, qid_bytes, stat_bytes};
 ghost use Rattle.nine_wire.specs.Messages.{stat_numbers, reply_type, reply_parameters};
-ghost use Rattle.nine_wire.specs.Views.{qid_of, reply_of, stat_of};
-ghost use Rattle.nine_wire.specs.Writing.{Writes};
+ghost use Rattle.nine_wire.specs.Views.{wire_qid, reply_of, wire_stat};
+ghost use Rattle.nine_wire.specs.Writing.{WritesField};
 
 use crate::fields::{put_string, put_u16, put_u32, put_u64};
 use crate::{Qid, Reply, Stat};
-use vt_fields::{put, put_u8};
+use vt_base::fields::{put, put_u8};
 
 /// Writes a reply under its request's tag to the front of the buffer, and says how many bytes it
 /// has.
 pub fn encode(tag: u16, reply: &Reply<'_>, buf: &mut [u8]) -> usize
     requires fits { FitsReply (reply_of reply.now) }
-    requires room { length (spelled tag (reply_of reply.now)) ≤ length buf.old }
-    ensures written { take result buf.new ≡ spelled tag (reply_of reply.now) }
-    ensures len { result ≡ length (spelled tag (reply_of reply.now)) }
+    requires room { length (spelled_reply tag (reply_of reply.now)) ≤ length buf.old }
+    ensures written { take result buf.new ≡ spelled_reply tag (reply_of reply.now) }
+    ensures len { result ≡ length (spelled_reply tag (reply_of reply.now)) }
     ensures behind { drop result buf.new ≡ drop result buf.old }
 {
     let at = put_u8(buf, 4, type_of(reply));
@@ -51,7 +51,7 @@ fn type_of(reply: &Reply<'_>) -> u8
 fn put_parameters(buf: &mut [u8], at: usize, reply: &Reply<'_>) -> usize
     requires fits { FitsReply (reply_of reply.now) }
     requires room { at + length (reply_parameters (reply_of reply.now)) ≤ length buf.old }
-    ensures { Writes at result buf.old buf.new (reply_parameters (reply_of reply.now)) }
+    ensures { WritesField at result buf.old buf.new (reply_parameters (reply_of reply.now)) }
 {
     match reply {
         Reply::Version { msize, version } => {
@@ -81,7 +81,7 @@ fn put_parameters(buf: &mut [u8], at: usize, reply: &Reply<'_>) -> usize
 /// Writes a qid at this place, and gives the place behind it.
 fn put_qid(buf: &mut [u8], at: usize, qid: &Qid) -> usize
     requires { at + 13 ≤ length buf.old }
-    ensures { Writes at result buf.old buf.new (qid_bytes (qid_of qid.now)) }
+    ensures { WritesField at result buf.old buf.new (qid_bytes (wire_qid qid.now)) }
 {
     let at = put_u8(buf, at, qid_type(qid));
     let at = put_u32(buf, at, 0);
@@ -99,8 +99,8 @@ fn qid_type(qid: &Qid) -> u8
 fn put_qids(buf: &mut [u8], at: usize, qids: &[Qid]) -> usize
     requires few { length qids.now < 2 ^ 16 }
     requires room { at + 2 + 13 * length qids.now ≤ length buf.old }
-    ensures { Writes at result buf.old buf.new
-        (little_bytes 2 (length qids.now) ++ flat_map qid_bytes (map qid_of qids.now)) }
+    ensures { WritesField at result buf.old buf.new
+        (little_bytes 2 (length qids.now) ++ flat_map qid_bytes (map wire_qid qids.now)) }
 {
     let mut at = put_u16(buf, at, qids.len() as u16);
     for qid in qids {
@@ -112,9 +112,9 @@ fn put_qids(buf: &mut [u8], at: usize, qids: &[Qid]) -> usize
 /// Writes what is told of a file at this place, its size with it, and gives the place behind it.
 /// The whole has fewer than 65,536 bytes.
 pub fn put_stat(buf: &mut [u8], at: usize, stat: &Stat<'_>) -> usize
-    requires fits { FitsStat (stat_of stat.now) }
-    requires room { at + length (stat_bytes (stat_of stat.now)) ≤ length buf.old }
-    ensures { Writes at result buf.old buf.new (stat_bytes (stat_of stat.now)) }
+    requires fits { FitsStat (wire_stat stat.now) }
+    requires room { at + length (stat_bytes (wire_stat stat.now)) ≤ length buf.old }
+    ensures { WritesField at result buf.old buf.new (stat_bytes (wire_stat stat.now)) }
 {
     // 47: type 2, dev 4, qid 13, mode 4, two times of 4, length 8, four lengths of 2.
     let size = 47 + stat.name.len() + 2 * stat.uid.len() + stat.gid.len();
@@ -129,7 +129,7 @@ pub fn put_stat(buf: &mut [u8], at: usize, stat: &Stat<'_>) -> usize
 /// Writes the qid and the numbers of a file at this place, and gives the place behind them.
 fn put_numbers(buf: &mut [u8], at: usize, stat: &Stat<'_>) -> usize
     requires { at + 39 ≤ length buf.old }
-    ensures { Writes at result buf.old buf.new (stat_numbers (stat_of stat.now)) }
+    ensures { WritesField at result buf.old buf.new (stat_numbers (wire_stat stat.now)) }
 {
     let at = put_u16(buf, at, 0);
     let at = put_u32(buf, at, 0);

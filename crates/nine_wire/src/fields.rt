@@ -4,10 +4,10 @@ ghost use Rattle.std.specs.Prelude.{◌≡◌, ◌≢◌, ◌+◌, ◌<◌, ◌�
 ghost use Rattle.std.specs.Prelude.{IfSome, IfNone};
 ghost use Rattle.byteorder.specs.Endian.{little_bytes};
 ghost use Rattle.nine_wire.specs.Messages.{string, IsString};
-ghost use Rattle.nine_wire.specs.Writing.{Writes};
+ghost use Rattle.nine_wire.specs.Writing.{WritesField};
 
 use byteorder::{ByteOrder, LittleEndian};
-use vt_fields::put;
+use vt_base::fields::put;
 
 /// A number field of two bytes in front, and what stands behind it.
 pub(crate) fn u16_at(bytes: &[u8]) -> Option<(u16, &[u8])>
@@ -50,7 +50,7 @@ pub(crate) fn string_at(bytes: &[u8]) -> Option<(&[u8], &[u8])>
 /// Writes a number field of two bytes at this place, and gives the place behind it.
 pub(crate) fn put_u16(buf: &mut [u8], at: usize, value: u16) -> usize
     requires { at + 2 ≤ length buf.old }
-    ensures { Writes at result buf.old buf.new (little_bytes 2 value) }
+    ensures { WritesField at result buf.old buf.new (little_bytes 2 value) }
 {
     LittleEndian::write_u16(&mut buf[at..], value);
     at + 2
@@ -59,7 +59,7 @@ pub(crate) fn put_u16(buf: &mut [u8], at: usize, value: u16) -> usize
 /// Writes a number field of four bytes at this place, and gives the place behind it.
 pub(crate) fn put_u32(buf: &mut [u8], at: usize, value: u32) -> usize
     requires { at + 4 ≤ length buf.old }
-    ensures { Writes at result buf.old buf.new (little_bytes 4 value) }
+    ensures { WritesField at result buf.old buf.new (little_bytes 4 value) }
 {
     LittleEndian::write_u32(&mut buf[at..], value);
     at + 4
@@ -68,7 +68,7 @@ pub(crate) fn put_u32(buf: &mut [u8], at: usize, value: u32) -> usize
 /// Writes a number field of eight bytes at this place, and gives the place behind it.
 pub(crate) fn put_u64(buf: &mut [u8], at: usize, value: u64) -> usize
     requires { at + 8 ≤ length buf.old }
-    ensures { Writes at result buf.old buf.new (little_bytes 8 value) }
+    ensures { WritesField at result buf.old buf.new (little_bytes 8 value) }
 {
     LittleEndian::write_u64(&mut buf[at..], value);
     at + 8
@@ -78,7 +78,7 @@ pub(crate) fn put_u64(buf: &mut [u8], at: usize, value: u64) -> usize
 pub(crate) fn put_string(buf: &mut [u8], at: usize, text: &[u8]) -> usize
     requires short { IsString text.now }
     requires room { at + length (string text.now) ≤ length buf.old }
-    ensures { Writes at result buf.old buf.new (string text.now) }
+    ensures { WritesField at result buf.old buf.new (string text.now) }
 {
     let at = put_u16(buf, at, text.len() as u16);
     put(buf, at, text)

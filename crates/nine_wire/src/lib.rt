@@ -13,7 +13,7 @@ mod stat;
 
 pub use decoder::decode;
 pub use encoder::{encode, put_stat};
-pub use message::{NineBad, Reply, Request};
+pub use message::{NineError, Reply, Request};
 pub use names::Names;
 pub use stat::{Qid, Stat};
 

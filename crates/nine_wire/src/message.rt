@@ -79,7 +79,7 @@ pub enum Reply<'a> {
 
 /// Why a message isn't one of these: the first test that fails. Beside the first it tells the tag.
 #[derive(Clone, Copy, Debug, PartialEq, Eq)]
-pub enum NineBad {
+pub enum NineError {
     /// It is no whole message, or has a size below 7.
     Short,
     /// No request has this type.

@@ -3,7 +3,7 @@
 ghost use Rattle.std.specs.Prelude.{◌≡◌, ◌≢◌, ℕ, List, IfSome, IfNone, length};
 ghost use Rattle.std.specs.List.{AllByRecursion, flat_map};
 ghost use Rattle.nine_wire.specs.Messages.{string, IsString};
-ghost use Rattle.nine_wire.specs.Names.{Fill};
+ghost use Rattle.nine_wire.specs.Names.{SpellNames};
 
 use crate::fields::string_at;
 use std::marker::Model;
@@ -17,13 +17,13 @@ pub struct Names<'a> {
 
 impl<'a> Model for Names<'a> {
     ghost use Rattle.std.specs.Prelude.{ℕ, List};
-    ghost use Rattle.nine_wire.specs.Names.{names_in, Fill};
+    ghost use Rattle.nine_wire.specs.Names.{names_in, SpellNames};
 
     ghost Value = { List (List ℕ) };
 
     ghost view = { λ n. names_in n.count n.bytes.now };
 
-    ghost invariant = { λ n. Fill (names_in n.count n.bytes.now) n.bytes.now };
+    ghost invariant = { λ n. SpellNames (names_in n.count n.bytes.now) n.bytes.now };
 }
 
 impl<'a> Names<'a> {
@@ -61,9 +61,9 @@ impl<'a> Names<'a> {
 
 /// So many names, where they and nothing more are these bytes.
 pub(crate) fn names_of(count: u16, bytes: &[u8]) -> Option<Names<'_>>
-    ensures found { IfSome result (λ names. (length names ≡ count) × Fill names bytes.now) }
+    ensures found { IfSome result (λ names. (length names ≡ count) × SpellNames names bytes.now) }
     ensures none { IfNone result ((names : List (List ℕ)) →
-        length names ≡ count → ¬ Fill names bytes.now) }
+        length names ≡ count → ¬ SpellNames names bytes.now) }
 {
     let mut rest = bytes;
     for _ in 0..count {

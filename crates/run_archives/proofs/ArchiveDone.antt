@@ -4,11 +4,11 @@ use Rattle.std.specs.Prelude.{IsTrue, min}
 use Rattle.vt_base.specs.Faults.{CountsFault}
 use Rattle.vt_conf.specs.declared.conf.Conf.{Conf}
 use Rattle.vt_disk.specs.Members.{DiskOf}
-use Rattle.vt_folder.specs.declared.item.Facts.{Facts}
-use Rattle.vt_folder.specs.Items.{Items}
-use Rattle.vt_folders.specs.Standing.{Standing, lent, there}
+use Rattle.vt_out.specs.declared.folder_item.Facts.{Facts}
+use Rattle.vt_out.specs.FolderItems.{Items}
+use Rattle.vt_out.specs.FolderStanding.{Standing, lent, there}
 use Rattle.vac_write.specs.Archiving.{IsSeen}
-use Rattle.vac_store.specs.declared.outcome.ArchiveBad.{ArchiveBad}
+use Rattle.vac_store.specs.declared.outcome.ArchiveError.{ArchiveError}
 use Rattle.vac_store.specs.declared.outcome.StoredArchive.{StoredArchive}
 use Rattle.vac_store.specs.Stored.{ArchivesStored}
 use Rattle.vac_store.specs.Storing.{is_folder_fault}
@@ -20,7 +20,7 @@ use Rattle.run_archives.proofs.FoldersBack.{back_again, counts_back}
 module _ {P D : Type 0} (score : List ℕ → List ℕ) (disk : DiskOf D) (name : List ℕ) (conf : Conf)
     (bsize now : ℕ) (parts : PartsChange P D) (tells told : Bool) (held left : Items Facts)
     (old mid new : List ℕ → Standing) where
-  pub stores_folder : (told_as result : Result StoredArchive ArchiveBad) → told_as ≡ result
+  pub stores_folder : (told_as result : Result StoredArchive ArchiveError) → told_as ≡ result
       → (before between after own own' : ℕ)
       → (IsTrue told → IsTrue tells × (old name ≡ there held)) → (IsTrue told → mid name ≡ lent)
       → (IsTrue told → (other : List ℕ) → other ≢ name → mid other ≡ old other)

@@ -4,9 +4,9 @@ use Rattle.std.specs.Prelude.{bytes_eq, min, MatchBool}
 use Rattle.std.proofs.lemmas.Bool.{cases_Bool}
 use Rattle.std.proofs.lemmas.Slice.Eq.{bytes_eq-Decides}
 use Rattle.vt_base.specs.Faults.{CountsFault, HasRisen}
-use Rattle.vt_folder.specs.declared.item.Facts.{Facts}
-use Rattle.vt_folder.specs.Items.{Items}
-use Rattle.vt_folders.specs.Standing.{Standing, lent, there}
+use Rattle.vt_out.specs.declared.folder_item.Facts.{Facts}
+use Rattle.vt_out.specs.FolderItems.{Items}
+use Rattle.vt_out.specs.FolderStanding.{Standing, lent, there}
 
 -- under this name and under others
 pub same_everywhere : (old new : List ℕ → Standing) (name : List ℕ) → new name ≡ old name

@@ -5,36 +5,36 @@ use Rattle.std.specs.List.{All}
 use Rattle.vt_base.specs.Faults.{HasRisen}
 use Rattle.vt_conf.specs.declared.conf.Conf.{Conf}
 use Rattle.vt_disk.specs.Members.{DiskOf}
-use Rattle.vt_folder.specs.declared.item.Facts.{Facts}
-use Rattle.vt_folder.specs.Items.{Items}
-use Rattle.vt_tree.specs.declared.err.TreeErr.TheVariants as trees
+use Rattle.vt_out.specs.declared.folder_item.Facts.{Facts}
+use Rattle.vt_out.specs.FolderItems.{Items}
+use Rattle.vt_tree.specs.declared.error.TreeErr.TheVariants as trees
 use Rattle.vt_core.specs.Core.{CoreState, stops_of}
-use Rattle.vac_write.specs.declared.err.VacErr.{VacErr}
-use Rattle.vac_write.specs.declared.err.VacErr.TheVariants as vac
+use Rattle.vac_write.specs.declared.error.VacErr.{VacErr}
+use Rattle.vac_write.specs.declared.error.VacErr.TheVariants as vac
 use Rattle.vac_write.specs.Archiving.{IsSeen}
-use Rattle.vac_store.specs.declared.outcome.ArchiveBad.{ArchiveBad}
-use Rattle.vac_store.specs.declared.outcome.ArchiveBad.TheVariants as bads
+use Rattle.vac_store.specs.declared.outcome.ArchiveError.{ArchiveError}
+use Rattle.vac_store.specs.declared.outcome.ArchiveError.TheVariants as bads
 use Rattle.vac_store.specs.declared.outcome.StoredArchive.{StoredArchive}
 use Rattle.vac_store.specs.Storing.{ArchivesInto, FailsAs}
-use Rattle.run_base.specs.declared.failure.Failure.{Failure}
-use Rattle.run_base.specs.declared.failure.Failure.TheVariants.{FolderFault, NoMemory}
+use Rattle.run_base.specs.declared.error.CommandError.{CommandError}
+use Rattle.run_base.specs.declared.error.CommandError.TheVariants.{FolderFault, NoMemory}
 use Rattle.run_base.specs.Blocks.{refusal_for}
-use Rattle.run_base.specs.Change.{Change, FilesChange, FoldersChange, PartsChange}
+use Rattle.run_base.specs.Change.{StreamChange, FilesChange, FoldersChange, PartsChange}
 use Rattle.run_archives.specs.Vac.{ArchivesNone, AsksForNoSize, DoesVac, HandsOutNone, IsArchiveRefusal, StoresFolder, StoresNone, archive_line, unfit_for}
-use Rattle.run_base.specs.Failure.{Causes, HasCauseIn, Outcome, no_cause, with_files, with_folders, with_parts, with_sink}
+use Rattle.run_base.specs.Errors.{Causes, HasCauseIn, CommandOutcome, no_cause, with_files, with_folders, with_parts, with_sink}
 use Rattle.run_base.proofs.StoredCauses.{used_rises, why_told}
 use Rattle.run_base.proofs.Causes.{as_told, none_has_cause, printed_has_cause}
 use Rattle.run_base.proofs.OpenCauses.{open_told}
 
 -- why no folder was handed out, and why a word asks for no size
-pub out_cause : (causes : Causes) (folders : FoldersChange) (failure : Failure)
+pub out_cause : (causes : Causes) (folders : FoldersChange) (failure : CommandError)
     → (HasRisen folders.faults folders.faults' → causes.folders) → HandsOutNone folders failure
     → HasCauseIn causes (Err failure)
 out_cause causes folders FolderFault rises none = rises none
 out_cause causes folders NoMemory rises none = tt
 out_cause causes folders failure rises none = absurd none
 
-pub size_cause : (causes : Causes) (word : Option (List ℕ)) (failure : Failure)
+pub size_cause : (causes : Causes) (word : Option (List ℕ)) (failure : CommandError)
     → AsksForNoSize word failure → HasCauseIn causes (Err failure)
 size_cause causes None failure none = absurd none
 size_cause causes (Some word) failure none = as_told causes failure _ none.1 tt
@@ -42,12 +42,12 @@ size_cause causes (Some word) failure none = as_told causes failure _ none.1 tt
 module _ {I P D K : Type 0} (score : List ℕ → List ℕ) (disk : DiskOf D)
     -- a failure of a store into which a folder was archived has its cause
     (fails : (now bsize : ℕ) (tells : Bool) (held : Items Facts)
-    (result : Result StoredArchive ArchiveBad) (old new : CoreState D)
+    (result : Result StoredArchive ArchiveError) (old new : CoreState D)
     → ArchivesInto score disk now bsize (IsSeen tells held) result old new
     → All (λ stop. stop ≡ None) (stops_of old) → IfErr result (λ bad. FailsAs disk bad old new))
-    (file name : List ℕ) (size : Option (List ℕ)) (preface : List ℕ) (outcome : Outcome)
+    (file name : List ℕ) (size : Option (List ℕ)) (preface : List ℕ) (outcome : CommandOutcome)
     (files : FilesChange I) (folders : FoldersChange) (parts : PartsChange P D)
-    (sink : Change K) where
+    (sink : StreamChange K) where
   abbrev causes : Causes
   causes = with_files files (with_folders folders (with_parts disk parts (with_sink sink no_cause)))
 
@@ -59,7 +59,7 @@ module _ {I P D K : Type 0} (score : List ℕ → List ℕ) (disk : DiskOf D)
     unfit_cause (vac.Tree trees.TooLong) x = tt
     unfit_cause err x = tt
 
-    refusal_cause : (bad : ArchiveBad) (failure : Failure)
+    refusal_cause : (bad : ArchiveError) (failure : CommandError)
         → StoresFolder score disk name conf bsize (Err bad) folders parts
         → IsArchiveRefusal file conf bad failure → HasCauseIn causes (Err failure)
     refusal_cause (bads.Unopened bad) failure x told = open_told score disk file conf parts causes
@@ -74,7 +74,7 @@ module _ {I P D K : Type 0} (score : List ℕ → List ℕ) (disk : DiskOf D)
         (fails x.now bsize x.tells x.held (Err (bads.Refused why)) u.opened u.left u.does
         u.opens.mounts.fresh.stops))
 
-    stored_cause : (failure : Failure)
+    stored_cause : (failure : CommandError)
         → StoresNone score disk file name conf bsize failure folders parts
         → HasCauseIn causes (Err failure)
     stored_cause failure none = ⊎_elim
@@ -82,7 +82,7 @@ module _ {I P D K : Type 0} (score : List ℕ → List ℕ) (disk : DiskOf D)
         (λ refused. refusal_cause refused.0 failure refused.1 refused.2)
         none
 
-  none_cause : (failure : Failure)
+  none_cause : (failure : CommandError)
       → ArchivesNone score disk file name size failure files folders parts
       → HasCauseIn causes (Err failure)
   none_cause failure none = ⊎_elim

@@ -1,23 +1,23 @@
 -- Why a folder isn't archived at a server.
 use Rattle.std.proofs.Common.{◌≡◌, ⊎_elim, ℕ, Bool, List, Option, Err, sym, subst}
-use Rattle.vt_client.specs.declared.err.ClientErr.{ClientErr}
+use Rattle.vt_client.specs.declared.error.ClientErr.{ClientErr}
 use Rattle.vt_conf.specs.declared.address.Address.{Address}
-use Rattle.vt_folder.specs.declared.item.Facts.{Facts}
-use Rattle.vt_folder.specs.Items.{Items}
+use Rattle.vt_out.specs.declared.folder_item.Facts.{Facts}
+use Rattle.vt_out.specs.FolderItems.{Items}
 use Rattle.vt_remote.specs.Refused.{HasCauseOver}
-use Rattle.vt_remote.specs.Remote.{MeetsInVain, Talks}
-use Rattle.vt_tree.specs.declared.err.TreeErr.TheVariants as trees
-use Rattle.vac_write.specs.declared.err.VacErr.{VacErr}
-use Rattle.vac_write.specs.declared.err.VacErr.TheVariants as vac
+use Rattle.vt_remote.specs.Remote.{MeetsInVain, TalksToServer}
+use Rattle.vt_tree.specs.declared.error.TreeErr.TheVariants as trees
+use Rattle.vac_write.specs.declared.error.VacErr.{VacErr}
+use Rattle.vac_write.specs.declared.error.VacErr.TheVariants as vac
 use Rattle.vac_write.specs.Archiving.{IsSeen}
-use Rattle.vac_remote.specs.declared.outcome.SentBad.{SentBad}
-use Rattle.vac_remote.specs.declared.outcome.SentBad.TheVariants as bads
+use Rattle.vac_remote.specs.declared.outcome.SendError.{SendError}
+use Rattle.vac_remote.specs.declared.outcome.SendError.TheVariants as bads
 use Rattle.vac_remote.specs.Sending.{SendsFolder}
-use Rattle.run_base.specs.declared.failure.Failure.{Failure}
-use Rattle.run_base.specs.Change.{Change, DialerChange, FoldersChange}
+use Rattle.run_base.specs.declared.error.CommandError.{CommandError}
+use Rattle.run_base.specs.Change.{StreamChange, DialerChange, FoldersChange}
 use Rattle.run_archives.specs.Vac.{archive_line, unfit_for}
-use Rattle.run_archives.specs.VacServed.{ArchivesNoneAt, DoesVacServed, SendsNamed, refusal_for}
-use Rattle.run_base.specs.Failure.{Causes, HasCauseIn, Outcome, no_cause, with_dialer, with_folders, with_sink}
+use Rattle.run_archives.specs.VacServed.{ArchivesNoneAt, DoesVacServed, SendsNamed, send_failure}
+use Rattle.run_base.specs.Errors.{Causes, HasCauseIn, CommandOutcome, no_cause, with_dialer, with_folders, with_sink}
 use Rattle.run_base.specs.Members.{LinkOf}
 use Rattle.run_base.proofs.StoredCauses.{server_cause}
 use Rattle.run_base.proofs.Causes.{as_told, printed_has_cause}
@@ -28,10 +28,10 @@ module _ {N L K : Type 0} (link : LinkOf L) (score : List ℕ → List ℕ)
     → HasCauseOver link why back)
     -- a refusal of a server at which a folder was archived has its cause
     (fails : (bsize : ℕ) (tells : Bool) (held : Items Facts) (why : ClientErr) (back : L)
-    → Talks link score (SendsFolder link score bsize (IsSeen tells held) (Err why)) back
+    → TalksToServer link score (SendsFolder link score bsize (IsSeen tells held) (Err why)) back
     → HasCauseOver link why back) (address : Address) (name : List ℕ) (size : Option (List ℕ))
-    (preface : List ℕ) (outcome : Outcome) (folders : FoldersChange) (dialer : DialerChange N L)
-    (sink : Change K) (reads : dialer.read_faults ≡ link.read_faults)
+    (preface : List ℕ) (outcome : CommandOutcome) (folders : FoldersChange) (dialer : DialerChange N L)
+    (sink : StreamChange K) (reads : dialer.read_faults ≡ link.read_faults)
     (writes : dialer.write_faults ≡ link.write_faults) where
   abbrev causes : Causes
   causes = with_folders folders (with_dialer dialer (with_sink sink no_cause))
@@ -43,21 +43,21 @@ module _ {N L K : Type 0} (link : LinkOf L) (score : List ℕ → List ℕ)
   unfit_cause bsize (vac.Tree trees.TooLong) x = tt
   unfit_cause bsize err x = tt
 
-  refusal_cause : (bsize : ℕ) (bad : SentBad)
+  refusal_cause : (bsize : ℕ) (bad : SendError)
       → SendsNamed link score address name bsize (Err bad) folders dialer
-      → HasCauseIn causes (Err (refusal_for bad))
+      → HasCauseIn causes (Err (send_failure bad))
   refusal_cause bsize (bads.Server bad) x = server_cause link score address dialer reads writes met
       (SendsFolder link score bsize (IsSeen x.tells x.held)) (fails bsize x.tells x.held) bad x.asks
   refusal_cause bsize (bads.Folder err) x = unfit_cause bsize err x
 
-  none_cause : (failure : Failure)
+  none_cause : (failure : CommandError)
       → ArchivesNoneAt link score address name size failure folders dialer
       → HasCauseIn causes (Err failure)
   none_cause failure none = ⊎_elim
       (λ word. size_cause causes size failure word.0)
       (λ sized. ⊎_elim
       (λ absent. out_cause causes folders failure (λ rose. rose) absent.none)
-      (λ refused. as_told causes failure (refusal_for refused.0) refused.2
+      (λ refused. as_told causes failure (send_failure refused.0) refused.2
       (refusal_cause sized.0 refused.0 refused.1))
       sized.2)
       none

@@ -4,21 +4,21 @@ use Rattle.std.specs.List.{All}
 use Rattle.std.specs.Prelude.{IfOk, IfSome, IsTrue}
 use Rattle.vt_base.specs.Faults.{HasRisen}
 use Rattle.vt_client.specs.Clients.{ClientState}
-use Rattle.vt_client.specs.declared.err.ClientErr.{ClientErr}
-use Rattle.vt_client.specs.declared.err.ClientErr.TheVariants as errs
+use Rattle.vt_client.specs.declared.error.ClientErr.{ClientErr}
+use Rattle.vt_client.specs.declared.error.ClientErr.TheVariants as errs
 use Rattle.vt_conf.specs.declared.address.Address.{Address}
 use Rattle.vt_dial.specs.Dialled.{Dialled}
 use Rattle.vt_disk.specs.Members.{DiskOf}
 use Rattle.vt_model.specs.Causes.{OneRose}
 use Rattle.vt_core.specs.Core.{CoreState, each_of, stops_of}
-use Rattle.vt_remote.specs.declared.remote.RemoteBad.{RemoteBad}
-use Rattle.vt_remote.specs.declared.remote.RemoteBad.TheVariants as remote
+use Rattle.vt_remote.specs.declared.remote.RemoteError.{RemoteError}
+use Rattle.vt_remote.specs.declared.remote.RemoteError.TheVariants as remote
 use Rattle.vt_remote.specs.Refused.{HasCauseOver}
-use Rattle.vt_remote.specs.Remote.{AsksNothing, AsksServer, IsBack, MeetsInVain, Talks}
-use Rattle.vt_tree.specs.declared.err.BlockErr.TheVariants as blocks
-use Rattle.vt_tree.specs.declared.err.TreeErr.TheVariants as trees
-use Rattle.vac_read.specs.declared.err.VacBad.{VacBad}
-use Rattle.vac_read.specs.declared.err.VacBad.TheVariants as vac
+use Rattle.vt_remote.specs.Remote.{MeetsNoServer, AsksServer, IsBack, MeetsInVain, TalksToServer}
+use Rattle.vt_tree.specs.declared.error.BlockErr.TheVariants as blocks
+use Rattle.vt_tree.specs.declared.error.TreeErr.TheVariants as trees
+use Rattle.vac_read.specs.declared.error.VacBad.{VacBad}
+use Rattle.vac_read.specs.declared.error.VacBad.TheVariants as vac
 use Rattle.nine_view.specs.declared.serving.Ended.{Ended}
 use Rattle.nine_view.specs.declared.serving.Ended.TheVariants as ends
 use Rattle.nine_view.specs.declared.serving.Served.{Served}
@@ -29,11 +29,11 @@ use Rattle.vac_view.specs.Viewing.{Passed}
 use Rattle.run_base.specs.declared.place.Place.{Place}
 use Rattle.run_base.specs.declared.place.Place.TheVariants.{Memory, Server, Conf as InFile}
 use Rattle.run_base.specs.Blocks.{SaysNoScore}
-use Rattle.run_base.specs.Change.{Change, DialerChange, FilesChange, PartsChange}
-use Rattle.run_archives.specs.Vacfs.{DoesVacfs, IsUnmade, TellsServed, ViewsKept, ViewsPlace}
-use Rattle.run_base.specs.Failure.{Causes, HasCauseIn, HasFailed, Outcome, no_cause, with_dialer, with_files, with_parts, with_sink, with_source}
+use Rattle.run_base.specs.Change.{StreamChange, DialerChange, FilesChange, PartsChange}
+use Rattle.run_archives.specs.Vacfs.{DoesVacfs, IsUnmade, TellsServedView, ViewsKept, ViewsPlace}
+use Rattle.run_base.specs.Errors.{Causes, HasCauseIn, PartHasFailed, CommandOutcome, no_cause, with_dialer, with_files, with_parts, with_sink, with_source}
 use Rattle.run_base.specs.Members.{LinkOf}
-use Rattle.run_base.specs.Served.{first_of}
+use Rattle.run_base.specs.Served.{first_outcome}
 use Rattle.run_archives.specs.Viewed.{outcome_of_view, outcome_of_view_end, passed_over, unread_for, unread_in}
 use Rattle.run_base.proofs.StoredCauses.{link_cause, no_conf_cause, place_cause, server_cause, used_rises, word_cause}
 use Rattle.run_base.proofs.Causes.{as_told}
@@ -46,7 +46,7 @@ abbrev pub EndsFor : Passed → Served → Type 0
 EndsFor p served = ReadCause served.ended p.read_faults p.read_faults'
     × WriteCause served.ended p.write_faults p.write_faults'
 
-module _ {R K : Type 0} (source : Change R) (sink : Change K) (causes : Causes)
+module _ {R K : Type 0} (source : StreamChange R) (sink : StreamChange K) (causes : Causes)
     (reads : HasRisen source.faults source.faults' → causes.source)
     (writes : HasRisen sink.faults sink.faults' → causes.sink) where
   end_cause : (ended : Ended) (taken : ℕ) → ReadCause ended source.faults source.faults'
@@ -65,14 +65,14 @@ module _ {R K : Type 0} (source : Change R) (sink : Change K) (causes : Causes)
       view_cause (Ok served) fails ended = of served.failure fails
         where
           of : (failure : Option VacBad) → IfSome failure Fails
-              → HasCauseIn causes (first_of (unread_in failure refused)
+              → HasCauseIn causes (first_outcome (unread_in failure refused)
               (outcome_of_view_end served.ended served.taken))
           of None fails = end_cause served.ended served.taken ended.0 ended.1
           of (Some bad) fails = whys bad fails
       view_cause (Err bad) fails ended = whys bad fails
 
 module _ {R K I P D N L : Type 0} (score_of : List ℕ → List ℕ) (disk : DiskOf D)
-    (link : LinkOf L) (store : List ℕ) (outcome : Outcome) (source : Change R) (sink : Change K)
+    (link : LinkOf L) (store : List ℕ) (outcome : CommandOutcome) (source : StreamChange R) (sink : StreamChange K)
     (files : FilesChange I) (parts : PartsChange P D) (dialer : DialerChange N L) where
   abbrev causes : Causes
   causes = with_source source (with_sink sink (with_files files (with_parts disk parts
@@ -97,7 +97,7 @@ module _ {R K I P D N L : Type 0} (score_of : List ℕ → List ℕ) (disk : Dis
       → All (λ stop. stop ≡ None) (stops_of old)
       → IfSome (first_bad result) (λ bad. FailsAs disk bad old new)) where
     stored_bad : (opened left : CoreState D)
-        → (OneRose (each_of disk.faults opened) (each_of disk.faults left) → HasFailed disk parts)
+        → (OneRose (each_of disk.faults opened) (each_of disk.faults left) → PartHasFailed disk parts)
         → (bad : VacBad) → FailsAs disk bad opened left
         → HasCauseIn causes (Err (unread_for bad None))
     stored_bad opened left rises (vac.Tree (trees.Block blocks.Fault)) it = inr (rises it)
@@ -138,7 +138,7 @@ module _ {R K I P D N L : Type 0} (score_of : List ℕ → List ℕ) (disk : Dis
         (met : (why : ClientErr) (back : L) → MeetsInVain link score_of why back
         → HasCauseOver link why back)
         (remote_fails : (s : List ℕ) (p : Passed) (view : RemoteView) (back : L)
-        → Talks link score_of (ViewsAt link score_of s p (Ok view)) back
+        → TalksToServer link score_of (ViewsAt link score_of s p (Ok view)) back
         → IfSome (first_bad view.0) (λ bad. FailsOver link bad view.1 back)) where
       remote_bad : (address : Address) (bad : VacBad) (refused : Option ClientErr) (back : L)
           → FailsOver link bad refused back
@@ -159,15 +159,15 @@ module _ {R K I P D N L : Type 0} (score_of : List ℕ → List ℕ) (disk : Dis
         abbrev Does : Result RemoteView ClientErr → (c c' : ClientState L) → Type 0
         Does = ViewsAt link score_of s passed
 
-        remote_ended : (view : RemoteView) (back : L) → Talks link score_of (Does (Ok view)) back
+        remote_ended : (view : RemoteView) (back : L) → TalksToServer link score_of (Does (Ok view)) back
             → IfOk view.0 (EndsFor passed)
         remote_ended (Ok served, refused) back talks = (talks.does.1.reads, talks.does.1.writes)
         remote_ended (Err bad, refused) back talks = tt
 
-        served_cause : (result : Result RemoteView RemoteBad)
+        served_cause : (result : Result RemoteView RemoteError)
             → AsksServer link score_of Does (IsTrue dialer.tells) address dialer.old dialer.new
             dialer.faults dialer.faults' result
-            → TellsServed result outcome source sink → HasCauseIn causes outcome
+            → TellsServedView result outcome source sink → HasCauseIn causes outcome
         served_cause (Ok view) asks told = subst (HasCauseIn causes) (sym told.0)
             (view_cause source sink causes (λ rose. rose) (λ rose. rose) view.1
             (λ bad. FailsOver link bad view.1 asks.0)
@@ -198,8 +198,8 @@ module _ {R K I P D N L : Type 0} (score_of : List ℕ → List ℕ) (disk : Dis
 -- no server was met
 pub asks_none : {L T : Type 0} (link : LinkOf L) (score_of : List ℕ → List ℕ)
     (Does : Result T ClientErr → (c c' : ClientState L) → Type 0) (told : Type 0)
-    (address : Address) (old new : Dialled L) (faults faults' : ℕ) (bad : RemoteBad)
-    → AsksNothing link score_of told address old new faults faults' bad
+    (address : Address) (old new : Dialled L) (faults faults' : ℕ) (bad : RemoteError)
+    → MeetsNoServer link score_of told address old new faults faults' bad
     → AsksServer link score_of Does told address old new faults faults' (Err bad)
 asks_none link score_of Does told address old new faults faults' remote.Undialled it = it
 asks_none link score_of Does told address old new faults faults' (remote.Refused why) it = inl it

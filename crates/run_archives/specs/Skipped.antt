@@ -1,7 +1,7 @@
 -- What is left out of an archive.
 use Rattle.std.specs.Prelude.{ℕ, List, [], ◌∷◌, codes, map}
 use Rattle.std.specs.List.{concat}
-use Rattle.run_base.specs.Failure.{line}
+use Rattle.run_base.specs.Errors.{line}
 
 -- a line for each path
 abbrev pub skipped_line : (path : List ℕ) → List ℕ

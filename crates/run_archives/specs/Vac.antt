@@ -6,26 +6,26 @@ use Rattle.vt_base.specs.Faults.{CountsFault, HasRisen}
 use Rattle.vt_conf.specs.declared.conf.Conf.{Conf}
 use Rattle.vt_conf.specs.Numbers.{wrong_digit}
 use Rattle.vt_disk.specs.Members.{DiskOf}
-use Rattle.vt_folder.specs.declared.item.Facts.{Facts}
-use Rattle.vt_folder.specs.Items.{Items}
-use Rattle.vt_folders.specs.Standing.{there}
-use Rattle.vt_tree.specs.declared.err.TreeErr.TheVariants as trees
+use Rattle.vt_out.specs.declared.folder_item.Facts.{Facts}
+use Rattle.vt_out.specs.FolderItems.{Items}
+use Rattle.vt_out.specs.FolderStanding.{there}
+use Rattle.vt_tree.specs.declared.error.TreeErr.TheVariants as trees
 use Rattle.vac_model.specs.declared.TheConstants.{MIN_BLOCK_SIZE, MAX_BLOCK_SIZE}
-use Rattle.vac_write.specs.declared.err.VacErr.{VacErr}
-use Rattle.vac_write.specs.declared.err.VacErr.TheVariants as vac
+use Rattle.vac_write.specs.declared.error.VacErr.{VacErr}
+use Rattle.vac_write.specs.declared.error.VacErr.TheVariants as vac
 use Rattle.vac_write.specs.Archiving.{IsSeen}
-use Rattle.vac_store.specs.declared.outcome.ArchiveBad.{ArchiveBad}
-use Rattle.vac_store.specs.declared.outcome.ArchiveBad.TheVariants as bads
+use Rattle.vac_store.specs.declared.outcome.ArchiveError.{ArchiveError}
+use Rattle.vac_store.specs.declared.outcome.ArchiveError.TheVariants as bads
 use Rattle.vac_store.specs.declared.outcome.StoredArchive.{StoredArchive}
 use Rattle.vac_store.specs.Stored.{ArchivesStored}
 use Rattle.vac_store.specs.Storing.{is_folder_fault}
-use Rattle.run_base.specs.declared.failure.Failure.{Failure}
-use Rattle.run_base.specs.declared.failure.Failure.TheVariants.{BadName, BadNumber, FolderFault, NoMemory, TooDeep, TooLong}
+use Rattle.run_base.specs.declared.error.CommandError.{CommandError}
+use Rattle.run_base.specs.declared.error.CommandError.TheVariants.{BadName, BadNumber, FolderFault, NoMemory, TooDeep, TooLong}
 use Rattle.run_base.specs.Blocks.{refusal_for}
-use Rattle.run_base.specs.Change.{AreUnused, Change, FilesChange, FoldersChange, IsUntouched, NoneHandedOut, NoneRead, PartsChange}
+use Rattle.run_base.specs.Change.{AreUnused, StreamChange, FilesChange, FoldersChange, IsUntouched, NoneHandedOut, NoneRead, PartsChange}
 use Rattle.run_base.specs.Unopened.{IsOpenRefusal}
 use Rattle.run_base.specs.Configurations.{ReadsConf, ReadsNone}
-use Rattle.run_base.specs.Failure.{Outcome}
+use Rattle.run_base.specs.Errors.{CommandOutcome}
 use Rattle.run_base.specs.Formatting.{Prints}
 use Rattle.run_archives.specs.Skipped.{skipped_lines}
 
@@ -38,7 +38,7 @@ AsksForSize (Some word) bsize =
     (word ≡ decimal bsize) × (MIN_BLOCK_SIZE ≤ bsize) × (bsize ≤ MAX_BLOCK_SIZE)
 
 -- a word that asks for none, by its first byte that is no digit of one
-abbrev pub AsksForNoSize : Option (List ℕ) → Failure → Type 0
+abbrev pub AsksForNoSize : Option (List ℕ) → CommandError → Type 0
 AsksForNoSize None failure = ⊥
 AsksForNoSize (Some word) failure =
     ((bsize : ℕ) → ¬ AsksForSize (Some word) bsize) × (failure ≡ BadNumber (wrong_digit word))
@@ -50,7 +50,7 @@ abbrev pub archive_line : (score : List ℕ) → List ℕ
 archive_line score = codes "vac:" ++ (encode_lower score ++ 10 ∷ [])
 
 -- why a folder isn't archived; the place of what is unfit is 0
-abbrev pub unfit_for : VacErr → Failure
+abbrev pub unfit_for : VacErr → CommandError
 unfit_for vac.FolderFault = FolderFault
 unfit_for (vac.Tree trees.TooLong) = TooLong 0
 unfit_for (vac.Tree err) = NoMemory
@@ -58,7 +58,7 @@ unfit_for (vac.BadName path) = BadName 0
 unfit_for (vac.TooDeep path) = TooDeep 0
 unfit_for vac.NoMemory = NoMemory
 
-abbrev pub IsArchiveRefusal : (file : List ℕ) → Conf → ArchiveBad → Failure → Type 0
+abbrev pub IsArchiveRefusal : (file : List ℕ) → Conf → ArchiveError → CommandError → Type 0
 IsArchiveRefusal file conf (bads.Unopened bad) failure = IsOpenRefusal file conf bad failure
 IsArchiveRefusal file conf (bads.Folder err) failure = failure ≡ unfit_for err
 IsArchiveRefusal file conf (bads.Refused why) failure = failure ≡ refusal_for why
@@ -73,7 +73,7 @@ StandAgain folders =
 -- The folder of this name was archived into the store of the configuration, with this result, and
 -- is back. A failed call of the folder is what is told where one failed.
 pub record StoresFolder {P D : Type 0} (score : List ℕ → List ℕ) (disk : DiskOf D)
-    (name : List ℕ) (conf : Conf) (bsize : ℕ) (result : Result StoredArchive ArchiveBad)
+    (name : List ℕ) (conf : Conf) (bsize : ℕ) (result : Result StoredArchive ArchiveError)
     (folders : FoldersChange) (parts : PartsChange P D) : Type 0 where
   -- what the folder holds, if it tells it
   pub tells : Bool
@@ -87,13 +87,13 @@ pub record StoresFolder {P D : Type 0} (score : List ℕ → List ℕ) (disk : D
   pub fault : CountsFault is_folder_fault result folders.faults folders.faults'
 
 -- why no folder was handed out: a call failed, as where there is none, or memory ran out
-abbrev pub HandsOutNone : FoldersChange → Failure → Type 0
+abbrev pub HandsOutNone : FoldersChange → CommandError → Type 0
 HandsOutNone folders FolderFault = HasRisen folders.faults folders.faults'
 HandsOutNone folders NoMemory = folders.faults' ≡ folders.faults
 HandsOutNone folders failure = ⊥
 
 -- there is none of this name, and no partition was handed out
-pub record FindsNoFolder {P D : Type 0} (failure : Failure) (folders : FoldersChange)
+pub record FindsNoFolder {P D : Type 0} (failure : CommandError) (folders : FoldersChange)
     (parts : PartsChange P D) : Type 0 where
   pub none : HandsOutNone folders failure
   pub same : StandAgain folders
@@ -101,10 +101,10 @@ pub record FindsNoFolder {P D : Type 0} (failure : Failure) (folders : FoldersCh
 
 -- why nothing was stored: there is no such folder, or it wasn't archived
 abbrev pub StoresNone : {P D : Type 0} → (List ℕ → List ℕ) → DiskOf D → (file name : List ℕ)
-    → Conf → (bsize : ℕ) → Failure → FoldersChange → PartsChange P D → Type 0
+    → Conf → (bsize : ℕ) → CommandError → FoldersChange → PartsChange P D → Type 0
 StoresNone score disk file name conf bsize failure folders parts =
     FindsNoFolder failure folders parts
-    ⊎ ((bad : ArchiveBad) × StoresFolder score disk name conf bsize (Err bad) folders parts
+    ⊎ ((bad : ArchiveError) × StoresFolder score disk name conf bsize (Err bad) folders parts
     × IsArchiveRefusal file conf bad failure)
 
 -- no folder was handed out, and no partition
@@ -114,7 +114,7 @@ NoneOut folders parts = AreUnused folders × NoneHandedOut parts
 -- why there is no archive: the word asks for no size; or no configuration was read; or nothing was
 -- stored in blocks of the size that is asked for
 abbrev pub ArchivesNone : {I P D : Type 0} → (List ℕ → List ℕ) → DiskOf D → (file name : List ℕ)
-    → (size_word : Option (List ℕ)) → Failure → FilesChange I → FoldersChange → PartsChange P D
+    → (size_word : Option (List ℕ)) → CommandError → FilesChange I → FoldersChange → PartsChange P D
     → Type 0
 ArchivesNone score disk file name size_word failure files folders parts =
     (AsksForNoSize size_word failure × NoneRead files × NoneOut folders parts)
@@ -135,10 +135,11 @@ pub record Archives {I P D : Type 0} (score : List ℕ → List ℕ) (disk : Dis
 
 -- it is told why there is none, and nothing is printed
 pub record TellsNone {I P D K : Type 0} (score : List ℕ → List ℕ) (disk : DiskOf D)
-    (file name : List ℕ) (size_word : Option (List ℕ)) (preface : List ℕ) (outcome : Outcome)
-    (files : FilesChange I) (folders : FoldersChange) (parts : PartsChange P D) (sink : Change K)
+    (file name : List ℕ) (size_word : Option (List ℕ)) (preface : List ℕ) (outcome : CommandOutcome)
+    (files : FilesChange I) (folders : FoldersChange) (parts : PartsChange P D)
+    (sink : StreamChange K)
     : Type 0 where
-  pub failure : Failure
+  pub failure : CommandError
   pub outcome_is : outcome ≡ Err failure
   pub none : ArchivesNone score disk file name size_word failure files folders parts
   pub nothing : preface ≡ []
@@ -146,9 +147,10 @@ pub record TellsNone {I P D K : Type 0} (score : List ℕ → List ℕ) (disk : 
 
 -- The folder was stored; each path that was left out is told, before the line on the fault sink,
 -- and what the archive is found by is printed.
-pub record TellsStored {I P D K : Type 0} (score : List ℕ → List ℕ) (disk : DiskOf D)
-    (file name : List ℕ) (size_word : Option (List ℕ)) (preface : List ℕ) (outcome : Outcome)
-    (files : FilesChange I) (folders : FoldersChange) (parts : PartsChange P D) (sink : Change K)
+pub record TellsArchived {I P D K : Type 0} (score : List ℕ → List ℕ) (disk : DiskOf D)
+    (file name : List ℕ) (size_word : Option (List ℕ)) (preface : List ℕ) (outcome : CommandOutcome)
+    (files : FilesChange I) (folders : FoldersChange) (parts : PartsChange P D)
+    (sink : StreamChange K)
     : Type 0 where
   pub stored : StoredArchive
   pub archives : Archives score disk file name size_word stored files folders parts
@@ -157,16 +159,16 @@ pub record TellsStored {I P D K : Type 0} (score : List ℕ → List ℕ) (disk 
 
 -- its folder was stored, or it is told why not
 abbrev pub DoesVac : {I P D K : Type 0} → (List ℕ → List ℕ) → DiskOf D → (file name : List ℕ)
-    → (size_word : Option (List ℕ)) → (preface : List ℕ) → Outcome → FilesChange I
-    → FoldersChange → PartsChange P D → Change K → Type 0
+    → (size_word : Option (List ℕ)) → (preface : List ℕ) → CommandOutcome → FilesChange I
+    → FoldersChange → PartsChange P D → StreamChange K → Type 0
 DoesVac score disk file name size_word preface outcome files folders parts sink =
     TellsNone score disk file name size_word preface outcome files folders parts sink
-    ⊎ TellsStored score disk file name size_word preface outcome files folders parts sink
+    ⊎ TellsArchived score disk file name size_word preface outcome files folders parts sink
 
 -- ---- what follows
 
 -- where the store was opened, this holds, and else that
-abbrev pub WhereStored : (stored unopened : Type 0) → Result StoredArchive ArchiveBad → Type 0
+abbrev pub WhereStored : (stored unopened : Type 0) → Result StoredArchive ArchiveError → Type 0
 WhereStored stored unopened (Ok made) = stored
 WhereStored stored unopened (Err (bads.Unopened bad)) = unopened
 WhereStored stored unopened (Err (bads.Folder err)) = stored

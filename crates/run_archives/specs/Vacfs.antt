@@ -11,22 +11,22 @@ use Rattle.vt_disk.specs.Members.{DiskOf}
 use Rattle.vt_core.specs.Core.{CoreState, devices_of}
 use Rattle.vt_core.specs.Files.{all_of}
 use Rattle.vt_open.specs.Names.{HaveOneShape, files_of}
-use Rattle.vt_open.specs.Taking.{AreGiven}
-use Rattle.vt_parts.specs.Parts.{Standing}
-use Rattle.vt_remote.specs.declared.remote.RemoteBad.{RemoteBad}
-use Rattle.vt_remote.specs.Remote.{AsksServer, Parts}
-use Rattle.vac_read.specs.declared.err.VacBad.{VacBad}
+use Rattle.vt_open.specs.Taking.{AreHandedBack}
+use Rattle.vt_partitions.specs.Parts.{Standing}
+use Rattle.vt_remote.specs.declared.remote.RemoteError.{RemoteError}
+use Rattle.vt_remote.specs.Remote.{AsksServer, PartsFromServer}
+use Rattle.vac_read.specs.declared.error.VacBad.{VacBad}
 use Rattle.nine_view.specs.declared.serving.Served.{Served}
 use Rattle.vac_view.specs.Remote.{RemoteView, ViewsAt}
 use Rattle.vac_view.specs.Stored.{UsesFor, ViewsOn}
-use Rattle.run_base.specs.declared.failure.Failure.TheVariants.{BadArchive, NoMemory, Refused, Server as NoServer}
+use Rattle.run_base.specs.declared.error.CommandError.TheVariants.{BadArchive, NoMemory, Refused, Server as NoServer}
 use Rattle.run_base.specs.declared.place.Place.{Place}
 use Rattle.run_base.specs.declared.place.Place.TheVariants.{Memory, Server, Conf as InFile}
 use Rattle.run_base.specs.Blocks.{FindsNoConf, SaysNoScore}
-use Rattle.run_base.specs.Change.{Change, DialerChange, FilesChange, IsUntouched, NoneDialled, NoneHandedOut, NoneRead, PartsChange, PassesNothing, UsesNothing}
+use Rattle.run_base.specs.Change.{StreamChange, DialerChange, FilesChange, IsUntouched, NoneDialled, NoneHandedOut, NoneRead, PartsChange, PassesNothing, UsesNothing}
 use Rattle.run_base.specs.Unopened.{OpensNone}
 use Rattle.run_base.specs.Configurations.{ReadsConf}
-use Rattle.run_base.specs.Failure.{Outcome}
+use Rattle.run_base.specs.Errors.{CommandOutcome}
 use Rattle.run_base.specs.Formatting.{RefusesWord}
 use Rattle.run_base.specs.Members.{LinkOf}
 use Rattle.run_base.specs.Places.{AtPlace}
@@ -35,7 +35,7 @@ use Rattle.run_archives.specs.Viewed.{outcome_of_view, passed_over}
 -- ---- in memory
 
 -- why none is found there
-abbrev pub IsUnmade : (List ℕ → List ℕ) → (s : List ℕ) → Outcome → Type 0
+abbrev pub IsUnmade : (List ℕ → List ℕ) → (s : List ℕ) → CommandOutcome → Type 0
 IsUnmade score_of s outcome =
     (outcome ≡ Err NoMemory)
     ⊎ ((s ≡ score_of []) × (outcome ≡ Err (BadArchive 0)))
@@ -43,7 +43,7 @@ IsUnmade score_of s outcome =
 
 -- The store in memory has no block but that of no bytes, which is no root, so it has no archive of
 -- this score; or memory ran out before that was known. Nothing is done.
-pub record FindsNoArchive (score_of : List ℕ → List ℕ) (s : List ℕ) (outcome : Outcome)
+pub record FindsNoArchive (score_of : List ℕ → List ℕ) (s : List ℕ) (outcome : CommandOutcome)
     (Idle : Type 0) : Type 0 where
   pub why : IsUnmade score_of s outcome
   pub idle : Idle
@@ -53,20 +53,22 @@ pub record FindsNoArchive (score_of : List ℕ → List ℕ) (s : List ℕ) (out
 -- an archive of a store that was opened was served, or couldn't be read, and the store was closed:
 -- its partitions are back
 pub record ViewsOpened {R K D : Type 0} (score_of : List ℕ → List ℕ) (disk : DiskOf D)
-    (conf : Conf) (s : List ℕ) (opened : CoreState D) (outcome : Outcome) (source : Change R)
-    (sink : Change K) (told : Type 0) (old new : List ℕ → Standing D) : Type 0 where
+    (conf : Conf) (s : List ℕ) (opened : CoreState D) (outcome : CommandOutcome)
+    (source : StreamChange R)
+    (sink : StreamChange K) (told : Type 0) (old new : List ℕ → Standing D) : Type 0 where
   pub result : Result Served VacBad
   pub left : CoreState D
   pub views : ViewsOn score_of disk s (passed_over source sink) result opened left
   pub shape : HaveOneShape (devices_of left) (files_of conf)
-  pub given : AreGiven told (all_of (files_of conf)) old new (all_of (devices_of left))
+  pub given : AreHandedBack told (all_of (files_of conf)) old new (all_of (devices_of left))
   pub untouched : OnErr result (PassesNothing source sink)
   pub outcome_is : outcome ≡ outcome_of_view result None
 
 -- the store of the configuration was opened, its archive of this score was served, or couldn't be
 -- read, and it was closed
 pub record ServesView {R K P D : Type 0} (score_of : List ℕ → List ℕ) (disk : DiskOf D)
-    (conf : Conf) (s : List ℕ) (outcome : Outcome) (source : Change R) (sink : Change K)
+    (conf : Conf) (s : List ℕ) (outcome : CommandOutcome) (source : StreamChange R)
+    (sink : StreamChange K)
     (parts : PartsChange P D) : Type 0 where
   pub result : Result Served VacBad
   pub uses : UsesFor score_of disk (IsTrue parts.tells) conf s (passed_over source sink) result
@@ -77,7 +79,7 @@ pub record ServesView {R K P D : Type 0} (score_of : List ℕ → List ℕ) (dis
 
 -- the configuration was read, and its store was, or it isn't opened
 pub record ViewsFrom {R K I P D : Type 0} (score_of : List ℕ → List ℕ) (disk : DiskOf D)
-    (file s : List ℕ) (outcome : Outcome) (source : Change R) (sink : Change K)
+    (file s : List ℕ) (outcome : CommandOutcome) (source : StreamChange R) (sink : StreamChange K)
     (files : FilesChange I) (parts : PartsChange P D) : Type 0 where
   pub conf : Conf
   pub reads : ReadsConf file conf files
@@ -86,7 +88,7 @@ pub record ViewsFrom {R K I P D : Type 0} (score_of : List ℕ → List ℕ) (di
 
 -- no configuration was read; or an archive was served
 abbrev pub ViewsKept : {R K I P D : Type 0} → (List ℕ → List ℕ) → DiskOf D → (file s : List ℕ)
-    → Outcome → Change R → Change K → FilesChange I → PartsChange P D → Type 0
+    → CommandOutcome → StreamChange R → StreamChange K → FilesChange I → PartsChange P D → Type 0
 ViewsKept score_of disk file s outcome source sink files parts =
     FindsNoConf file outcome files (PassesNothing source sink × NoneHandedOut parts)
     ⊎ ViewsFrom score_of disk file s outcome source sink files parts
@@ -95,38 +97,42 @@ ViewsKept score_of disk file s outcome source sink files parts =
 
 -- what came of a server's archive is told, or why no server was met; then nothing was read or
 -- written
-abbrev pub TellsServed : {R K : Type 0} → Result RemoteView RemoteBad → Outcome → Change R
-    → Change K → Type 0
-TellsServed (Ok view) outcome source sink =
+abbrev pub TellsServedView : {R K : Type 0} → Result RemoteView RemoteError → CommandOutcome
+    → StreamChange R
+    → StreamChange K → Type 0
+TellsServedView (Ok view) outcome source sink =
     (outcome ≡ outcome_of_view view.0 view.1) × OnErr view.0 (PassesNothing source sink)
-TellsServed (Err bad) outcome source sink =
+TellsServedView (Err bad) outcome source sink =
     (outcome ≡ Err (NoServer bad)) × PassesNothing source sink
 
 -- an archive of a server that was met was served, or couldn't be read, and the server was parted
 -- from
 pub record ViewsMet {R K L : Type 0} (link : LinkOf L) (score_of : List ℕ → List ℕ) (s : List ℕ)
-    (met : ClientState L) (outcome : Outcome) (source : Change R) (sink : Change K)
+    (met : ClientState L) (outcome : CommandOutcome) (source : StreamChange R)
+    (sink : StreamChange K)
     (tells : Type 0) (old new : Dialled L) : Type 0 where
   pub view : RemoteView
   pub last : ClientState L
   pub views : ViewsAt link score_of s (passed_over source sink) (Ok view) met last
-  pub parts : Parts link tells last old new
-  pub told : TellsServed (Ok view) outcome source sink
+  pub parts : PartsFromServer link tells last old new
+  pub told : TellsServedView (Ok view) outcome source sink
 
 -- the server at this address was asked for the blocks of an archive, which was served
 pub record ViewsServed {R K N L : Type 0} (link : LinkOf L) (score_of : List ℕ → List ℕ)
-    (address : Address) (s : List ℕ) (outcome : Outcome) (source : Change R) (sink : Change K)
+    (address : Address) (s : List ℕ) (outcome : CommandOutcome) (source : StreamChange R)
+    (sink : StreamChange K)
     (dialer : DialerChange N L) : Type 0 where
-  pub result : Result RemoteView RemoteBad
+  pub result : Result RemoteView RemoteError
   pub asks : AsksServer link score_of (ViewsAt link score_of s (passed_over source sink))
       (IsTrue dialer.tells) address dialer.old dialer.new dialer.faults dialer.faults' result
-  pub told : TellsServed result outcome source sink
+  pub told : TellsServedView result outcome source sink
 
 -- ---- the command
 
 -- the archive of this score, of the store at this place, was served, or it is told why not
 abbrev pub ViewsPlace : {R K I P D N L : Type 0} → (List ℕ → List ℕ) → DiskOf D → LinkOf L
-    → (store s : List ℕ) → Outcome → Change R → Change K → FilesChange I → PartsChange P D
+    → (store s : List ℕ) → CommandOutcome → StreamChange R → StreamChange K → FilesChange I
+    → PartsChange P D
     → DialerChange N L → Place → Type 0
 ViewsPlace score_of disk link store s outcome source sink files parts dialer Memory =
     FindsNoArchive score_of s outcome (IsUntouched source × UsesNothing files parts dialer sink)
@@ -138,7 +144,7 @@ ViewsPlace score_of disk link store s outcome source sink files parts dialer InF
 
 -- its word is no score, or the archive of that score was served
 abbrev pub DoesVacfs : {R K I P D N L : Type 0} → (List ℕ → List ℕ) → DiskOf D → LinkOf L
-    → (store score_word : List ℕ) → Outcome → Change R → Change K → FilesChange I
+    → (store score_word : List ℕ) → CommandOutcome → StreamChange R → StreamChange K → FilesChange I
     → PartsChange P D → DialerChange N L → Type 0
 DoesVacfs score_of disk link store score_word outcome source sink files parts dialer =
     RefusesWord (SaysNoScore score_word) outcome

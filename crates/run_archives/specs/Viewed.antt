@@ -1,40 +1,40 @@
 -- What is told of an archive that was served to a client, or couldn't be read.
 use Rattle.std.specs.Prelude.{ℕ, ◌&&◌, Option, Some, None, Result, Ok, Err}
 use Rattle.vt_base.specs.declared.why.FieldValue.TheVariants.{Score}
-use Rattle.vt_client.specs.declared.err.ClientErr.{ClientErr}
-use Rattle.vt_remote.specs.declared.remote.RemoteBad.TheVariants as remote
-use Rattle.vt_tree.specs.declared.err.BlockErr.{BlockErr}
-use Rattle.vt_tree.specs.declared.err.BlockErr.TheVariants as blocks
-use Rattle.vt_tree.specs.declared.err.TreeErr.{TreeErr}
-use Rattle.vt_tree.specs.declared.err.TreeErr.TheVariants as trees
-use Rattle.vac_read.specs.declared.err.VacBad.{VacBad}
-use Rattle.vac_read.specs.declared.err.VacBad.TheVariants as vac
+use Rattle.vt_client.specs.declared.error.ClientErr.{ClientErr}
+use Rattle.vt_remote.specs.declared.remote.RemoteError.TheVariants as remote
+use Rattle.vt_tree.specs.declared.error.BlockErr.{BlockErr}
+use Rattle.vt_tree.specs.declared.error.BlockErr.TheVariants as blocks
+use Rattle.vt_tree.specs.declared.error.TreeErr.{TreeErr}
+use Rattle.vt_tree.specs.declared.error.TreeErr.TheVariants as trees
+use Rattle.vac_read.specs.declared.error.VacBad.{VacBad}
+use Rattle.vac_read.specs.declared.error.VacBad.TheVariants as vac
 use Rattle.nine_view.specs.declared.serving.Ended.{Ended}
 use Rattle.nine_view.specs.declared.serving.Ended.TheVariants as ends
 use Rattle.nine_view.specs.declared.serving.Served.{Served}
 use Rattle.vac_view.specs.Viewing.{Passed}
-use Rattle.run_base.specs.declared.failure.Failure.{Failure}
-use Rattle.run_base.specs.declared.failure.Failure.TheVariants.{BadArchive, Cut, Damaged, DiskFault, Malformed, NoBlock, NoMemory, ReadFault, Server, Spent, WriteFault}
-use Rattle.run_base.specs.Change.{Change}
-use Rattle.run_base.specs.Failure.{Outcome}
-use Rattle.run_base.specs.Served.{first_of}
+use Rattle.run_base.specs.declared.error.CommandError.{CommandError}
+use Rattle.run_base.specs.declared.error.CommandError.TheVariants.{BadArchive, Cut, Damaged, DiskFault, Malformed, NoBlock, NoMemory, ReadFault, Server, Spent, WriteFault}
+use Rattle.run_base.specs.Change.{StreamChange}
+use Rattle.run_base.specs.Errors.{CommandOutcome}
+use Rattle.run_base.specs.Served.{first_outcome}
 
 -- ---- why an archive can't be read
 
 -- a failed call: of a disk, or of the link to a server, whose client was refused so
-abbrev pub fault_by : Option ClientErr → Failure
+abbrev pub fault_by : Option ClientErr → CommandError
 fault_by None = DiskFault
 fault_by (Some why) = Server (remote.Refused why)
 
 -- a block isn't given
-abbrev pub unread_block : BlockErr → Option ClientErr → Failure
+abbrev pub unread_block : BlockErr → Option ClientErr → CommandError
 unread_block blocks.Fault refused = fault_by refused
 unread_block (blocks.Refused text) refused = NoBlock text
 unread_block (blocks.WrongScore want found) refused = Damaged (Score want) (Score found)
 unread_block (blocks.Damaged want found) refused = Damaged want found
 unread_block blocks.NoMemory refused = NoMemory
 
-abbrev pub unread_tree : TreeErr → Option ClientErr → Failure
+abbrev pub unread_tree : TreeErr → Option ClientErr → CommandError
 unread_tree (trees.Block err) refused = unread_block err refused
 unread_tree trees.SourceFault refused = BadArchive 0
 unread_tree (trees.BadEntry bad) refused = BadArchive 0
@@ -42,7 +42,7 @@ unread_tree (trees.BadBlock depth len) refused = BadArchive 0
 unread_tree trees.TooLong refused = BadArchive 0
 unread_tree trees.NoMemory refused = NoMemory
 
-abbrev pub unread_for : VacBad → Option ClientErr → Failure
+abbrev pub unread_for : VacBad → Option ClientErr → CommandError
 unread_for (vac.Tree err) refused = unread_tree err refused
 unread_for (vac.Root field) refused = BadArchive 0
 unread_for (vac.Meta at) refused = BadArchive at
@@ -51,7 +51,7 @@ unread_for vac.NoMemory refused = NoMemory
 -- ---- how it ended
 
 -- the outcome by the connection's end alone, of an input of which so many bytes were taken
-abbrev pub outcome_of_view_end : Ended → (taken : ℕ) → Outcome
+abbrev pub outcome_of_view_end : Ended → (taken : ℕ) → CommandOutcome
 outcome_of_view_end ends.Closed taken = Ok tt
 outcome_of_view_end ends.Cut taken = Err (Cut taken)
 outcome_of_view_end (ends.Malformed place) taken = Err (Malformed place)
@@ -60,20 +60,21 @@ outcome_of_view_end ends.ReadFault taken = Err ReadFault
 outcome_of_view_end ends.WriteFault taken = Err WriteFault
 outcome_of_view_end ends.NoMemory taken = Err NoMemory
 
-abbrev pub unread_in : Option VacBad → Option ClientErr → Outcome
+abbrev pub unread_in : Option VacBad → Option ClientErr → CommandOutcome
 unread_in None refused = Ok tt
 unread_in (Some bad) refused = Err (unread_for bad refused)
 
 -- the first cause in time: why the archive couldn't be read, or the connection's end
-abbrev pub outcome_of_view : Result Served VacBad → Option ClientErr → Outcome
+abbrev pub outcome_of_view : Result Served VacBad → Option ClientErr → CommandOutcome
 outcome_of_view (Ok served) refused =
-    first_of (unread_in served.failure refused) (outcome_of_view_end served.ended served.taken)
+    first_outcome (unread_in served.failure refused) (outcome_of_view_end served.ended served.taken)
 outcome_of_view (Err bad) refused = Err (unread_for bad refused)
 
 -- ---- what came in and went out
 
 -- what passed over the two streams as one link
-abbrev pub passed_over : {R K : Type 0} → (source : Change R) → (sink : Change K) → Passed
+abbrev pub passed_over : {R K : Type 0} → (source : StreamChange R) → (sink : StreamChange K)
+    → Passed
 passed_over source sink = record {
   tells = source.tells && sink.tells;
   given = source.taken;

@@ -2,5 +2,5 @@
 use Rattle.run_archives.specs.declared.watched.Watched.{Watched}
 
 -- the folder itself
-abbrev pub folder_in : {F K : Type 0} → Watched F K → F
-folder_in watched = watched.folder
+abbrev pub watched_folder : {F K : Type 0} → Watched F K → F
+watched_folder watched = watched.folder

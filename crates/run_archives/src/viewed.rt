@@ -5,11 +5,11 @@ ghost use Rattle.run_archives.specs.Viewed.{fault_by, outcome_of_view, outcome_o
 ghost use Rattle.run_archives.specs.Viewed.{unread_for, unread_tree};
 
 use nine_view::{Ended, Served};
-use run_base::Failure;
+use run_base::CommandError;
 use vac_read::VacBad;
 use vt_base::FieldValue;
 use vt_client::ClientErr;
-use vt_remote::RemoteBad;
+use vt_remote::RemoteError;
 use vt_tree::{BlockErr, TreeErr};
 
 /// The first cause in time: why the archive couldn't be read, or the connection's end. Of a server
@@ -17,7 +17,7 @@ use vt_tree::{BlockErr, TreeErr};
 pub fn outcome_of_view(
     answer: Result<Served, VacBad>,
     refused: Option<ClientErr>,
-) -> Result<(), Failure>
+) -> Result<(), CommandError>
     ensures { result ≡ outcome_of_view answer refused }
 {
     let served = match answer {
@@ -31,66 +31,66 @@ pub fn outcome_of_view(
 }
 
 /// The outcome by the connection's end alone, of an input of which so many bytes were taken.
-fn end_of_view(ended: Ended, taken: u64) -> Result<(), Failure>
+fn end_of_view(ended: Ended, taken: u64) -> Result<(), CommandError>
     ensures { result ≡ outcome_of_view_end ended taken }
 {
     match ended {
         Ended::Closed => Ok(()),
-        Ended::Cut => Err(Failure::Cut(taken)),
-        Ended::Malformed(place) => Err(Failure::Malformed(place)),
-        Ended::Spent => Err(Failure::Spent(taken)),
-        Ended::ReadFault => Err(Failure::ReadFault),
-        Ended::WriteFault => Err(Failure::WriteFault),
-        Ended::NoMemory => Err(Failure::NoMemory),
+        Ended::Cut => Err(CommandError::Cut(taken)),
+        Ended::Malformed(place) => Err(CommandError::Malformed(place)),
+        Ended::Spent => Err(CommandError::Spent(taken)),
+        Ended::ReadFault => Err(CommandError::ReadFault),
+        Ended::WriteFault => Err(CommandError::WriteFault),
+        Ended::NoMemory => Err(CommandError::NoMemory),
     }
 }
 
 /// What is told where an archive can't be read.
-fn unread_for(bad: VacBad, refused: Option<ClientErr>) -> Failure
+fn unread_for(bad: VacBad, refused: Option<ClientErr>) -> CommandError
     ensures { result ≡ unread_for bad refused }
 {
     match bad {
         VacBad::Tree(err) => unread_tree(err, refused),
-        VacBad::Root { .. } => Failure::BadArchive(0),
-        VacBad::Meta { at } => Failure::BadArchive(at as u64),
-        VacBad::NoMemory => Failure::NoMemory,
+        VacBad::Root { .. } => CommandError::BadArchive(0),
+        VacBad::Meta { at } => CommandError::BadArchive(at as u64),
+        VacBad::NoMemory => CommandError::NoMemory,
     }
 }
 
 /// The same, of a stream in it.
-fn unread_tree(err: TreeErr, refused: Option<ClientErr>) -> Failure
+fn unread_tree(err: TreeErr, refused: Option<ClientErr>) -> CommandError
     ensures { result ≡ unread_tree err refused }
 {
     match err {
         TreeErr::Block(err) => unread_block(err, refused),
-        TreeErr::NoMemory => Failure::NoMemory,
+        TreeErr::NoMemory => CommandError::NoMemory,
         TreeErr::SourceFault | TreeErr::BadEntry(_) | TreeErr::BadBlock { .. } | TreeErr::TooLong =>
-            Failure::BadArchive(0),
+            CommandError::BadArchive(0),
     }
 }
 
 /// The same, of a block.
-fn unread_block(err: BlockErr, refused: Option<ClientErr>) -> Failure
+fn unread_block(err: BlockErr, refused: Option<ClientErr>) -> CommandError
     ensures { result ≡ unread_block err refused }
 {
     match err {
         BlockErr::Fault => fault_by(refused),
-        BlockErr::Refused(text) => Failure::NoBlock(text),
-        BlockErr::WrongScore { want, found } => Failure::Damaged {
+        BlockErr::Refused(text) => CommandError::NoBlock(text),
+        BlockErr::WrongScore { want, found } => CommandError::Damaged {
             want: FieldValue::Score(want),
             found: FieldValue::Score(found),
         },
-        BlockErr::Damaged { want, found } => Failure::Damaged { want, found },
-        BlockErr::NoMemory => Failure::NoMemory,
+        BlockErr::Damaged { want, found } => CommandError::Damaged { want, found },
+        BlockErr::NoMemory => CommandError::NoMemory,
     }
 }
 
 /// A failed call: of a disk, or of the link to a server, whose client was refused so.
-fn fault_by(refused: Option<ClientErr>) -> Failure
+fn fault_by(refused: Option<ClientErr>) -> CommandError
     ensures { result ≡ fault_by refused }
 {
     match refused {
-        None => Failure::DiskFault,
-        Some(why) => Failure::Server(RemoteBad::Refused(why)),
+        None => CommandError::DiskFault,
+        Some(why) => CommandError::Server(RemoteError::Refused(why)),
     }
 }

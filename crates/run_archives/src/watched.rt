@@ -1,14 +1,13 @@
 //! A folder that is shown on a terminal while it is read.
 
 ghost use Rattle.std.specs.Prelude.{◌≡◌};
-ghost use Rattle.run_archives.specs.Watched.{folder_in};
+ghost use Rattle.run_archives.specs.Watched.{watched_folder};
 
 use itoa::Buffer;
 use run_base::put_pieces;
 use std::alloc::Global;
 use vt_base::{Failed, Text};
-use vt_folder::{Folder, Listing};
-use vt_out::{OutErr, Sink};
+use vt_out::{Folder, Listing, OutErr, Sink};
 
 /// So many files are read between two lines on the terminal.
 const FILES: u64 = 64;
@@ -29,7 +28,7 @@ pub struct Watched<F, K> {
 impl<F: Folder, K: Sink + Drop> Watched<F, K> {
     /// This folder, and this terminal.
     pub fn new(folder: F, terminal: Option<K>) -> Self
-        ensures { folder_in result ≡ folder }
+        ensures { watched_folder result ≡ folder }
     {
         Watched {
             folder,
@@ -41,7 +40,7 @@ impl<F: Folder, K: Sink + Drop> Watched<F, K> {
 
     /// Shows how much was read of it, and how many blocks that came to, and what these are.
     pub fn show_end(&mut self, blocks: u64, what: &[u8])
-        ensures { folder_in self.new ≡ folder_in self.old }
+        ensures { watched_folder self.new ≡ watched_folder self.old }
     {
         let mut digits = Buffer::new();
         self.show(&[b" bytes, ", digits.format(blocks).as_bytes(), what]);
@@ -49,7 +48,7 @@ impl<F: Folder, K: Sink + Drop> Watched<F, K> {
 
     /// The folder, and the terminal.
     pub fn into_parts(self) -> (F, Option<K>)
-        ensures { result.0 ≡ folder_in self }
+        ensures { result.0 ≡ watched_folder self }
     {
         let Watched {
             folder,
@@ -62,7 +61,7 @@ impl<F: Folder, K: Sink + Drop> Watched<F, K> {
 
     /// Counts what was read from this place of a file on.
     fn count(&mut self, at: u64, len: usize)
-        ensures { folder_in self.new ≡ folder_in self.old }
+        ensures { watched_folder self.new ≡ watched_folder self.old }
     {
         let (files, bytes) = (self.files, self.bytes);
         self.bytes = bytes.saturating_add(len as u64);
@@ -75,7 +74,7 @@ impl<F: Folder, K: Sink + Drop> Watched<F, K> {
     }
 
     fn show(&mut self, end: &[&[u8]])
-        ensures { folder_in self.new ≡ folder_in self.old }
+        ensures { watched_folder self.new ≡ watched_folder self.old }
     {
         let Some(terminal) = &mut self.terminal else {
             return;
@@ -98,13 +97,13 @@ impl<F: Folder, K: Sink + Drop> Watched<F, K> {
 impl<F: Folder, K: Sink + Drop> Folder for Watched<F, K> {
     ghost tells = { F.tells };
 
-    ghost holds = { λ watched. F.holds (folder_in watched) };
+    ghost holds = { λ watched. F.holds (watched_folder watched) };
 
-    ghost faults = { λ watched. F.faults (folder_in watched) };
+    ghost faults = { λ watched. F.faults (watched_folder watched) };
 
-    ghost holds_bytes = { λ watched. F.holds_bytes (folder_in watched) };
+    ghost holds_bytes = { λ watched. F.holds_bytes (watched_folder watched) };
 
-    ghost faults_fit = { λ watched. F.faults_fit (folder_in watched) };
+    ghost faults_fit = { λ watched. F.faults_fit (watched_folder watched) };
 
     fn list(&mut self, alloc: Global, path: &[Text]) -> Result<Listing, OutErr> {
         self.folder.list(alloc, path)

@@ -2,13 +2,13 @@
 use Rattle.std.proofs.Common.{◌≡◌, ◌≢◌, ⊎_elim, inl, inr, ◌<◌, ◌≤◌, ◌-◌, ◌^◌, ℕ, List, sym, subst, Ok, Err, arith, ◌⊎◌}
 use Rattle.std.proofs.Math.Nat.{eq-or-lt_of_le}
 use Rattle.vt_base.specs.Faults.{HasRisen}
-use Rattle.run_base.specs.declared.failure.Failure.{Failure}
-use Rattle.run_base.specs.declared.failure.Failure.TheVariants.{BadConf, BadWords, DiskFault, FileFault, FolderFault, NoMemory, ReadFault, Server, WriteFault}
-use Rattle.vt_client.specs.declared.err.ClientErr.TheVariants as errs
-use Rattle.vt_remote.specs.declared.remote.RemoteBad.{RemoteBad}
-use Rattle.vt_remote.specs.declared.remote.RemoteBad.TheVariants as remote
-use Rattle.run_base.specs.Change.{Change, FilesChange}
-use Rattle.run_base.specs.Failure.{Causes, Outcome, HasCauseIn, HaveFailed, server_status, status_of}
+use Rattle.run_base.specs.declared.error.CommandError.{CommandError}
+use Rattle.run_base.specs.declared.error.CommandError.TheVariants.{BadConf, BadWords, DiskFault, FileFault, FolderFault, NoMemory, ReadFault, Server, WriteFault}
+use Rattle.vt_client.specs.declared.error.ClientErr.TheVariants as errs
+use Rattle.vt_remote.specs.declared.remote.RemoteError.{RemoteError}
+use Rattle.vt_remote.specs.declared.remote.RemoteError.TheVariants as remote
+use Rattle.run_base.specs.Change.{StreamChange, FilesChange}
+use Rattle.run_base.specs.Errors.{Causes, CommandOutcome, HasCauseIn, HaveFailed, server_status, status_of}
 use Rattle.run_base.specs.Formatting.{Prints}
 use Rattle.run_base.specs.Configurations.{ReadsNone}
 
@@ -18,12 +18,12 @@ have_failed old new rose =
     ⊎_elim (λ is. inr is) (λ (below : new < 2 ^ 64 - 1). inl (omega (arith, rose, below))) (eq-or-lt_of_le most)
 
 module _ (causes : Causes) where
-  pub as_told : (failure told : Failure) → failure ≡ told → HasCauseIn causes (Err told)
+  pub as_told : (failure told : CommandError) → failure ≡ told → HasCauseIn causes (Err told)
       → HasCauseIn causes (Err failure)
   as_told failure told is cause =
-      subst (λ (f : Failure). HasCauseIn causes (Err f)) (sym is) cause
+      subst (λ (f : CommandError). HasCauseIn causes (Err f)) (sym is) cause
 
-  pub printed_has_cause : {K : Type 0} (text : List ℕ) (outcome : Outcome) (sink : Change K)
+  pub printed_has_cause : {K : Type 0} (text : List ℕ) (outcome : CommandOutcome) (sink : StreamChange K)
       → (HasRisen sink.faults sink.faults' → causes.sink) → Prints text outcome sink
       → HasCauseIn causes outcome
   printed_has_cause text (Ok done) sink rises prints = tt
@@ -31,7 +31,7 @@ module _ (causes : Causes) where
   printed_has_cause text (Err failure) sink rises prints = absurd prints
 
   -- so has what is told where no configuration is read
-  pub none_has_cause : {I : Type 0} (file : List ℕ) (files : FilesChange I) (failure : Failure)
+  pub none_has_cause : {I : Type 0} (file : List ℕ) (files : FilesChange I) (failure : CommandError)
       → (HasRisen files.faults files.faults' → causes.files) → ReadsNone file failure files
       → HasCauseIn causes (Err failure)
   none_has_cause file files (BadConf bad) rises none = tt
@@ -40,10 +40,10 @@ module _ (causes : Causes) where
   none_has_cause file files failure rises none = absurd none
 
 -- of more causes
-pub widened : (narrow wide : Causes) (outcome : Outcome) → (narrow.words → wide.words)
+pub widened : (narrow wide : Causes) (outcome : CommandOutcome) → (narrow.words → wide.words)
     → (narrow.disks → wide.disks) → (narrow.source → wide.source) → (narrow.files → wide.files)
     → (narrow.folders → wide.folders) → (narrow.sink → wide.sink)
-    → ((bad : RemoteBad) → narrow.server bad → wide.server bad) → HasCauseIn narrow outcome
+    → ((bad : RemoteError) → narrow.server bad → wide.server bad) → HasCauseIn narrow outcome
     → HasCauseIn wide outcome
 widened narrow wide (Err BadWords) words disks source files folders sink server cause = words cause
 widened narrow wide (Err DiskFault) words disks source files folders sink server cause = disks cause
@@ -57,12 +57,12 @@ widened narrow wide (Err (Server bad)) words disks source files folders sink ser
 widened narrow wide outcome words disks source files folders sink server cause = cause
 
 -- status 1 tells of words alone
-pub server_never : (bad : RemoteBad) → server_status bad ≢ 1
+pub server_never : (bad : RemoteError) → server_status bad ≢ 1
 server_never remote.Undialled is = cc
 server_never (remote.Refused errs.ReadFault) is = cc
 server_never (remote.Refused why) is = cc
 
-pub never_words : (causes : Causes) (outcome : Outcome) → ¬ causes.words
+pub never_words : (causes : Causes) (outcome : CommandOutcome) → ¬ causes.words
     → HasCauseIn causes outcome → status_of outcome ≢ 1
 never_words causes (Err BadWords) never cause is = never cause
 never_words causes (Err (Server bad)) never cause is = server_never bad is

@@ -13,19 +13,19 @@ use Rattle.vt_session.specs.declared.Ended.TheVariants as ends
 use Rattle.vt_model.specs.Causes.{Cause, OneRose}
 use Rattle.vt_session.specs.Turns.{Turn, cause_of, causes_of}
 use Rattle.vt_session.specs.Answered.{AreToldBy, CountsRise, IsKnownStop, no_faults}
-use Rattle.vt_answer.specs.Serving.{answered, tells_failure}
+use Rattle.vt_handler.specs.Serving.{answered, tells_failure}
 use Rattle.vt_core.specs.Causes.{IsUndamagedWhy}
 use Rattle.vt_core.specs.Core.{CoreState, each_of, setup_of}
 use Rattle.vt_core.specs.Machine.{WaitsForNone}
-use Rattle.vt_fresh.specs.declared.shape.Shape.{Shape}
-use Rattle.vt_fresh.specs.Shape.{setup_for}
-use Rattle.vt_fresh.specs.Store.{IsFreshStore}
+use Rattle.vt_empty.specs.declared.shape.Shape.{Shape}
+use Rattle.vt_empty.specs.Shape.{setup_for}
+use Rattle.vt_empty.specs.Store.{IsFreshStore}
 use Rattle.vt_shard.specs.declared.mounting.Sizes.{Sizes}
 use Rattle.vt_single.specs.Single.{IsAnswer}
 use Rattle.vt_alone.specs.declared.serving.StoreServed.{StoreServed}
 use Rattle.vt_alone.specs.Sessions.{FailsFor, NoCallFails, OnlyMemory}
-use Rattle.run_base.specs.Blocks.{AnswersInMemory, FailsInMemory}
-use Rattle.run_base.specs.Memory.{IsMemoryStore, memory}
+use Rattle.run_base.specs.Blocks.{AnswersOfEmptyStore, FailsInMemory}
+use Rattle.run_base.specs.Memory.{IsMemoryStore, memory_setup}
 
 -- ---- want of memory is told by no count and no stop
 
@@ -76,7 +76,7 @@ module _ {D : Type 0} (disk : DiskOf D) (never : (device : D) → disk.faults de
 -- ---- the store that is made
 
 pub as_memory : {D E : Type 0} (score : List ℕ → List ℕ) (disk : DiskOf D) (shape : Shape)
-    (sizes : Sizes) (result : Result (CoreState D) E) → setup_for shape ≡ memory
+    (sizes : Sizes) (result : Result (CoreState D) E) → setup_for shape ≡ memory_setup
     → IfOk result (IsFreshStore score disk shape sizes 1) → IfOk result (IsMemoryStore score disk)
 as_memory score disk shape sizes (Ok k) is fresh = record {
   sound = fresh.sound;
@@ -113,7 +113,7 @@ module _ {D : Type 0} (score : List ℕ → List ℕ) (disk : DiskOf D)
   -- what was answered is the model's, or want of memory
   pub answers_so : {T : Type 0} (message : T → RMessage) (m : Operation) (result : Result T Why)
       → IsAnswer score (setup_of old) [] m (answered message result)
-      → IfErr result Fails → AnswersInMemory score m (answered message result)
+      → IfErr result Fails → AnswersOfEmptyStore score m (answered message result)
   answers_so message m (Ok value) it fails = ⊎_elim
       (λ same. inl (subst (λ (c : Setup). message value ≡ (answer score c [] m).reply) made.setup same))
       (λ no. absurd no) it

@@ -7,22 +7,22 @@ use Rattle.vt_base.specs.declared.mount.MountBad.TheVariants as mount_bad
 use Rattle.vt_conf.specs.declared.conf.Conf.{Conf}
 use Rattle.vt_conf.specs.declared.conf.PartFile.{PartFile}
 use Rattle.vt_disk.specs.Members.{DiskOf}
-use Rattle.vt_format.specs.Index.{files_of as files_in}
+use Rattle.vt_format.specs.Index.{files_in_order}
 use Rattle.vt_log.specs.Faults.{OneHasRisen}
 use Rattle.vt_core.specs.Files.{PerDevice, all_of}
 use Rattle.vt_recover.specs.Refusals.{CountsRefusal}
-use Rattle.vt_open.specs.declared.bad.OpenBad.{OpenBad}
-use Rattle.vt_open.specs.declared.bad.OpenBad.TheVariants.{Missing, Refused}
+use Rattle.vt_open.specs.declared.error.OpenError.{OpenError}
+use Rattle.vt_open.specs.declared.error.OpenError.TheVariants.{Missing, Refused}
 use Rattle.vt_open.specs.Names.{HaveOneShape, StandUnder, files_of}
 use Rattle.vt_open.specs.Opening.{FindsNoStore, NamesCause, RefusesStore}
 use Rattle.vt_open.specs.Taking.{RefusesTaking}
-use Rattle.vt_parts.specs.Parts.{HandsOut, Standing}
-use Rattle.run_base.specs.declared.failure.Failure.{Failure}
-use Rattle.run_base.specs.declared.failure.Failure.TheVariants.{DiskFault, NoMemory}
-use Rattle.run_base.specs.Change.{Change, PartsChange}
+use Rattle.vt_partitions.specs.Parts.{HandsOut, Standing}
+use Rattle.run_base.specs.declared.error.CommandError.{CommandError}
+use Rattle.run_base.specs.declared.error.CommandError.TheVariants.{DiskFault, NoMemory}
+use Rattle.run_base.specs.Change.{StreamChange, PartsChange}
 use Rattle.run_base.specs.Unopened.{IsOpenRefusal, OpensNone}
 use Rattle.run_base.specs.Configurations.{IsRefusalAmong}
-use Rattle.run_base.specs.Failure.{Causes, HasCauseIn, HasDiskCause, HasFailed, HaveFailed, Outcome}
+use Rattle.run_base.specs.Errors.{Causes, HasCauseIn, HasDiskCause, PartHasFailed, HaveFailed, CommandOutcome}
 use Rattle.run_base.proofs.Causes.{as_told, have_failed}
 
 module _ {P D : Type 0} (disk : DiskOf D) (parts : PartsChange P D) where
@@ -31,7 +31,7 @@ module _ {P D : Type 0} (disk : DiskOf D) (parts : PartsChange P D) where
       → (IsTrue parts.tells → StandUnder parts.old files before)
       → (IsTrue parts.tells → StandUnder parts.new files after)
       → HaveFailed (slice_index (map disk.faults before) k) (slice_index (map disk.faults after) k)
-      → HasFailed disk parts
+      → PartHasFailed disk parts
   has_failed [] [] [] k many many' stood stand rose =
       absurd (⊎_elim (λ less. omega (arith, less)) (λ full. omega (arith, full)) rose)
   has_failed (file ∷ files) (b ∷ before) (a ∷ after) zero many many' stood stand rose = record {
@@ -59,15 +59,15 @@ same_len these those it = simp length-append (omega (arith, it.partitions, it.se
 
 module _ {P D : Type 0} (score : List ℕ → List ℕ) (disk : DiskOf D) (file : List ℕ) (conf : Conf)
     (parts : PartsChange P D) where
-  abbrev Refuses : OpenBad → Type 0
+  abbrev Refuses : OpenError → Type 0
   Refuses = RefusesStore score disk (IsTrue parts.tells) conf parts.old parts.new parts.faults
       parts.faults'
 
   -- a call of a partition failed while they were handed out, or while the store was mounted
-  taking_fault : (bad : OpenBad)
+  taking_fault : (bad : OpenError)
       → RefusesTaking disk (IsTrue parts.tells) 0 (length conf.arenas.items)
       (all_of (files_of conf)) parts.old parts.new parts.faults parts.faults' bad
-      → bad ≡ Refused mount_bad.Fault → HasFailed disk parts
+      → bad ≡ Refused mount_bad.Fault → PartHasFailed disk parts
   taking_fault (Missing part) it is = absurd (cc)
   taking_fault (Refused bad) it is =
       let same : bad ≡ mount_bad.Fault = cc in
@@ -85,7 +85,7 @@ module _ {P D : Type 0} (score : List ℕ → List ℕ) (disk : DiskOf D) (file 
       (have_failed _ _ rose.rose)
 
   finding_fault : (it : FindsNoStore score disk (IsTrue parts.tells) conf parts.old parts.new
-      mount_bad.Fault) → HasFailed disk parts
+      mount_bad.Fault) → PartHasFailed disk parts
   finding_fault it =
       has_failed disk parts (all_of (files_of conf)) (all_of it.handed) (all_of it.back)
       it.counts.which (same_len it.handed (files_of conf) it.shape)
@@ -105,8 +105,8 @@ module _ {P D : Type 0} (score : List ℕ → List ℕ) (disk : DiskOf D) (file 
       (λ finding. absurd (let no = finding.1 in cc)) it
 
   module _ (causes : Causes) (tells : HasDiskCause disk parts → causes.disks) where
-    among : (bad : MountBad) (failure : Failure) → Refuses (Refused bad)
-        → NamesCause (Refused bad) → IsRefusalAmong file (files_in conf) bad failure
+    among : (bad : MountBad) (failure : CommandError) → Refuses (Refused bad)
+        → NamesCause (Refused bad) → IsRefusalAmong file (files_in_order conf) bad failure
         → HasCauseIn causes (Err failure)
     among mount_bad.Fault failure it names is =
         as_told causes failure DiskFault is (tells (open_fault it))
@@ -121,7 +121,7 @@ module _ {P D : Type 0} (score : List ℕ → List ℕ) (disk : DiskOf D) (file 
         as_told causes failure _ is names
     among mount_bad.NoMemory failure it names is = as_told causes failure _ is tt
 
-    pub open_told : (bad : OpenBad) (failure : Failure) → Refuses bad → NamesCause bad
+    pub open_told : (bad : OpenError) (failure : CommandError) → Refuses bad → NamesCause bad
         → IsOpenRefusal file conf bad failure → HasCauseIn causes (Err failure)
     open_told (Missing part) failure it names is =
         as_told causes failure DiskFault is (tells (missing part it))
@@ -129,7 +129,7 @@ module _ {P D : Type 0} (score : List ℕ → List ℕ) (disk : DiskOf D) (file 
         (λ refusal. among bad failure it names refusal)
         (λ memory. as_told causes failure NoMemory memory tt) is
 
-    pub none_opened : {R K : Type 0} (outcome : Outcome) (source : Change R) (sink : Change K)
+    pub none_opened : {R K : Type 0} (outcome : CommandOutcome) (source : StreamChange R) (sink : StreamChange K)
         → OpensNone score disk file conf outcome source sink parts → HasCauseIn causes outcome
-    none_opened outcome source sink x = subst (λ (o : Outcome). HasCauseIn causes o)
+    none_opened outcome source sink x = subst (λ (o : CommandOutcome). HasCauseIn causes o)
         (sym x.outcome_is) (open_told x.bad x.failure x.refused x.differs x.told)

@@ -12,18 +12,18 @@ use Rattle.vt_conf.specs.Numbers.{wrong_digit}
 use Rattle.vt_core.specs.Core.{CoreState}
 use Rattle.vt_disk.specs.Members.{DiskOf}
 use Rattle.vt_model.specs.Answer.{answer}
-use Rattle.vt_answer.specs.Serving.{answered, reply_in}
-use Rattle.vt_single.specs.declared.stored.StoredBad.{StoredBad}
-use Rattle.vt_single.specs.declared.stored.StoredBad.TheVariants as stored
+use Rattle.vt_handler.specs.Serving.{answered, reply_in}
+use Rattle.vt_single.specs.declared.stored.StoredError.{StoredError}
+use Rattle.vt_single.specs.declared.stored.StoredError.TheVariants as stored
 use Rattle.vt_single.specs.Stored.{UsesStore}
-use Rattle.run_base.specs.declared.failure.Failure.{Failure}
-use Rattle.run_base.specs.declared.failure.Failure.TheVariants.{ArenasFull, BadNumber, BadScore, IndexFull, Refused}
-use Rattle.run_base.specs.Change.{Change, FilesChange, PartsChange}
+use Rattle.run_base.specs.declared.error.CommandError.{CommandError}
+use Rattle.run_base.specs.declared.error.CommandError.TheVariants.{ArenasFull, BadNumber, BadScore, IndexFull, Refused}
+use Rattle.run_base.specs.Change.{StreamChange, FilesChange, PartsChange}
 use Rattle.run_base.specs.Unopened.{IsOpenRefusal}
 use Rattle.run_base.specs.Configurations.{ReadsNone}
-use Rattle.run_base.specs.Failure.{Outcome}
+use Rattle.run_base.specs.Errors.{CommandOutcome}
 use Rattle.run_base.specs.Formatting.{Prints}
-use Rattle.run_base.specs.Memory.{memory}
+use Rattle.run_base.specs.Memory.{memory_setup}
 use Rattle.run_base.specs.Served.{failure_for}
 
 -- ---- words
@@ -37,28 +37,29 @@ abbrev pub SaysType : (word : List ℕ) → (kind : ℕ) → Type 0
 SaysType word kind = IsByte word kind × IsKind kind
 
 -- why it isn't: it is no such number, or one of no type
-abbrev pub SaysNoType : (word : List ℕ) → Failure → Type 0
+abbrev pub SaysNoType : (word : List ℕ) → CommandError → Type 0
 SaysNoType word failure =
     (((n : ℕ) → ¬ IsByte word n) × (failure ≡ BadNumber (wrong_digit word)))
     ⊎ ((n : ℕ) × IsByte word n × ¬ IsKind n × (failure ≡ Refused whys.BadType))
 
 -- why the word spells no score
-abbrev pub SaysNoScore : (word : List ℕ) → Failure → Type 0
+abbrev pub SaysNoScore : (word : List ℕ) → CommandError → Type 0
 SaysNoScore word failure =
     ((s : List ℕ) → ¬ SpellsScore s word) × (failure ≡ BadScore (wrong_place word))
 
 -- ---- refusals
 
 -- no configuration was read, and nothing else was done
-pub record FindsNoConf {I : Type 0} (file : List ℕ) (outcome : Outcome) (files : FilesChange I)
+pub record FindsNoConf {I : Type 0} (file : List ℕ) (outcome : CommandOutcome)
+    (files : FilesChange I)
     (Idle : Type 0) : Type 0 where
-  pub failure : Failure
+  pub failure : CommandError
   pub outcome_is : outcome ≡ Err failure
   pub none : ReadsNone file failure files
   pub idle : Idle
 
 -- why a store says no, or fails
-abbrev pub refusal_for : Why → Failure
+abbrev pub refusal_for : Why → CommandError
 refusal_for whys.IndexFull = IndexFull
 refusal_for whys.ArenasFull = ArenasFull
 refusal_for whys.BadType = Refused whys.BadType
@@ -72,34 +73,36 @@ refusal_for (whys.Damaged site want found) = failure_for (whys.Damaged site want
 refusal_for whys.NoMemory = failure_for whys.NoMemory
 
 -- why the store of a configuration wasn't opened, or what it said
-abbrev pub IsStoredRefusal : (file : List ℕ) → Conf → StoredBad → Failure → Type 0
+abbrev pub IsStoredRefusal : (file : List ℕ) → Conf → StoredError → CommandError → Type 0
 IsStoredRefusal file conf (stored.Unopened bad) failure = IsOpenRefusal file conf bad failure
 IsStoredRefusal file conf (stored.Refused why) failure = failure ≡ refusal_for why
 
 -- what came of it is printed, or it is told why not; then nothing is printed
-abbrev pub TellsStored : {K T : Type 0} → (file : List ℕ) → Conf → (text : T → List ℕ)
-    → Result T StoredBad → Outcome → Change K → Type 0
-TellsStored file conf text (Ok value) outcome sink = Prints (text value) outcome sink
-TellsStored file conf text (Err bad) outcome sink =
-    ((failure : Failure) × (outcome ≡ Err failure) × IsStoredRefusal file conf bad failure)
+abbrev pub TellsStoredBlock : {K T : Type 0} → (file : List ℕ) → Conf → (text : T → List ℕ)
+    → Result T StoredError → CommandOutcome → StreamChange K → Type 0
+TellsStoredBlock file conf text (Ok value) outcome sink = Prints (text value) outcome sink
+TellsStoredBlock file conf text (Err bad) outcome sink =
+    ((failure : CommandError) × (outcome ≡ Err failure) × IsStoredRefusal file conf bad failure)
     × (sink.after ≡ sink.before)
 
 -- This was done with the store of a configuration, and what came of it was told.
 pub record DoesStored {K P D T : Type 0} (score : List ℕ → List ℕ) (disk : DiskOf D)
     (file : List ℕ) (conf : Conf) (Does : Result T Why → (opened left : CoreState D) → Type 0)
-    (text : T → List ℕ) (outcome : Outcome) (sink : Change K) (parts : PartsChange P D) : Type 0
+    (text : T → List ℕ) (outcome : CommandOutcome) (sink : StreamChange K) (parts : PartsChange P D)
+    : Type 0
   where
-    pub result : Result T StoredBad
+    pub result : Result T StoredError
     pub uses : UsesStore score disk (IsTrue parts.tells) conf Does parts.old parts.new parts.faults
         parts.faults' result
-    pub told : TellsStored file conf text result outcome sink
+    pub told : TellsStoredBlock file conf text result outcome sink
 
 -- ---- in memory
 
 -- it is the model's answer over the store in memory, which has no block, or want of memory
-abbrev pub AnswersInMemory : (score : List ℕ → List ℕ) → Operation → Result RMessage Why → Type 0
-AnswersInMemory score m reply =
-    (reply_in reply ≡ (answer score memory [] m).reply) ⊎ (reply ≡ Err whys.NoMemory)
+abbrev pub AnswersOfEmptyStore : (score : List ℕ → List ℕ) → Operation → Result RMessage Why
+    → Type 0
+AnswersOfEmptyStore score m reply =
+    (reply_in reply ≡ (answer score memory_setup [] m).reply) ⊎ (reply ≡ Err whys.NoMemory)
 
 -- why it may fail: no call of a disk fails, and where it is damaged, two values differ
 abbrev pub FailsInMemory : Why → Type 0
@@ -109,7 +112,8 @@ FailsInMemory (whys.Damaged site want found) = Differ want found
 FailsInMemory why = ⊤
 
 -- what came of it is printed, or it is told why not; then nothing is printed
-abbrev pub TellsMade : {K T : Type 0} → (text : T → List ℕ) → Result T Why → Outcome → Change K
+abbrev pub TellsMade : {K T : Type 0} → (text : T → List ℕ) → Result T Why → CommandOutcome
+    → StreamChange K
     → Type 0
 TellsMade text (Ok value) outcome sink = Prints (text value) outcome sink
 TellsMade text (Err why) outcome sink =
@@ -117,9 +121,10 @@ TellsMade text (Err why) outcome sink =
 
 -- the store in memory was asked this, and what it answered was told
 pub record AsksMade {K T : Type 0} (score : List ℕ → List ℕ) (m : Operation)
-    (message : T → RMessage) (text : T → List ℕ) (outcome : Outcome) (sink : Change K) : Type 0
+    (message : T → RMessage) (text : T → List ℕ) (outcome : CommandOutcome) (sink : StreamChange K)
+    : Type 0
   where
     pub result : Result T Why
-    pub answers : AnswersInMemory score m (answered message result)
+    pub answers : AnswersOfEmptyStore score m (answered message result)
     pub fails : IfErr result FailsInMemory
     pub told : TellsMade text result outcome sink

@@ -2,14 +2,14 @@
 use Rattle.std.specs.Prelude.{ℕ, ◌≡◌, ◌⊎◌, ◌++◌, Bool, IsTrue, List, [], Option}
 use Rattle.vt_base.specs.Faults.{HasRisen}
 use Rattle.vt_out.specs.Streams.{AppendsPrefix}
-use Rattle.vt_folders.specs.Standing.{Standing as FolderStanding}
-use Rattle.vt_parts.specs.Parts.{Standing}
+use Rattle.vt_out.specs.FolderStanding.{Standing as FolderStanding}
+use Rattle.vt_partitions.specs.Parts.{Standing}
 use Rattle.vt_dial.specs.Dialled.{Dialled}
 use Rattle.run_base.specs.Members.{SourceOf, SinkOf, FilesOf, PartsOf, FoldersOf, DialerOf, LinkOf}
 
 -- A stream before the run and behind it: the stream itself; its bytes, left or written, where it
 -- tells them, and of one that is read those that were taken; and its count of faults.
-pub record Change (Stream : Type 0) : Type 0 where
+pub record StreamChange (Stream : Type 0) : Type 0 where
   pub before : Stream
   pub after : Stream
   pub tells : Bool
@@ -20,7 +20,7 @@ pub record Change (Stream : Type 0) : Type 0 where
   pub faults : ℕ
   pub faults' : ℕ
 
-abbrev pub source_change : {R : Type 0} → SourceOf R → (before after : R) → Change R
+abbrev pub source_change : {R : Type 0} → SourceOf R → (before after : R) → StreamChange R
 source_change source before after = record {
   before = before;
   after = after;
@@ -33,7 +33,7 @@ source_change source before after = record {
   faults' = source.faults after;
 }
 
-abbrev pub sink_change : {K : Type 0} → SinkOf K → (before after : K) → Change K
+abbrev pub sink_change : {K : Type 0} → SinkOf K → (before after : K) → StreamChange K
 sink_change sink before after = record {
   before = before;
   after = after;
@@ -136,11 +136,12 @@ folders_change folders before after = record {
 -- ---- nothing was done to it
 
 -- a stream is as it was
-abbrev pub IsUntouched : {S : Type 0} → Change S → Type 0
+abbrev pub IsUntouched : {S : Type 0} → StreamChange S → Type 0
 IsUntouched stream = stream.after ≡ stream.before
 
 -- nothing was read of a stream, and nothing written to another
-pub record PassesNothing {R K : Type 0} (source : Change R) (sink : Change K) : Type 0 where
+pub record PassesNothing {R K : Type 0} (source : StreamChange R) (sink : StreamChange K)
+    : Type 0 where
   pub unread : IsUntouched source
   pub unwritten : IsUntouched sink
 
@@ -161,13 +162,14 @@ abbrev pub AreUnused : FoldersChange → Type 0
 AreUnused folders = (folders.new ≡ folders.old) × (folders.faults' ≡ folders.faults)
 
 -- no partition was handed out, and nothing was written
-pub record MakesNothing {P D K : Type 0} (parts : PartsChange P D) (sink : Change K) : Type 0 where
+pub record MakesNothing {P D K : Type 0} (parts : PartsChange P D) (sink : StreamChange K)
+    : Type 0 where
   pub unused : NoneHandedOut parts
   pub unwritten : IsUntouched sink
 
 -- nor was a file read, or a link made
 pub record UsesNothing {I P D N L K : Type 0} (files : FilesChange I) (parts : PartsChange P D)
-    (dialer : DialerChange N L) (sink : Change K) : Type 0 where
+    (dialer : DialerChange N L) (sink : StreamChange K) : Type 0 where
   pub unopened : NoneRead files
   pub unused : NoneHandedOut parts
   pub undialled : NoneDialled dialer
@@ -176,7 +178,7 @@ pub record UsesNothing {I P D N L K : Type 0} (files : FilesChange I) (parts : P
 -- ---- a line
 
 -- Where the stream tells what was written, the line was; or the write failed behind a front of it.
-abbrev pub Attempts : {F : Type 0} → Change F → (line : List ℕ) → Type 0
+abbrev pub Attempts : {F : Type 0} → StreamChange F → (line : List ℕ) → Type 0
 Attempts change line = IsTrue change.tells
     → (change.new ≡ change.old ++ line)
     ⊎ (AppendsPrefix change.old change.new line × HasRisen change.faults change.faults')

@@ -8,16 +8,16 @@ use Rattle.vt_base.specs.declared.mount.MountBad.TheVariants as mount_bad
 use Rattle.vt_conf.specs.declared.TheConstants.{MAX_CONF}
 use Rattle.vt_conf.specs.declared.conf.Conf.{Conf}
 use Rattle.vt_conf.specs.declared.conf.PartFile.{PartFile}
-use Rattle.vt_conf.specs.declared.why.ConfWhy.{ConfWhy}
-use Rattle.vt_conf.specs.declared.why.ConfWhy.TheVariants.{TooLong}
+use Rattle.vt_conf.specs.declared.error.ConfCause.{ConfCause}
+use Rattle.vt_conf.specs.declared.error.ConfCause.TheVariants.{TooLong}
 use Rattle.vt_conf.specs.Configuration.{Configures, IsFirstCause}
-use Rattle.run_base.specs.declared.failure.Failure.{Failure}
-use Rattle.run_base.specs.declared.failure.Failure.TheVariants.{BadConf, NotFormatted, TooSmall, Disagree, SameName, DiskFault, FileFault, NoMemory, Damaged}
+use Rattle.run_base.specs.declared.error.CommandError.{CommandError}
+use Rattle.run_base.specs.declared.error.CommandError.TheVariants.{BadConf, NotFormatted, TooSmall, Disagree, SameName, DiskFault, FileFault, NoMemory, Damaged}
 use Rattle.run_base.specs.Change.{FilesChange}
 
 -- A file that is longer than a configuration may be is refused for that, whatever it says, and
 -- another one for its first cause.
-abbrev pub IsWrong : (text : List ℕ) → (line : ℕ) → ConfWhy → Type 0
+abbrev pub IsWrong : (text : List ℕ) → (line : ℕ) → ConfCause → Type 0
 IsWrong text line why = ((MAX_CONF < length text) × (line ≡ 0) × (why ≡ TooLong))
     ⊎ ((length text ≤ MAX_CONF) × IsFirstCause text line why)
 
@@ -30,7 +30,7 @@ pub record ReadsConf {I : Type 0} (file : List ℕ) (conf : Conf) (files : Files
   pub quiet : files.faults' ≡ files.faults
 
 -- why none is read: it is refused, its file couldn't be read, or memory ran out
-abbrev pub ReadsNone : {I : Type 0} → (file : List ℕ) → Failure → FilesChange I → Type 0
+abbrev pub ReadsNone : {I : Type 0} → (file : List ℕ) → CommandError → FilesChange I → Type 0
 ReadsNone file (BadConf bad) files = (files.faults' ≡ files.faults)
     × (IsTrue files.tells → (text : List ℕ) × (files.content file ≡ Some text)
     × IsWrong text bad.line bad.why)
@@ -45,7 +45,7 @@ abbrev pub name_at : (file : List ℕ) → List PartFile → (part : ℕ) → Li
 name_at file files part = option_map_or (λ named. named.name) (slice_get files part) file
 
 -- what is told where one of these partitions is refused, unless memory runs out
-abbrev pub IsRefusalAmong : (file : List ℕ) → List PartFile → MountBad → Failure → Type 0
+abbrev pub IsRefusalAmong : (file : List ℕ) → List PartFile → MountBad → CommandError → Type 0
 IsRefusalAmong file files (mount_bad.NotFormatted part) failure =
     failure ≡ NotFormatted (name_at file files part)
 IsRefusalAmong file files (mount_bad.TooSmall part len need) failure =

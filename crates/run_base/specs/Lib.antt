@@ -2,7 +2,7 @@ pub mod Members
 pub mod Change
 pub mod Configurations
 pub mod Fields
-pub mod Failure
+pub mod Errors
 pub mod Formatting
 pub mod Memory
 pub mod Served

@@ -8,13 +8,13 @@ use Rattle.vt_disk.specs.Members.{DiskOf}
 use Rattle.vt_model.specs.Places.{Setup}
 
 -- one arena of 1,048,576 bytes, and one index section of 4 buckets
-abbrev pub memory : Setup
-memory = record { arenas = 1048576 ∷ []; base = 0; sections = 4 ∷ [] }
+abbrev pub memory_setup : Setup
+memory_setup = record { arenas = 1048576 ∷ []; base = 0; sections = 4 ∷ [] }
 
 -- a store of this setup without blocks, of which no part has stopped
 pub record IsMemoryStore {D : Type 0} (score : List ℕ → List ℕ) (disk : DiskOf D)
     (k : CoreState D) : Type 0 where
   pub sound : IsSound score disk k []
-  pub setup : setup_of k ≡ memory
+  pub setup : setup_of k ≡ memory_setup
   pub free : WaitsForNone k.waiting 0
   pub stops : All (λ stop. stop ≡ None) (stops_of k)

@@ -8,15 +8,15 @@ use Rattle.vt_session.specs.declared.Ended.TheVariants as ends
 use Rattle.vt_session.specs.Heard.{Item, Heard}
 use Rattle.vt_session.specs.Talk.{Took, spent_len}
 use Rattle.vt_alone.specs.declared.serving.StoreServed.{StoreServed}
-use Rattle.run_base.specs.declared.failure.Failure.{Failure}
-use Rattle.run_base.specs.declared.failure.Failure.TheVariants.{Cut, Damaged, DiskFault, Malformed, NoMemory, ReadFault, Spent, WriteFault}
-use Rattle.run_base.specs.Change.{Change}
-use Rattle.run_base.specs.Failure.{Outcome}
+use Rattle.run_base.specs.declared.error.CommandError.{CommandError}
+use Rattle.run_base.specs.declared.error.CommandError.TheVariants.{Cut, Damaged, DiskFault, Malformed, NoMemory, ReadFault, Spent, WriteFault}
+use Rattle.run_base.specs.Change.{StreamChange}
+use Rattle.run_base.specs.Errors.{CommandOutcome}
 
 -- ---- how it ended
 
 -- the outcome by the session's end alone, of an input of which so many bytes were taken
-abbrev pub outcome_of_end : Ended → (taken : ℕ) → Outcome
+abbrev pub outcome_of_end : Ended → (taken : ℕ) → CommandOutcome
 outcome_of_end ends.Goodbye taken = Ok tt
 outcome_of_end ends.Closed taken = Ok tt
 outcome_of_end ends.Cut taken = Err (Cut taken)
@@ -28,40 +28,40 @@ outcome_of_end ends.NoMemory taken = Err NoMemory
 
 -- why the store failed in a request, or at its end: a call of a device, or a part that had stopped
 -- since one failed; or damage; or want of memory
-abbrev pub failure_for : Why → Failure
+abbrev pub failure_for : Why → CommandError
 failure_for (whys.Damaged site want found) = Damaged want found
 failure_for whys.NoMemory = NoMemory
 failure_for why = DiskFault
 
-abbrev pub failed_in : Option Why → Outcome
+abbrev pub failed_in : Option Why → CommandOutcome
 failed_in None = Ok tt
 failed_in (Some why) = Err (failure_for why)
 
-abbrev pub closed_with : Result (Unit {0}) Why → Outcome
+abbrev pub closed_with : Result (Unit {0}) Why → CommandOutcome
 closed_with (Ok done) = Ok tt
 closed_with (Err why) = Err (failure_for why)
 
-abbrev pub first_of : (first second : Outcome) → Outcome
-first_of (Ok done) second = second
-first_of (Err failure) second = Err failure
+abbrev pub first_outcome : (first second : CommandOutcome) → CommandOutcome
+first_outcome (Ok done) second = second
+first_outcome (Err failure) second = Err failure
 
 -- the first cause in time: a failure in a request, the session's end, the end of the store's use
-abbrev pub outcome_of : StoreServed → Outcome
-outcome_of end = first_of (failed_in end.failure)
-    (first_of (outcome_of_end end.ended end.taken) (closed_with end.closed))
+abbrev pub outcome_of : StoreServed → CommandOutcome
+outcome_of end = first_outcome (failed_in end.failure)
+    (first_outcome (outcome_of_end end.ended end.taken) (closed_with end.closed))
 
 -- ---- what came in and went out
 
 -- these bytes came from the source and went to the sink
 pub record PassesOver {R K : Type 0} (end : StoreServed) (input output : List ℕ)
-    (source : Change R) (sink : Change K) : Type 0 where
+    (source : StreamChange R) (sink : StreamChange K) : Type 0 where
   pub bytes : AreBytes source.old
   pub took : Took source.old input source.new end.ended
   pub taken : end.taken ≡ length input
   pub written : sink.new ≡ sink.old ++ output
 
 -- the input is spelled up to its end, which is a goodbye or stands behind a whole message
-pub record EndsWell (input : List ℕ) : Type 0 where
+pub record InputEndsWell (input : List ℕ) : Type 0 where
   pub items : List Item
   pub ended : Ended
   pub heard : Heard input items ended

@@ -4,36 +4,36 @@ ghost use Rattle.std.specs.Prelude.{◌≡◌, IfErr, IfOk};
 ghost use Rattle.vt_base.specs.ScoreText.{SpellsScore};
 ghost use Rattle.run_base.specs.Blocks.{IsStoredRefusal, SaysNoScore, SaysNoType, SaysType, refusal_for};
 
-use crate::failure::Failure;
+use crate::error::CommandError;
 use crate::served::failure_for;
 use crate::unopened::told;
 use std::alloc::Global;
 use vt_base::{Kind, Score, Text, Why, parse_score};
 use vt_conf::{Conf, parse_number};
 use vt_out::Sink;
-use vt_single::StoredBad;
+use vt_single::StoredError;
 
 /// The score that a word spells.
-pub fn score_in(word: &Text) -> Result<Score, Failure>
+pub fn score_in(word: &Text) -> Result<Score, CommandError>
     ensures good { IfOk result (λ score. SpellsScore score.0 word.now) }
     ensures bad { IfErr result (SaysNoScore word.now) }
 {
     match parse_score(word.as_slice()) {
         Ok(score) => Ok(score),
-        Err(bad) => Err(Failure::BadScore(bad.at as u64)),
+        Err(bad) => Err(CommandError::BadScore(bad.at as u64)),
     }
 }
 
 /// The block type that a word says: a number from 0 to 255, if it is that of one.
-pub fn type_in(word: &Text) -> Result<Kind, Failure>
+pub fn type_in(word: &Text) -> Result<Kind, CommandError>
     ensures good { IfOk result (SaysType word.now) }
     ensures bad { IfErr result (SaysNoType word.now) }
 {
     let number = match parse_number(word.as_slice(), 0, u64::from(u8::MAX)) {
         Ok(number) => number as u8,
-        Err(bad) => return Err(Failure::BadNumber(bad.at as u64)),
+        Err(bad) => return Err(CommandError::BadNumber(bad.at as u64)),
     };
-    Kind::from_wire(number).ok_or(Failure::Refused(Why::BadType))
+    Kind::from_wire(number).ok_or(CommandError::Refused(Why::BadType))
 }
 
 /// What is told where a block of a configuration's store isn't read or written.
@@ -42,25 +42,25 @@ pub fn told_stored<T: Sink + Drop>(
     terminal: Option<T>,
     file: &Text,
     conf: &Conf,
-    bad: StoredBad,
-) -> Failure
+    bad: StoredError,
+) -> CommandError
     ensures { IsStoredRefusal file.now conf.now bad result }
 {
     match bad {
-        StoredBad::Unopened(bad) => told(alloc, terminal, file, conf, bad),
-        StoredBad::Refused(why) => refusal_for(why),
+        StoredError::Unopened(bad) => told(alloc, terminal, file, conf, bad),
+        StoredError::Refused(why) => refusal_for(why),
     }
 }
 
 /// What is told where a store says no, or fails.
-pub fn refusal_for(why: Why) -> Failure
+pub fn refusal_for(why: Why) -> CommandError
     ensures { result ≡ refusal_for why }
 {
     match why {
-        Why::IndexFull => Failure::IndexFull,
-        Why::ArenasFull => Failure::ArenasFull,
+        Why::IndexFull => CommandError::IndexFull,
+        Why::ArenasFull => CommandError::ArenasFull,
         Why::BadType | Why::TooBig | Why::TooSmall | Why::Absent | Why::Collision => {
-            Failure::Refused(why)
+            CommandError::Refused(why)
         }
         Why::DiskFault | Why::Stopped(_) | Why::Damaged { .. } | Why::NoMemory => failure_for(why),
     }

@@ -3,77 +3,80 @@
 ghost use Rattle.std.specs.Prelude.{◌≡◌, ◌*◌, ◌++◌, [], ◌∷◌, codes, decimal, length, map, IsTrue, OnOk, OnErr};
 ghost use Rattle.hex.specs.Hex.{encode_lower};
 ghost use Rattle.vt_base.specs.Faults.{HasCause};
-ghost use Rattle.vt_conf.specs.Causes.{text_of};
+ghost use Rattle.vt_conf.specs.Causes.{cause_text};
 ghost use Rattle.vt_out.specs.Streams.{AppendsPrefix};
 ghost use Rattle.run_base.specs.Change.{sink_change, Attempts};
-ghost use Rattle.run_base.specs.Failure.{line, line_of, server_line};
+ghost use Rattle.run_base.specs.Errors.{line, outcome_line, server_error_line};
 ghost use Rattle.run_base.specs.Fields.{field_name, value_text};
 
-use crate::failure::Failure;
+use crate::error::CommandError;
 use crate::printing::put_pieces;
 use itoa::Buffer;
 use vt_base::{Failed, FieldValue, MountField, Score, why_text};
 use vt_client::ClientErr;
-use vt_conf::{ConfWhy, conf_text};
+use vt_conf::{ConfCause, conf_text};
 use vt_out::Sink;
-use vt_remote::RemoteBad;
+use vt_remote::RemoteError;
 
 /// Says why a command did not end well. Where it did, nothing is said.
-pub fn complain_of<F: Sink>(sink: &mut F, outcome: &Result<(), Failure>)
-    ensures { Attempts (sink_change F.Sink sink.old sink.new) (line_of outcome.now) }
+pub fn complain_of<F: Sink>(sink: &mut F, outcome: &Result<(), CommandError>)
+    ensures { Attempts (sink_change F.Sink sink.old sink.new) (outcome_line outcome.now) }
 {
     let Err(failure) = outcome else {
         return;
     };
     match failure {
-        Failure::BadWords => complain(sink, &[b"bad command line"]),
-        Failure::BadConf(bad) => complain_of_conf(sink, bad.line, &bad.why),
-        Failure::NotFormatted { file } => complain(sink, &[file.as_slice(), b": not formatted"]),
-        Failure::TooSmall { file, len, need } => complain_of_len(
+        CommandError::BadWords => complain(sink, &[b"bad command line"]),
+        CommandError::BadConf(bad) => complain_of_conf(sink, bad.line, &bad.why),
+        CommandError::NotFormatted { file } => complain(
+            sink,
+            &[file.as_slice(), b": not formatted"],
+        ),
+        CommandError::TooSmall { file, len, need } => complain_of_len(
             sink,
             file.as_slice(),
             *len,
             *need,
         ),
-        Failure::Disagree {
+        CommandError::Disagree {
             file,
             field,
             found,
             want,
         } => complain_of_field(sink, file.as_slice(), *field, *found, *want),
-        Failure::SameName { file, other } => complain(
+        CommandError::SameName { file, other } => complain(
             sink,
             &[file.as_slice(), b": name is that of ", other.as_slice()],
         ),
-        Failure::DiskFault => complain(sink, &[b"disk fault"]),
-        Failure::BadNumber(at) => complain_at(sink, b"bad number at ", *at),
-        Failure::BadName(at) => complain_at(sink, b"bad name at ", *at),
-        Failure::BadScore(at) => complain_at(sink, b"bad score at ", *at),
-        Failure::BadArchive(at) => complain_at(sink, b"bad archive at ", *at),
-        Failure::TooDeep(at) => complain_at(sink, b"too deep at ", *at),
-        Failure::TooLong(at) => complain_at(sink, b"too long at ", *at),
-        Failure::Cut(taken) => complain_at(sink, b"cut at ", *taken),
-        Failure::Malformed(place) => complain_at(sink, b"malformed at ", *place),
-        Failure::Spent(taken) => complain_at(sink, b"spent at ", *taken),
-        Failure::ReadFault => complain(sink, &[b"read fault"]),
-        Failure::FileFault => complain(sink, &[b"read fault"]),
-        Failure::FolderFault => complain(sink, &[b"read fault"]),
-        Failure::WriteFault => complain(sink, &[b"write fault"]),
-        Failure::NoMemory => complain(sink, &[b"no memory"]),
-        Failure::Damaged { want, found } => complain_of_damage(sink, want, found),
-        Failure::IndexFull => complain(sink, &[b"index full"]),
-        Failure::ArenasFull => complain(sink, &[b"arenas full"]),
-        Failure::Refused(why) => complain(sink, &[b"refused: ", why_text(why).as_bytes()]),
-        Failure::NoBlock(text) => complain(sink, &[b"refused: ", text.as_slice()]),
-        Failure::Server(bad) => complain_of_server(sink, bad),
+        CommandError::DiskFault => complain(sink, &[b"disk fault"]),
+        CommandError::BadNumber(at) => complain_at(sink, b"bad number at ", *at),
+        CommandError::BadName(at) => complain_at(sink, b"bad name at ", *at),
+        CommandError::BadScore(at) => complain_at(sink, b"bad score at ", *at),
+        CommandError::BadArchive(at) => complain_at(sink, b"bad archive at ", *at),
+        CommandError::TooDeep(at) => complain_at(sink, b"too deep at ", *at),
+        CommandError::TooLong(at) => complain_at(sink, b"too long at ", *at),
+        CommandError::Cut(taken) => complain_at(sink, b"cut at ", *taken),
+        CommandError::Malformed(place) => complain_at(sink, b"malformed at ", *place),
+        CommandError::Spent(taken) => complain_at(sink, b"spent at ", *taken),
+        CommandError::ReadFault => complain(sink, &[b"read fault"]),
+        CommandError::FileFault => complain(sink, &[b"read fault"]),
+        CommandError::FolderFault => complain(sink, &[b"read fault"]),
+        CommandError::WriteFault => complain(sink, &[b"write fault"]),
+        CommandError::NoMemory => complain(sink, &[b"no memory"]),
+        CommandError::Damaged { want, found } => complain_of_damage(sink, want, found),
+        CommandError::IndexFull => complain(sink, &[b"index full"]),
+        CommandError::ArenasFull => complain(sink, &[b"arenas full"]),
+        CommandError::Refused(why) => complain(sink, &[b"refused: ", why_text(why).as_bytes()]),
+        CommandError::NoBlock(text) => complain(sink, &[b"refused: ", text.as_slice()]),
+        CommandError::Server(bad) => complain_of_server(sink, bad),
     }
 }
 
 /// Writes a line on a server that wasn't reached, or didn't answer what was asked.
-fn complain_of_server<F: Sink>(sink: &mut F, bad: &RemoteBad)
-    ensures { Attempts (sink_change F.Sink sink.old sink.new) (server_line bad.now) }
+fn complain_of_server<F: Sink>(sink: &mut F, bad: &RemoteError)
+    ensures { Attempts (sink_change F.Sink sink.old sink.new) (server_error_line bad.now) }
 {
-    let RemoteBad::Refused(why) = bad else {
+    let RemoteError::Refused(why) = bad else {
         return complain(sink, &[b"read fault"]);
     };
     match why {
@@ -108,9 +111,9 @@ fn complain_of_scores<F: Sink>(sink: &mut F, want: &Score, found: &Score)
 }
 
 /// Writes a line on a configuration that is refused.
-fn complain_of_conf<F: Sink>(sink: &mut F, number: usize, why: &ConfWhy)
+fn complain_of_conf<F: Sink>(sink: &mut F, number: usize, why: &ConfCause)
     ensures { Attempts (sink_change F.Sink sink.old sink.new) (line (codes "config line "
-        ∷ decimal number ∷ codes ": " ∷ text_of why.now ∷ [])) }
+        ∷ decimal number ∷ codes ": " ∷ cause_text why.now ∷ [])) }
 {
     let mut digits = Buffer::new();
     complain(

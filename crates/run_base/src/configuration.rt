@@ -4,14 +4,14 @@ ghost use Rattle.std.specs.Prelude.{◌≡◌, ℕ, List, IfErr, IfOk};
 ghost use Rattle.run_base.specs.Change.{files_change};
 ghost use Rattle.run_base.specs.Configurations.{ReadsConf, ReadsNone};
 
-use crate::failure::Failure;
+use crate::error::CommandError;
 use std::alloc::Global;
 use vt_base::Text;
-use vt_conf::{Conf, ConfBad, ConfErr, ConfWhy, MAX_CONF, parse_conf};
+use vt_conf::{Conf, ConfBad, ConfCause, ConfErr, MAX_CONF, parse_conf};
 use vt_out::{Files, OutErr};
 
 /// Reads the configuration in the file of this name, of which 65,537 bytes are read at most.
-pub fn read_conf<I: Files>(alloc: Global, files: &mut I, file: &Text) -> Result<Conf, Failure>
+pub fn read_conf<I: Files>(alloc: Global, files: &mut I, file: &Text) -> Result<Conf, CommandError>
     ensures said { IfOk result (λ conf.
         ReadsConf file.now conf (files_change I.Files files.old files.new)) }
     ensures refused { IfErr result (λ failure.
@@ -20,18 +20,18 @@ pub fn read_conf<I: Files>(alloc: Global, files: &mut I, file: &Text) -> Result<
 {
     let text = match files.read(alloc, file, MAX_CONF as u32) {
         Ok(text) => text,
-        Err(OutErr::Failed) => return Err(Failure::FileFault),
-        Err(OutErr::NoMemory) => return Err(Failure::NoMemory),
+        Err(OutErr::Failed) => return Err(CommandError::FileFault),
+        Err(OutErr::NoMemory) => return Err(CommandError::NoMemory),
     };
     if text.as_slice().len() > MAX_CONF {
-        return Err(Failure::BadConf(ConfBad {
+        return Err(CommandError::BadConf(ConfBad {
             line: 0,
-            why: ConfWhy::TooLong,
+            why: ConfCause::TooLong,
         }));
     }
     match parse_conf(alloc, text.as_slice()) {
         Ok(conf) => Ok(conf),
-        Err(ConfErr::Bad(bad)) => Err(Failure::BadConf(bad)),
-        Err(ConfErr::NoMemory) => Err(Failure::NoMemory),
+        Err(ConfErr::Bad(bad)) => Err(CommandError::BadConf(bad)),
+        Err(ConfErr::NoMemory) => Err(CommandError::NoMemory),
     }
 }

@@ -1,6 +1,6 @@
 //! What the program stands on: all that it reads from and writes to is handed in.
 
-use vt_answer::Streams;
+use vt_handler::Streams;
 
 /// All that the program is lent. A command is lent those of it that it touches, and no more.
 #[derive(Drop)]

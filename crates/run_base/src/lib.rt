@@ -6,7 +6,7 @@
 mod block;
 mod complaint;
 mod configuration;
-mod failure;
+mod error;
 mod host;
 mod memory;
 mod place;
@@ -18,7 +18,7 @@ mod unopened;
 pub use block::{refusal_for, score_in, told_stored, type_in};
 pub use complaint::{complain_of, hexadecimal, put_line};
 pub use configuration::read_conf;
-pub use failure::{Failure, status};
+pub use error::{CommandError, status};
 pub use host::Outside;
 pub use memory::{memory_store, read_made, write_made};
 pub use place::{Place, is_in_memory, place_of};

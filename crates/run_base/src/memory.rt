@@ -4,17 +4,17 @@ ghost use Rattle.std.specs.Prelude.{◌≡◌, ◌≤◌, ℕ, List, IfErr, IfOk
 ghost use Rattle.vt_base.specs.Protocol.{read, write, r_read, r_write};
 ghost use Rattle.vt_base.specs.declared.TheConstants.{MAX_BLOCK};
 ghost use Rattle.vt_base.specs.declared.score.Score.{Score};
-ghost use Rattle.vt_answer.specs.Serving.{answered};
-ghost use Rattle.run_base.specs.Blocks.{AnswersInMemory, FailsInMemory};
+ghost use Rattle.vt_handler.specs.Serving.{answered};
+ghost use Rattle.run_base.specs.Blocks.{AnswersOfEmptyStore, FailsInMemory};
 ghost use Rattle.run_base.specs.Memory.{IsMemoryStore};
 
 use std::alloc::{AllocError, Global};
 use vt_base::{Bytes, Kind, Score, Scorer, Why};
-use vt_conf::{block_room, entry_room};
+use vt_conf::{cached_blocks, entry_room};
 use vt_core::Core;
 use vt_disk::Disk;
-use vt_fresh::laws::memory_never_fails;
-use vt_fresh::{Shape, fresh_store};
+use vt_empty::laws::memory_never_fails;
+use vt_empty::{Shape, fresh_store};
 use vt_memdisk::MemDisk;
 use vt_shard::Sizes;
 use vt_single::{blocks_are_kept, blocks_are_read, failures_have_causes, read_block, write_block};
@@ -40,7 +40,7 @@ pub fn memory_store<S: Scorer + Drop>(
     ensures { IfOk result (IsMemoryStore S.score_of ⟦<MemDisk as Disk>⟧) }
 {
     let sizes = Sizes {
-        lumps: block_room(MEM, MEMORY.sections),
+        lumps: cached_blocks(MEM, MEMORY.sections),
         clean: entry_room(MEM, MEMORY.sections),
     };
     fresh_store(alloc, &MEMORY, sizes, 1, scorer)
@@ -53,7 +53,7 @@ pub fn read_made<S: Scorer>(
     kind: Kind,
     score: &Score,
 ) -> Result<Bytes, Why>
-    ensures answers { AnswersInMemory S.score_of (read score.now.0 kind MAX_BLOCK)
+    ensures answers { AnswersOfEmptyStore S.score_of (read score.now.0 kind MAX_BLOCK)
         (answered (λ (bytes : List ℕ). r_read bytes) result) }
     ensures fails { IfErr result FailsInMemory }
 {
@@ -76,7 +76,7 @@ pub fn write_made<S: Scorer>(
     bytes: &[u8],
 ) -> Result<Score, Why>
     requires most { length bytes.now ≤ MAX_BLOCK }
-    ensures answers { AnswersInMemory S.score_of (write kind bytes.now)
+    ensures answers { AnswersOfEmptyStore S.score_of (write kind bytes.now)
         (answered (λ (given : Score). r_write given.0) result) }
     ensures scored { IfOk result (λ given. given.0 ≡ S.score_of bytes.now) }
     ensures fails { IfErr result FailsInMemory }

@@ -2,9 +2,9 @@
 
 ghost use Rattle.std.specs.Prelude.{◌≡◌, IfErr, IfOk};
 ghost use Rattle.std.specs.Str.{bytes_eq};
-ghost use Rattle.run_base.specs.Places.{Names, in_memory};
+ghost use Rattle.run_base.specs.Places.{NamesPlace, in_memory};
 
-use crate::failure::Failure;
+use crate::error::CommandError;
 use std::alloc::{AllocError, Global};
 use vt_base::Text;
 use vt_conf::{Address, parse_address};
@@ -21,9 +21,9 @@ pub enum Place {
 }
 
 /// The place that a word names.
-pub fn place_of(alloc: Global, word: &Text) -> Result<Place, Failure>
-    ensures named { IfOk result (Names word.now) }
-    ensures memory { IfErr result (λ failure. failure ≡ Failure.NoMemory) }
+pub fn place_of(alloc: Global, word: &Text) -> Result<Place, CommandError>
+    ensures named { IfOk result (NamesPlace word.now) }
+    ensures memory { IfErr result (λ failure. failure ≡ CommandError.NoMemory) }
 {
     if is_in_memory(word) {
         return Ok(Place::Memory);
@@ -31,7 +31,7 @@ pub fn place_of(alloc: Global, word: &Text) -> Result<Place, Failure>
     match parse_address(alloc, word.as_slice()) {
         Ok(Some(address)) => Ok(Place::Server(address)),
         Ok(None) => Ok(Place::Conf),
-        Err(AllocError) => Err(Failure::NoMemory),
+        Err(AllocError) => Err(CommandError::NoMemory),
     }
 }
 

@@ -7,7 +7,7 @@ ghost use Rattle.vt_out.specs.Streams.{AppendsPrefix};
 ghost use Rattle.run_base.specs.Change.{sink_change};
 ghost use Rattle.run_base.specs.Formatting.{Prints};
 
-use crate::failure::Failure;
+use crate::error::CommandError;
 use vt_base::Failed;
 use vt_out::Sink;
 
@@ -26,12 +26,12 @@ pub fn put_pieces<K: Sink>(sink: &mut K, pieces: &[&[u8]]) -> Result<(), Failed>
 }
 
 /// Prints what a command found out, as its outcome.
-pub fn print<K: Sink>(sink: &mut K, pieces: &[&[u8]]) -> Result<(), Failure>
+pub fn print<K: Sink>(sink: &mut K, pieces: &[&[u8]]) -> Result<(), CommandError>
     ensures { Prints (concat (map (λ piece. piece.now) pieces.now)) result
         (sink_change K.Sink sink.old sink.new) }
 {
     match put_pieces(sink, pieces) {
         Ok(()) => Ok(()),
-        Err(Failed) => Err(Failure::WriteFault),
+        Err(Failed) => Err(CommandError::WriteFault),
     }
 }

@@ -3,13 +3,13 @@
 ghost use Rattle.std.specs.Prelude.{◌≡◌};
 ghost use Rattle.run_base.specs.Served.{failure_for, outcome_of, outcome_of_end};
 
-use crate::failure::Failure;
+use crate::error::CommandError;
 use vt_alone::StoreServed;
 use vt_base::Why;
 use vt_session::Ended;
 
 /// The first cause in time: a failure in a request, the session's end, the end of the store's use.
-pub fn outcome_of(served: StoreServed) -> Result<(), Failure>
+pub fn outcome_of(served: StoreServed) -> Result<(), CommandError>
     ensures { result ≡ outcome_of served }
 {
     if let Some(why) = served.failure {
@@ -23,22 +23,22 @@ pub fn outcome_of(served: StoreServed) -> Result<(), Failure>
 }
 
 /// The outcome of a session by its end alone, of an input of which so many bytes were taken.
-fn end_of(ended: Ended, taken: u64) -> Result<(), Failure>
+fn end_of(ended: Ended, taken: u64) -> Result<(), CommandError>
     ensures { result ≡ outcome_of_end ended taken }
 {
     match ended {
         Ended::Goodbye | Ended::Closed => Ok(()),
-        Ended::Cut => Err(Failure::Cut(taken)),
-        Ended::Malformed(place) => Err(Failure::Malformed(place)),
-        Ended::Spent => Err(Failure::Spent(taken)),
-        Ended::ReadFault => Err(Failure::ReadFault),
-        Ended::WriteFault => Err(Failure::WriteFault),
-        Ended::NoMemory => Err(Failure::NoMemory),
+        Ended::Cut => Err(CommandError::Cut(taken)),
+        Ended::Malformed(place) => Err(CommandError::Malformed(place)),
+        Ended::Spent => Err(CommandError::Spent(taken)),
+        Ended::ReadFault => Err(CommandError::ReadFault),
+        Ended::WriteFault => Err(CommandError::WriteFault),
+        Ended::NoMemory => Err(CommandError::NoMemory),
     }
 }
 
 /// What is told where the store failed.
-pub fn failure_for(why: Why) -> Failure
+pub fn failure_for(why: Why) -> CommandError
     ensures { result ≡ failure_for why }
 {
     match why {
@@ -46,8 +46,8 @@ pub fn failure_for(why: Why) -> Failure
             site: _,
             want,
             found,
-        } => Failure::Damaged { want, found },
-        Why::NoMemory => Failure::NoMemory,
-        _ => Failure::DiskFault,
+        } => CommandError::Damaged { want, found },
+        Why::NoMemory => CommandError::NoMemory,
+        _ => CommandError::DiskFault,
     }
 }

@@ -1,16 +1,16 @@
 //! What is told where a partition that a configuration names is refused, or its store isn't opened.
 
 ghost use Rattle.std.specs.Prelude.{◌≡◌, IfOk};
-ghost use Rattle.vt_format.specs.Index.{files_of};
+ghost use Rattle.vt_format.specs.Index.{files_in_order};
 ghost use Rattle.run_base.specs.Configurations.{IsRefusalAmong, name_at};
 ghost use Rattle.run_base.specs.Unopened.{IsOpenRefusal};
 
-use crate::failure::Failure;
+use crate::error::CommandError;
 use crate::shown::{Shown, Unit};
 use std::alloc::{AllocError, Global};
 use vt_base::{MountBad, Text};
 use vt_conf::Conf;
-use vt_open::OpenBad;
+use vt_open::OpenError;
 use vt_out::Sink;
 
 /// What is told where the store isn't opened. A file that can't be had is named on the terminal.
@@ -19,8 +19,8 @@ pub fn told<T: Sink + Drop>(
     terminal: Option<T>,
     file: &Text,
     conf: &Conf,
-    bad: OpenBad,
-) -> Failure
+    bad: OpenError,
+) -> CommandError
     ensures { IsOpenRefusal file.now conf.now bad result }
 {
     let mut shown = Shown::new(terminal, Unit::Buckets);
@@ -33,18 +33,18 @@ pub fn told_on<T: Sink>(
     shown: &mut Shown<T>,
     file: &Text,
     conf: &Conf,
-    bad: OpenBad,
-) -> Failure
+    bad: OpenError,
+) -> CommandError
     ensures { IsOpenRefusal file.now conf.now bad result }
 {
     match bad {
-        OpenBad::Missing { part } => {
+        OpenError::Missing { part } => {
             shown.name(name_at(file, conf, part).as_slice());
-            Failure::DiskFault
+            CommandError::DiskFault
         }
-        OpenBad::Refused(bad) => match refusal_among(alloc, file, conf, bad) {
+        OpenError::Refused(bad) => match refusal_among(alloc, file, conf, bad) {
             Ok(failure) => failure,
-            Err(AllocError) => Failure::NoMemory,
+            Err(AllocError) => CommandError::NoMemory,
         },
     }
 }
@@ -55,19 +55,19 @@ pub fn refusal_among(
     file: &Text,
     conf: &Conf,
     bad: MountBad,
-) -> Result<Failure, AllocError>
-    ensures { IfOk result (IsRefusalAmong file.now (files_of conf.now) bad) }
+) -> Result<CommandError, AllocError>
+    ensures { IfOk result (IsRefusalAmong file.now (files_in_order conf.now) bad) }
 {
     Ok(match bad {
-        MountBad::NotFormatted { part } => Failure::NotFormatted {
+        MountBad::NotFormatted { part } => CommandError::NotFormatted {
             file: name_of(alloc, file, conf, part)?,
         },
-        MountBad::TooSmall { part, len, need } => Failure::TooSmall {
+        MountBad::TooSmall { part, len, need } => CommandError::TooSmall {
             file: name_of(alloc, file, conf, part)?,
             len,
             need,
         },
-        MountBad::DuplicateName { first, second } => Failure::SameName {
+        MountBad::DuplicateName { first, second } => CommandError::SameName {
             file: name_of(alloc, file, conf, second)?,
             other: name_of(alloc, file, conf, first)?,
         },
@@ -76,7 +76,7 @@ pub fn refusal_among(
             field,
             found,
             want,
-        } => Failure::Disagree {
+        } => CommandError::Disagree {
             file: name_of(alloc, file, conf, part)?,
             field,
             found,
@@ -86,22 +86,22 @@ pub fn refusal_among(
             site: _,
             want,
             found,
-        } => Failure::Damaged { want, found },
-        MountBad::Fault => Failure::DiskFault,
-        MountBad::NoMemory => Failure::NoMemory,
+        } => CommandError::Damaged { want, found },
+        MountBad::Fault => CommandError::DiskFault,
+        MountBad::NoMemory => CommandError::NoMemory,
     })
 }
 
 /// The name of that file.
 fn name_of(alloc: Global, file: &Text, conf: &Conf, part: u32) -> Result<Text, AllocError>
-    ensures { IfOk result (λ name. name ≡ name_at file.now (files_of conf.now) part) }
+    ensures { IfOk result (λ name. name ≡ name_at file.now (files_in_order conf.now) part) }
 {
     Text::copy_of(alloc, name_at(file, conf, part).as_slice())
 }
 
 /// The file of the partition with this number, or the configuration's own where it names none.
 pub fn name_at<'a>(file: &'a Text, conf: &'a Conf, part: u32) -> &'a Text
-    ensures { result.now ≡ name_at file.now (files_of conf.now) part }
+    ensures { result.now ≡ name_at file.now (files_in_order conf.now) part }
 {
     let at = part as usize;
     if let Some(named) = conf.arenas.get(at) {

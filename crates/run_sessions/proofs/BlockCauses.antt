@@ -6,47 +6,47 @@ use Rattle.vt_base.specs.Faults.{HasRisen}
 use Rattle.vt_base.specs.declared.score.Score.{Score}
 use Rattle.vt_base.specs.declared.why.Why.{Why}
 use Rattle.vt_base.specs.declared.why.Why.TheVariants as whys
-use Rattle.vt_client.specs.declared.err.ClientErr.{ClientErr}
+use Rattle.vt_client.specs.declared.error.ClientErr.{ClientErr}
 use Rattle.vt_disk.specs.Members.{DiskOf}
-use Rattle.vt_answer.specs.Serving.{tells_failure}
+use Rattle.vt_handler.specs.Serving.{tells_failure}
 use Rattle.vt_core.specs.Core.{CoreState, stops_of}
 use Rattle.vt_alone.specs.Sessions.{FailsFor}
 use Rattle.vt_remote.specs.Refused.{HasCauseOver}
-use Rattle.vt_remote.specs.Remote.{AsksForBlock, MeetsInVain, PutsBlock, Talks}
+use Rattle.vt_remote.specs.Remote.{AsksForBlock, MeetsInVain, PutsAndSyncs, TalksToServer}
 use Rattle.vt_single.specs.Single.{ReadsBlock, WritesBlock}
-use Rattle.run_base.specs.declared.failure.Failure.{Failure}
-use Rattle.run_base.specs.declared.failure.Failure.TheVariants.{NoMemory, ReadFault, Refused as RefusedBy}
+use Rattle.run_base.specs.declared.error.CommandError.{CommandError}
+use Rattle.run_base.specs.declared.error.CommandError.TheVariants.{NoMemory, ReadFault, Refused as RefusedBy}
 use Rattle.run_base.specs.declared.place.Place.{Place}
 use Rattle.run_base.specs.declared.place.Place.TheVariants.{Memory, Server, Conf as InFile}
 use Rattle.run_base.specs.Blocks.{FailsInMemory, SaysNoType, TellsMade, refusal_for}
-use Rattle.run_base.specs.Change.{Change, DialerChange, FilesChange, PartsChange}
+use Rattle.run_base.specs.Change.{StreamChange, DialerChange, FilesChange, PartsChange}
 use Rattle.run_sessions.specs.Read.{DoesRead, PrintsBlock, SaysNoBlock}
 use Rattle.run_sessions.specs.Write.{DoesWrite, TakesNoBlock, TakesNone, WritesInput, score_line}
-use Rattle.run_base.specs.Failure.{Causes, HasCauseIn, Outcome, no_cause, with_dialer, with_files, with_parts, with_sink, with_source}
+use Rattle.run_base.specs.Errors.{Causes, HasCauseIn, CommandOutcome, no_cause, with_dialer, with_files, with_parts, with_sink, with_source}
 use Rattle.run_base.specs.Members.{LinkOf}
 use Rattle.run_base.proofs.Causes.{as_told, printed_has_cause}
 use Rattle.run_base.proofs.StoredCauses.{done_cause, asked_cause, no_conf_cause, place_cause, word_cause}
 
 -- ---- where a word is refused, or no block is taken
 
-type_cause : (causes : Causes) (word : List ℕ) (failure : Failure) → SaysNoType word failure
+type_cause : (causes : Causes) (word : List ℕ) (failure : CommandError) → SaysNoType word failure
     → HasCauseIn causes (Err failure)
 type_cause causes word failure why = ⊎_elim
     (λ number. as_told causes failure _ number.1 tt) (λ kind. as_told causes failure _ kind.3 tt) why
 
-block_cause : (causes : Causes) (score_word type_word : List ℕ) (failure : Failure)
+block_cause : (causes : Causes) (score_word type_word : List ℕ) (failure : CommandError)
     → SaysNoBlock score_word type_word failure → HasCauseIn causes (Err failure)
 block_cause causes score_word type_word failure why = ⊎_elim
     (λ score. as_told causes failure _ score.1 tt)
     (λ kind. type_cause causes type_word failure kind.1) why
 
-takes_cause : {R K : Type 0} (causes : Causes) (outcome : Outcome) (source : Change R)
-    (sink : Change K) → (HasRisen source.faults source.faults' → causes.source)
+takes_cause : {R K : Type 0} (causes : Causes) (outcome : CommandOutcome) (source : StreamChange R)
+    (sink : StreamChange K) → (HasRisen source.faults source.faults' → causes.source)
     → TakesNoBlock outcome source sink → HasCauseIn causes outcome
 takes_cause causes outcome source sink rises it =
     subst (HasCauseIn causes) (sym it.outcome_is) (of it.failure it.takes)
   where
-    of : (failure : Failure) → TakesNone failure source → HasCauseIn causes (Err failure)
+    of : (failure : CommandError) → TakesNone failure source → HasCauseIn causes (Err failure)
     of (RefusedBy why) takes = tt
     of ReadFault takes = rises takes.1
     of NoMemory takes = tt
@@ -55,7 +55,7 @@ takes_cause causes outcome source sink rises it =
 -- ---- in memory
 
 made_told_cause : {K T : Type 0} (causes : Causes) (text : T → List ℕ) (result : Result T Why)
-    (outcome : Outcome) (sink : Change K) → (HasRisen sink.faults sink.faults' → causes.sink)
+    (outcome : CommandOutcome) (sink : StreamChange K) → (HasRisen sink.faults sink.faults' → causes.sink)
     → TellsMade text result outcome sink → IfErr result FailsInMemory → HasCauseIn causes outcome
 made_told_cause causes text (Ok value) outcome sink rises told fails =
     printed_has_cause causes (text value) outcome sink rises told
@@ -78,10 +78,10 @@ module _ {D L : Type 0} (score : List ℕ → List ℕ) (disk : DiskOf D) (link 
       → All (λ stop. stop ≡ None) (stops_of old)
       → IfErr result (λ why. tells_failure why ≡ Bool.true → FailsFor disk why old new))
       (asks : (kind : ℕ) (s : List ℕ) (why : ClientErr) (back : L)
-      → Talks link score (AsksForBlock link score kind s (Err why)) back
+      → TalksToServer link score (AsksForBlock link score kind s (Err why)) back
       → HasCauseOver link why back) {I P N K : Type 0} (store score_word type_word : List ℕ)
-      (outcome : Outcome) (files : FilesChange I) (parts : PartsChange P D)
-      (dialer : DialerChange N L) (sink : Change K)
+      (outcome : CommandOutcome) (files : FilesChange I) (parts : PartsChange P D)
+      (dialer : DialerChange N L) (sink : StreamChange K)
       (reads : dialer.read_faults ≡ link.read_faults)
       (writes : dialer.write_faults ≡ link.write_faults) where
     abbrev read_causes : Causes
@@ -119,9 +119,9 @@ module _ {D L : Type 0} (score : List ℕ → List ℕ) (disk : DiskOf D) (link 
       → All (λ stop. stop ≡ None) (stops_of old)
       → IfErr result (λ why. tells_failure why ≡ Bool.true → FailsFor disk why old new))
       (asks : (kind : ℕ) (bytes : List ℕ) (why : ClientErr) (back : L)
-      → Talks link score (PutsBlock link score kind bytes (Err why)) back
+      → TalksToServer link score (PutsAndSyncs link score kind bytes (Err why)) back
       → HasCauseOver link why back) {R K I P N : Type 0} (store type_word : List ℕ)
-      (outcome : Outcome) (source : Change R) (sink : Change K) (files : FilesChange I)
+      (outcome : CommandOutcome) (source : StreamChange R) (sink : StreamChange K) (files : FilesChange I)
       (parts : PartsChange P D) (dialer : DialerChange N L)
       (reads : dialer.read_faults ≡ link.read_faults)
       (writes : dialer.write_faults ≡ link.write_faults) where
@@ -140,7 +140,7 @@ module _ {D L : Type 0} (score : List ℕ → List ℕ) (disk : DiskOf D) (link 
         (λ rose. rose) done.does.told done.does.fails) it.0
     written_cause kind (Server address) it = ⊎_elim (λ none. none_cause none.0)
         (λ done. asked_cause link score address dialer reads writes met
-        (PutsBlock link score kind done.bytes) (asks kind done.bytes) write_causes score_line
+        (PutsAndSyncs link score kind done.bytes) (asks kind done.bytes) write_causes score_line
         outcome sink (λ bad why. why) (λ rose. rose) done.does) it.0
     written_cause kind InFile it = ⊎_elim
         (no_conf_cause write_causes store outcome files (λ rose. rose))

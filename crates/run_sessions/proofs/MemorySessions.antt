@@ -5,18 +5,18 @@ use Rattle.vt_disk.specs.Members.{DiskOf}
 use Rattle.vt_model.specs.Places.{Setup}
 use Rattle.vt_session.specs.Turns.{causes_of}
 use Rattle.vt_session.specs.Answered.{AnsweredAlone}
-use Rattle.vt_answer.specs.Serving.{answered}
+use Rattle.vt_handler.specs.Serving.{answered}
 use Rattle.vt_core.specs.Core.{CoreState, setup_of}
 use Rattle.vt_alone.specs.declared.serving.StoreServed.{StoreServed}
 use Rattle.vt_alone.specs.Sessions.{AreUnsaid, IsSession as IsSessionOver, NoCallFails}
-use Rattle.run_base.specs.Change.{Change}
+use Rattle.run_base.specs.Change.{StreamChange}
 use Rattle.run_sessions.specs.Session.{IsSession, ServesMemory}
-use Rattle.run_base.specs.Memory.{memory}
+use Rattle.run_base.specs.Memory.{memory_setup}
 use Rattle.run_base.proofs.InMemory.{told_by_none, front_only, none}
 
 -- what came in and went out over the store, as a session in memory
 pub session_in : {D : Type 0} (score : List ℕ → List ℕ) (disk : DiskOf D) (end : StoreServed)
-    (now : ℕ) (old new : CoreState D) (input output : List ℕ) → setup_of old ≡ memory
+    (now : ℕ) (old new : CoreState D) (input output : List ℕ) → setup_of old ≡ memory_setup
     → NoCallFails disk old new → IsSessionOver score disk end now old new [] input output
     → IsSession score end input output
 session_in score disk end now old new input output setup quiet x =
@@ -39,7 +39,7 @@ session_in score disk end now old new input output setup quiet x =
       failure_is = x.failure_is;
     }
 
-pub serves_none : {R K : Type 0} (score : List ℕ → List ℕ) (source : Change R) (sink : Change K)
+pub serves_none : {R K : Type 0} (score : List ℕ → List ℕ) (source : StreamChange R) (sink : StreamChange K)
     → AreBytes source.old → source.new ≡ source.old → sink.new ≡ sink.old
     → source.faults' ≡ source.faults → sink.faults' ≡ sink.faults
     → ServesMemory score none source sink

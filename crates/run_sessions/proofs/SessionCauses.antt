@@ -9,26 +9,26 @@ use Rattle.vt_disk.specs.Members.{DiskOf}
 use Rattle.vt_model.specs.Causes.{OneRose}
 use Rattle.vt_session.specs.declared.Ended.{Ended}
 use Rattle.vt_session.specs.declared.Ended.TheVariants as ends
-use Rattle.vt_answer.specs.Links.{ReadCause}
-use Rattle.vt_answer.specs.Sessions.{SinkCause}
+use Rattle.vt_handler.specs.Links.{ReadCause}
+use Rattle.vt_handler.specs.Sessions.{SinkCause}
 use Rattle.vt_core.specs.Core.{CoreState, devices_of, each_of}
 use Rattle.vt_core.specs.Files.{all_of}
 use Rattle.vt_open.specs.Names.{files_of}
 use Rattle.vt_alone.specs.declared.serving.StoreServed.{StoreServed}
 use Rattle.vt_alone.specs.Sessions.{FailsFor}
 use Rattle.vt_alone.proofs.Leaves.{tells_causes}
-use Rattle.run_base.specs.Change.{Change, FilesChange, PartsChange}
+use Rattle.run_base.specs.Change.{StreamChange, FilesChange, PartsChange}
 use Rattle.run_sessions.specs.Session.{DoesSession}
 use Rattle.run_sessions.specs.SessionAt.{DoesSessionAt}
 use Rattle.run_sessions.specs.SessionConf.{DoesSessionConf, ServesConf}
-use Rattle.run_base.specs.Failure.{Causes, HasCauseIn, HasFailed, HaveFailed, Outcome, no_cause, with_files, with_parts, with_sink, with_source}
-use Rattle.run_base.specs.Served.{closed_with, failed_in, failure_for, first_of, outcome_of, outcome_of_end}
+use Rattle.run_base.specs.Errors.{Causes, HasCauseIn, PartHasFailed, HaveFailed, CommandOutcome, no_cause, with_files, with_parts, with_sink, with_source}
+use Rattle.run_base.specs.Served.{closed_with, failed_in, failure_for, first_outcome, outcome_of, outcome_of_end}
 use Rattle.run_base.proofs.OpenCauses.{has_failed, same_len, none_opened}
 use Rattle.run_base.proofs.StoredCauses.{no_conf_cause}
 
 -- ---- how a session ends
 
-module _ {R K : Type 0} (source : Change R) (sink : Change K) (causes : Causes)
+module _ {R K : Type 0} (source : StreamChange R) (sink : StreamChange K) (causes : Causes)
     (reads : HasRisen source.faults source.faults' → causes.source)
     (writes : HasRisen sink.faults sink.faults' → causes.sink) where
   ended_cause : (ended : Ended) (taken : ℕ) → ReadCause ended source.faults source.faults'
@@ -50,8 +50,8 @@ module _ {R K : Type 0} (source : Change R) (sink : Change K) (causes : Causes)
     closed_cause (Ok done) it = tt
     closed_cause (Err why) it = whys why it
 
-    first_cause : (first second : Outcome) → HasCauseIn causes first
-        → HasCauseIn causes second → HasCauseIn causes (first_of first second)
+    first_cause : (first second : CommandOutcome) → HasCauseIn causes first
+        → HasCauseIn causes second → HasCauseIn causes (first_outcome first second)
     first_cause (Ok done) second x y = y
     first_cause (Err failure) second x y = x
 
@@ -67,7 +67,7 @@ module _ {R K : Type 0} (source : Change R) (sink : Change K) (causes : Causes)
   memory_cause : (why : Why) → why ≡ whys.NoMemory → HasCauseIn causes (Err (failure_for why))
   memory_cause why is = subst (λ (w : Why). HasCauseIn causes (Err (failure_for w))) (sym is) tt
 
-  pub in_memory_cause : (score : List ℕ → List ℕ) (outcome : Outcome)
+  pub in_memory_cause : (score : List ℕ → List ℕ) (outcome : CommandOutcome)
       → DoesSession score outcome source sink → HasCauseIn causes outcome
   in_memory_cause score outcome it =
       let x = it.serves in
@@ -77,8 +77,8 @@ module _ {R K : Type 0} (source : Change R) (sink : Change K) (causes : Causes)
       (sym x.needs.closed) tt)
       x.read x.write)
 
-pub session_cause : {R K : Type 0} (score : List ℕ → List ℕ) (outcome : Outcome)
-    (source : Change R) (sink : Change K) → DoesSession score outcome source sink
+pub session_cause : {R K : Type 0} (score : List ℕ → List ℕ) (outcome : CommandOutcome)
+    (source : StreamChange R) (sink : StreamChange K) → DoesSession score outcome source sink
     → HasCauseIn (with_source source (with_sink sink no_cause)) outcome
 session_cause score outcome source sink = in_memory_cause source sink
     (with_source source (with_sink sink no_cause)) (λ rose. rose) (λ rose. rose) score outcome
@@ -86,10 +86,10 @@ session_cause score outcome source sink = in_memory_cause source sink
 -- ---- a session over the store of a configuration
 
 pub served_rises : {R K P D : Type 0} (score : List ℕ → List ℕ) (disk : DiskOf D) (conf : Conf)
-    (outcome : Outcome) (source : Change R) (sink : Change K) (parts : PartsChange P D)
+    (outcome : CommandOutcome) (source : StreamChange R) (sink : StreamChange K) (parts : PartsChange P D)
     (x : ServesConf score disk conf outcome source sink parts)
     → OneRose (each_of disk.faults x.opened) (each_of disk.faults x.serves.ended)
-    → HasFailed disk parts
+    → PartHasFailed disk parts
 served_rises score disk conf outcome source sink parts x rose =
     let s = x.serves in
     has_failed disk parts (all_of (files_of conf)) (all_of x.opens.handed)
@@ -100,13 +100,13 @@ served_rises score disk conf outcome source sink parts x rose =
     (slice_index (each_of disk.faults s.ended) rose.0)) x.opens.faults_are rose.1)
 
 module _ {R K I P D : Type 0} (score : List ℕ → List ℕ) (disk : DiskOf D)
-    (fits : (device : D) → disk.faults device < 2 ^ 64) (file : List ℕ) (outcome : Outcome)
-    (source : Change R) (sink : Change K) (files : FilesChange I) (parts : PartsChange P D) where
+    (fits : (device : D) → disk.faults device < 2 ^ 64) (file : List ℕ) (outcome : CommandOutcome)
+    (source : StreamChange R) (sink : StreamChange K) (files : FilesChange I) (parts : PartsChange P D) where
   abbrev causes : Causes
   causes = with_source source (with_sink sink (with_files files (with_parts disk parts no_cause)))
 
   why_cause : (opened ended : CoreState D)
-      → (OneRose (each_of disk.faults opened) (each_of disk.faults ended) → HasFailed disk parts)
+      → (OneRose (each_of disk.faults opened) (each_of disk.faults ended) → PartHasFailed disk parts)
       → (why : Why) → FailsFor disk why opened ended → HasCauseIn causes (Err (failure_for why))
   why_cause opened ended rises whys.DiskFault it = inr (rises it)
   why_cause opened ended rises (whys.Stopped call) it = inr (rises it)

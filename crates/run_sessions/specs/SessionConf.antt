@@ -6,8 +6,8 @@ use Rattle.vt_disk.specs.Members.{DiskOf}
 use Rattle.vt_model.specs.History.{History}
 use Rattle.vt_model.specs.Places.{Setup}
 use Rattle.vt_part.specs.Table.{Table}
-use Rattle.vt_answer.specs.Links.{ReadCause}
-use Rattle.vt_answer.specs.Sessions.{SinkCause}
+use Rattle.vt_handler.specs.Links.{ReadCause}
+use Rattle.vt_handler.specs.Sessions.{SinkCause}
 use Rattle.vt_model.specs.Causes.{OneRose, Cause}
 use Rattle.vt_session.specs.Answered.{Faults}
 use Rattle.vt_session.specs.Talk.{Alone}
@@ -17,14 +17,14 @@ use Rattle.vt_core.specs.Files.{PerDevice, all_of}
 use Rattle.vt_core.specs.Mounting.{AllStandFor, EachStands}
 use Rattle.vt_open.specs.Names.{AreUnder, files_of, HaveOneShape}
 use Rattle.vt_open.specs.Opening.{Opens}
-use Rattle.vt_open.specs.Taking.{AreGiven}
-use Rattle.vt_parts.specs.Parts.{Standing}
+use Rattle.vt_open.specs.Taking.{AreHandedBack}
+use Rattle.vt_partitions.specs.Parts.{Standing}
 use Rattle.vt_alone.specs.declared.serving.StoreServed.{StoreServed}
 use Rattle.vt_alone.specs.Sessions.{AreMarkedOn, AreUnsaid, OnlyMemory, ServesStore}
 use Rattle.run_base.specs.Blocks.{FindsNoConf}
-use Rattle.run_base.specs.Change.{Change, FilesChange, NoneHandedOut, PartsChange, PassesNothing}
+use Rattle.run_base.specs.Change.{StreamChange, FilesChange, NoneHandedOut, PartsChange, PassesNothing}
 use Rattle.run_base.specs.Configurations.{ReadsConf}
-use Rattle.run_base.specs.Failure.{Outcome}
+use Rattle.run_base.specs.Errors.{CommandOutcome}
 use Rattle.run_base.specs.Served.{PassesOver, outcome_of}
 use Rattle.run_base.specs.Unopened.{OpensNone}
 
@@ -32,7 +32,8 @@ use Rattle.run_base.specs.Unopened.{OpensNone}
 
 -- A store that was opened served a session, and was closed: its partitions are back.
 pub record ServesOpened {R K D : Type 0} (score : List ℕ → List ℕ) (disk : DiskOf D) (conf : Conf)
-    (opened : CoreState D) (outcome : Outcome) (source : Change R) (sink : Change K)
+    (opened : CoreState D) (outcome : CommandOutcome) (source : StreamChange R)
+    (sink : StreamChange K)
     (told : Type 0) (old new : List ℕ → Standing D) : Type 0 where
   -- the second at which the session began
   pub now : ℕ
@@ -45,12 +46,12 @@ pub record ServesOpened {R K D : Type 0} (score : List ℕ → List ℕ) (disk :
   pub read : ReadCause end.ended source.faults source.faults'
   pub write : SinkCause end.ended sink.faults sink.faults'
   pub shape : HaveOneShape (devices_of ended) (files_of conf)
-  pub given : AreGiven told (all_of (files_of conf)) old new (all_of (devices_of ended))
+  pub given : AreHandedBack told (all_of (files_of conf)) old new (all_of (devices_of ended))
   pub outcome_is : outcome ≡ outcome_of end
 
 -- The store of the configuration was opened, served a session, and was closed.
 pub record ServesConf {R K P D : Type 0} (score : List ℕ → List ℕ) (disk : DiskOf D)
-    (conf : Conf) (outcome : Outcome) (source : Change R) (sink : Change K)
+    (conf : Conf) (outcome : CommandOutcome) (source : StreamChange R) (sink : StreamChange K)
     (parts : PartsChange P D) : Type 0 where
   pub opened : CoreState D
   pub during : List ℕ → Standing D
@@ -62,7 +63,8 @@ pub record ServesConf {R K P D : Type 0} (score : List ℕ → List ℕ) (disk :
 -- The configuration was read, and a session was served over its store, or it is told why that isn't
 -- opened; or it is told why none was read, and nothing else is done.
 abbrev pub DoesSessionConf : {R K I P D : Type 0} → (List ℕ → List ℕ) → DiskOf D
-    → (file : List ℕ) → Outcome → Change R → Change K → FilesChange I → PartsChange P D → Type 0
+    → (file : List ℕ) → CommandOutcome → StreamChange R → StreamChange K → FilesChange I
+    → PartsChange P D → Type 0
 DoesSessionConf score disk file outcome source sink files parts =
     FindsNoConf file outcome files (PassesNothing source sink × NoneHandedOut parts)
     ⊎ ((conf : Conf) × ReadsConf file conf files

@@ -10,16 +10,16 @@ use Rattle.vt_base.specs.declared.why.Why.TheVariants.{TooBig}
 use Rattle.vt_conf.specs.declared.address.Address.{Address}
 use Rattle.vt_conf.specs.declared.conf.Conf.{Conf}
 use Rattle.vt_disk.specs.Members.{DiskOf}
-use Rattle.vt_remote.specs.Remote.{PutsBlock}
+use Rattle.vt_remote.specs.Remote.{PutsAndSyncs}
 use Rattle.vt_single.specs.Single.{WritesBlock}
-use Rattle.run_base.specs.declared.failure.Failure.{Failure}
-use Rattle.run_base.specs.declared.failure.Failure.TheVariants.{NoMemory, ReadFault, Refused}
+use Rattle.run_base.specs.declared.error.CommandError.{CommandError}
+use Rattle.run_base.specs.declared.error.CommandError.TheVariants.{NoMemory, ReadFault, Refused}
 use Rattle.run_base.specs.declared.place.Place.{Place}
 use Rattle.run_base.specs.declared.place.Place.TheVariants.{Memory, Server, Conf as InFile}
 use Rattle.run_base.specs.Blocks.{AsksMade, DoesStored, FindsNoConf, SaysNoType, SaysType}
-use Rattle.run_base.specs.Change.{Change, DialerChange, FilesChange, IsUntouched, NoneDialled, NoneHandedOut, NoneRead, PartsChange, PassesNothing, UsesNothing}
+use Rattle.run_base.specs.Change.{StreamChange, DialerChange, FilesChange, IsUntouched, NoneDialled, NoneHandedOut, NoneRead, PartsChange, PassesNothing, UsesNothing}
 use Rattle.run_base.specs.Configurations.{ReadsConf}
-use Rattle.run_base.specs.Failure.{Outcome}
+use Rattle.run_base.specs.Errors.{CommandOutcome}
 use Rattle.run_base.specs.Formatting.{RefusesWord}
 use Rattle.run_base.specs.Members.{LinkOf}
 use Rattle.run_base.specs.Places.{AtPlace}
@@ -28,19 +28,19 @@ use Rattle.run_base.specs.Servers.{AsksAt}
 -- ---- what comes in
 
 -- the source was read to its end, and that is one block
-pub record TakesBlock {R : Type 0} (bytes : List ℕ) (source : Change R) : Type 0 where
+pub record TakesBlock {R : Type 0} (bytes : List ℕ) (source : StreamChange R) : Type 0 where
   pub short : length bytes ≤ MAX_BLOCK
   pub all : IsTrue source.tells → (source.old ≡ bytes) × (source.new ≡ [])
   pub quiet : source.faults' ≡ source.faults
 
 -- as many bytes were read of the source
-abbrev pub TakesFront : {R : Type 0} → (IsMany : ℕ → Type 0) → Change R → Type 0
+abbrev pub TakesFront : {R : Type 0} → (IsMany : ℕ → Type 0) → StreamChange R → Type 0
 TakesFront IsMany source = IsTrue source.tells → (front : List ℕ) × IsMany (length front)
     × (source.old ≡ front ++ source.new)
 
 -- Why none was: one byte more came than a block may have, and behind that nothing was read; a read
 -- failed behind no more than a block; or memory ran out before anything was read.
-abbrev pub TakesNone : {R : Type 0} → Failure → Change R → Type 0
+abbrev pub TakesNone : {R : Type 0} → CommandError → StreamChange R → Type 0
 TakesNone (Refused why) source =
     (why ≡ TooBig) × TakesFront (λ n. n ≡ MAX_BLOCK + 1) source × (source.faults' ≡ source.faults)
 TakesNone ReadFault source =
@@ -55,9 +55,10 @@ abbrev pub score_line : Score → List ℕ
 score_line score = encode_lower score.0 ++ 10 ∷ []
 
 -- no block was taken, and nothing was written
-pub record TakesNoBlock {R K : Type 0} (outcome : Outcome) (source : Change R) (sink : Change K)
+pub record TakesNoBlock {R K : Type 0} (outcome : CommandOutcome) (source : StreamChange R)
+    (sink : StreamChange K)
     : Type 0 where
-  pub failure : Failure
+  pub failure : CommandError
   pub takes : TakesNone failure source
   pub outcome_is : outcome ≡ Err failure
   pub unwritten : IsUntouched sink
@@ -65,8 +66,8 @@ pub record TakesNoBlock {R K : Type 0} (outcome : Outcome) (source : Change R) (
 -- ---- in memory
 
 -- the store in memory was given the block that came in
-pub record WritesMade {R K : Type 0} (score : List ℕ → List ℕ) (kind : ℕ) (outcome : Outcome)
-    (source : Change R) (sink : Change K) : Type 0 where
+pub record WritesMade {R K : Type 0} (score : List ℕ → List ℕ) (kind : ℕ) (outcome : CommandOutcome)
+    (source : StreamChange R) (sink : StreamChange K) : Type 0 where
   pub bytes : List ℕ
   pub takes : TakesBlock bytes source
   pub does : AsksMade score (write kind bytes) (λ (given : Score). r_write given.0) score_line
@@ -74,8 +75,9 @@ pub record WritesMade {R K : Type 0} (score : List ℕ → List ℕ) (kind : ℕ
   pub scored : IfOk does.result (λ (given : Score). given.0 ≡ score bytes)
 
 -- no block was taken; or one was written
-abbrev pub MakesInput : {R K : Type 0} → (List ℕ → List ℕ) → (kind : ℕ) → Outcome → Change R
-    → Change K → Type 0
+abbrev pub MakesInput : {R K : Type 0} → (List ℕ → List ℕ) → (kind : ℕ) → CommandOutcome
+    → StreamChange R
+    → StreamChange K → Type 0
 MakesInput score kind outcome source sink =
     TakesNoBlock outcome source sink ⊎ WritesMade score kind outcome source sink
 
@@ -83,9 +85,9 @@ MakesInput score kind outcome source sink =
 
 -- the store that this configuration names was given the block that came in, committed it, and its
 -- score was printed, or it is told why not
-pub record WritesTo {R K P D : Type 0} (score : List ℕ → List ℕ) (disk : DiskOf D)
-    (file : List ℕ) (conf : Conf) (kind : ℕ) (outcome : Outcome) (source : Change R)
-    (sink : Change K) (parts : PartsChange P D) : Type 0 where
+pub record WritesToStore {R K P D : Type 0} (score : List ℕ → List ℕ) (disk : DiskOf D)
+    (file : List ℕ) (conf : Conf) (kind : ℕ) (outcome : CommandOutcome) (source : StreamChange R)
+    (sink : StreamChange K) (parts : PartsChange P D) : Type 0 where
   pub bytes : List ℕ
   pub takes : TakesBlock bytes source
   -- the time that a clump was stamped with, which no clause ties to a clock
@@ -96,29 +98,32 @@ pub record WritesTo {R K P D : Type 0} (score : List ℕ → List ℕ) (disk : D
 
 -- no configuration was read; or no block was taken, and no partition handed out; or one was written
 abbrev pub KeepsInput : {R K I P D : Type 0} → (List ℕ → List ℕ) → DiskOf D → (file : List ℕ)
-    → (kind : ℕ) → Outcome → Change R → Change K → FilesChange I → PartsChange P D → Type 0
+    → (kind : ℕ) → CommandOutcome → StreamChange R → StreamChange K → FilesChange I
+    → PartsChange P D → Type 0
 KeepsInput score disk file kind outcome source sink files parts =
     FindsNoConf file outcome files (PassesNothing source sink × NoneHandedOut parts)
     ⊎ ((conf : Conf) × ReadsConf file conf files
     × ((TakesNoBlock outcome source sink × NoneHandedOut parts)
-    ⊎ WritesTo score disk file conf kind outcome source sink parts))
+    ⊎ WritesToStore score disk file conf kind outcome source sink parts))
 
 -- ---- over an address
 
 -- The server at this address was given the block that came in, and committed it, and its score was
 -- printed, or it is told why not. Whatever the server sent, that is the block's score.
 pub record PutsTo {R K N L : Type 0} (link : LinkOf L) (score : List ℕ → List ℕ)
-    (address : Address) (kind : ℕ) (outcome : Outcome) (source : Change R) (sink : Change K)
+    (address : Address) (kind : ℕ) (outcome : CommandOutcome) (source : StreamChange R)
+    (sink : StreamChange K)
     (dialer : DialerChange N L) : Type 0 where
   pub bytes : List ℕ
   pub takes : TakesBlock bytes source
-  pub does : AsksAt link score address (PutsBlock link score kind bytes) score_line outcome dialer
+  pub does : AsksAt link score address (PutsAndSyncs link score kind bytes) score_line outcome
+      dialer
       sink
   pub scored : IfOk does.result (λ (given : Score). given.0 ≡ score bytes)
 
 -- no block was taken, and no link made; or one was written
 abbrev pub PutsInput : {R K N L : Type 0} → LinkOf L → (List ℕ → List ℕ) → Address → (kind : ℕ)
-    → Outcome → Change R → Change K → DialerChange N L → Type 0
+    → CommandOutcome → StreamChange R → StreamChange K → DialerChange N L → Type 0
 PutsInput link score address kind outcome source sink dialer =
     (TakesNoBlock outcome source sink × NoneDialled dialer)
     ⊎ PutsTo link score address kind outcome source sink dialer
@@ -127,7 +132,8 @@ PutsInput link score address kind outcome source sink dialer =
 
 -- what came in was written to the store at this place, or it is told why not
 abbrev pub WritesInput : {R K I P D N L : Type 0} → (List ℕ → List ℕ) → DiskOf D → LinkOf L
-    → (store : List ℕ) → (kind : ℕ) → Outcome → Change R → Change K → FilesChange I
+    → (store : List ℕ) → (kind : ℕ) → CommandOutcome → StreamChange R → StreamChange K
+    → FilesChange I
     → PartsChange P D → DialerChange N L → Place → Type 0
 WritesInput score disk link store kind outcome source sink files parts dialer Memory =
     MakesInput score kind outcome source sink
@@ -140,7 +146,7 @@ WritesInput score disk link store kind outcome source sink files parts dialer In
 
 -- its word was refused, or what came in was written as a block of its type
 abbrev pub DoesWrite : {R K I P D N L : Type 0} → (List ℕ → List ℕ) → DiskOf D → LinkOf L
-    → (store type_word : List ℕ) → Outcome → Change R → Change K → FilesChange I
+    → (store type_word : List ℕ) → CommandOutcome → StreamChange R → StreamChange K → FilesChange I
     → PartsChange P D → DialerChange N L → Type 0
 DoesWrite score disk link store type_word outcome source sink files parts dialer =
     RefusesWord (SaysNoType type_word) outcome

@@ -5,12 +5,12 @@ use Rattle.vt_base.specs.Faults.{HasRisen}
 use Rattle.vt_base.specs.declared.mount.MountBad.{MountBad}
 use Rattle.vt_base.specs.declared.mount.MountBad.TheVariants as mount_bad
 use Rattle.vt_disk.specs.Members.{DiskOf}
-use Rattle.vt_format.specs.Arenas.{FormatsArenas, RefusesArenas, RefusesTable}
+use Rattle.vt_format.specs.Arenas.{FormatsArenas, RefusesArenaFormat, RefusesTable}
 use Rattle.vt_format.specs.Worked.{WorksOn}
-use Rattle.vt_parts.specs.Parts.{Standing}
-use Rattle.run_base.specs.declared.failure.Failure.{Failure}
-use Rattle.run_base.specs.Change.{Change, PartsChange}
-use Rattle.run_base.specs.Failure.{Causes, HasCauseIn, HasDiskCause, no_cause, with_parts, with_sink}
+use Rattle.vt_partitions.specs.Parts.{Standing}
+use Rattle.run_base.specs.declared.error.CommandError.{CommandError}
+use Rattle.run_base.specs.Change.{StreamChange, PartsChange}
+use Rattle.run_base.specs.Errors.{Causes, HasCauseIn, HasDiskCause, no_cause, with_parts, with_sink}
 use Rattle.run_base.specs.Formatting.{IsOfOneFile, IsRefusalOf}
 use Rattle.run_base.proofs.Causes.{as_told, have_failed}
 
@@ -29,7 +29,7 @@ table_shows disk (mount_bad.TooSmall part len need) old new refused = refused.1
 table_shows disk (mount_bad.Disagree part field found want) old new refused = refused.1
 table_shows disk bad old new refused = absurd refused
 
-arenas_show : {D : Type 0} (disk : DiskOf D) (size : ℕ) (bad : MountBad) (old new : D) → RefusesArenas disk size bad old new → Shows disk bad old new
+arenas_show : {D : Type 0} (disk : DiskOf D) (size : ℕ) (bad : MountBad) (old new : D) → RefusesArenaFormat disk size bad old new → Shows disk bad old new
 arenas_show disk size bad old new refused = ⊎_elim
     (λ small. subst (λ (b : MountBad). Shows disk b old new) (sym small.1) small.0)
     (λ rest. ⊎_elim
@@ -73,7 +73,7 @@ of_one_file disk tells len Formats faults faults' old new bad shows worked = ⊎
 module _ {P D K T : Type 0} (disk : DiskOf D) (file : List ℕ) (len : ℕ)
     (Formats : Result T MountBad → D → D → Type 0)
     (shows : (bad : MountBad) (before after : D) → Formats (Err bad) before after
-    → Shows disk bad before after) (parts : PartsChange P D) (sink : Change K) where
+    → Shows disk bad before after) (parts : PartsChange P D) (sink : StreamChange K) where
   abbrev causes : Causes
   causes = with_parts disk parts (with_sink sink no_cause)
 
@@ -95,7 +95,7 @@ module _ {P D K T : Type 0} (disk : DiskOf D) (file : List ℕ) (len : ℕ)
       (λ not_had. inl not_had.1)
       worked
 
-  pub refused : (bad : MountBad) (failure : Failure) → IsRefusalOf file bad failure
+  pub refused : (bad : MountBad) (failure : CommandError) → IsRefusalOf file bad failure
       → Worked (Err bad) → HasCauseIn causes (Err failure)
   refused mount_bad.Fault failure is worked = as_told causes failure _ is (of_fault worked)
   refused (mount_bad.NotFormatted part) failure is worked = as_told causes failure _ is tt

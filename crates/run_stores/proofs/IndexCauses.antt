@@ -7,33 +7,33 @@ use Rattle.vt_conf.specs.declared.conf.Conf.{Conf}
 use Rattle.vt_conf.specs.declared.conf.PartFile.{PartFile}
 use Rattle.vt_disk.specs.Members.{DiskOf}
 use Rattle.vt_format.specs.declared.index.Index.{Index}
-use Rattle.vt_format.specs.declared.index.IndexBad.{IndexBad}
-use Rattle.vt_format.specs.declared.index.IndexBad.TheVariants as index_bad
-use Rattle.vt_format.specs.Index.{Fails, FailsAt, files_of}
+use Rattle.vt_format.specs.declared.index.IndexError.{IndexError}
+use Rattle.vt_format.specs.declared.index.IndexError.TheVariants as index_error
+use Rattle.vt_format.specs.Index.{IndexFails, FailsAt, files_in_order}
 use Rattle.vt_format.specs.Opening.{NamesCause}
-use Rattle.vt_parts.specs.Parts.{HandsOut, Standing}
-use Rattle.run_base.specs.declared.failure.Failure.{Failure}
-use Rattle.run_base.specs.declared.failure.Failure.TheVariants.{DiskFault, NoMemory}
-use Rattle.run_base.specs.Change.{Change, FilesChange, PartsChange}
+use Rattle.vt_partitions.specs.Parts.{HandsOut, Standing}
+use Rattle.run_base.specs.declared.error.CommandError.{CommandError}
+use Rattle.run_base.specs.declared.error.CommandError.TheVariants.{DiskFault, NoMemory}
+use Rattle.run_base.specs.Change.{StreamChange, FilesChange, PartsChange}
 use Rattle.run_stores.specs.Fmtindex.{DoesFmtindex, FormatsIndex, IndexesConf, IsIndexRefusal, TellsIndex, index_line}
 use Rattle.run_base.specs.Configurations.{IsRefusalAmong}
-use Rattle.run_base.specs.Failure.{Causes, Outcome, HasCauseIn, HasDiskCause, no_cause, with_files, with_parts, with_sink}
+use Rattle.run_base.specs.Errors.{Causes, CommandOutcome, HasCauseIn, HasDiskCause, no_cause, with_files, with_parts, with_sink}
 use Rattle.run_base.proofs.Causes.{as_told, have_failed, printed_has_cause}
 use Rattle.run_base.proofs.StoredCauses.{no_conf_cause}
 
 -- ---- what a fault comes of
 
 -- what it is lent
-abbrev causes_in : {I P D K : Type 0} → DiskOf D → FilesChange I → PartsChange P D → Change K → Causes
+abbrev causes_in : {I P D K : Type 0} → DiskOf D → FilesChange I → PartsChange P D → StreamChange K → Causes
 causes_in disk files parts sink = with_files files (with_parts disk parts (with_sink sink no_cause))
 
 module _ {I P D K : Type 0} (disk : DiskOf D) (file : List ℕ) (conf : Conf)
-    (files : FilesChange I) (parts : PartsChange P D) (sink : Change K) where
+    (files : FilesChange I) (parts : PartsChange P D) (sink : StreamChange K) where
   abbrev causes : Causes
   causes = causes_in disk files parts sink
 
   abbrev named : List PartFile
-  named = files_of conf
+  named = files_in_order conf
 
   failed : (part : ℕ) → FailsAt disk (IsTrue parts.tells) 0 named parts.old parts.new part
       → HasDiskCause disk parts
@@ -48,7 +48,7 @@ module _ {I P D K : Type 0} (disk : DiskOf D) (file : List ℕ) (conf : Conf)
     rose = have_failed _ _ it.rose;
   })
 
-  among : (bad : MountBad) (failure : Failure) → NamesCause (index_bad.Refused bad)
+  among : (bad : MountBad) (failure : CommandError) → NamesCause (index_error.Refused bad)
       → IsRefusalAmong file named bad failure → HasCauseIn causes (Err failure)
   among mount_bad.Fault failure names is = absurd names
   among (mount_bad.NotFormatted part) failure names is = as_told causes failure _ is tt
@@ -60,34 +60,34 @@ module _ {I P D K : Type 0} (disk : DiskOf D) (file : List ℕ) (conf : Conf)
   among mount_bad.NoMemory failure names is = as_told causes failure _ is tt
 
   -- what is told of an index that isn't formatted has its cause
-  index_has_cause : (bad : IndexBad) (failure : Failure)
-      → Fails disk (IsTrue parts.tells) 0 named parts.old parts.new parts.faults parts.faults' bad
+  index_has_cause : (bad : IndexError) (failure : CommandError)
+      → IndexFails disk (IsTrue parts.tells) 0 named parts.old parts.new parts.faults parts.faults' bad
       → NamesCause bad → IsIndexRefusal file conf bad failure → HasCauseIn causes (Err failure)
-  index_has_cause (index_bad.Fault None) failure fails names is =
+  index_has_cause (index_error.Fault None) failure fails names is =
       as_told causes failure DiskFault is (failed fails.1 fails.2)
-  index_has_cause (index_bad.Fault (Some part)) failure fails names is =
+  index_has_cause (index_error.Fault (Some part)) failure fails names is =
       as_told causes failure DiskFault is
       (⊎_elim (λ outside. inl outside.0) (λ inside. failed part inside.1) fails)
-  index_has_cause (index_bad.Refused bad) failure fails names is = ⊎_elim
+  index_has_cause (index_error.Refused bad) failure fails names is = ⊎_elim
       (λ refusal. among bad failure names refusal)
       (λ memory. as_told causes failure NoMemory memory tt)
       is
-  index_has_cause (index_bad.Stopped part) failure fails names is =
+  index_has_cause (index_error.Stopped part) failure fails names is =
       as_told causes failure DiskFault is (failed part fails.1)
 
-  indexed_has_cause : (outcome : Outcome) → IndexesConf disk file conf outcome parts sink
+  indexed_has_cause : (outcome : CommandOutcome) → IndexesConf disk file conf outcome parts sink
       → HasCauseIn causes outcome
   indexed_has_cause outcome it = by it.result it.formats it.told
     where
-      by : (result : Result Index IndexBad) → FormatsIndex disk conf parts result
+      by : (result : Result Index IndexError) → FormatsIndex disk conf parts result
           → TellsIndex file conf result outcome sink → HasCauseIn causes outcome
       by (Ok index) formats told =
           printed_has_cause causes (index_line conf.index index) outcome sink (λ rose. rose) told
       by (Err bad) formats told = subst (HasCauseIn causes) (sym told.0.1)
           (index_has_cause bad told.0.0 formats.cause formats.differs told.0.2)
 
-pub index_cause : {I P D K : Type 0} (disk : DiskOf D) (file : List ℕ) (outcome : Outcome)
-    (files : FilesChange I) (parts : PartsChange P D) (sink : Change K)
+pub index_cause : {I P D K : Type 0} (disk : DiskOf D) (file : List ℕ) (outcome : CommandOutcome)
+    (files : FilesChange I) (parts : PartsChange P D) (sink : StreamChange K)
     → DoesFmtindex disk file outcome files parts sink
     → HasCauseIn (causes_in disk files parts sink) outcome
 index_cause disk file outcome files parts sink does = ⊎_elim

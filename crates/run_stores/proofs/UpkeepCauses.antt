@@ -15,32 +15,32 @@ use Rattle.vt_recover.specs.declared.devices.Devices.{Devices}
 use Rattle.vt_core.specs.Files.{all_of}
 use Rattle.vt_core.specs.Mounting.{devices_in}
 use Rattle.vt_disk.specs.Members.{DiskOf}
-use Rattle.vt_format.specs.Index.{files_of as files_in}
+use Rattle.vt_format.specs.Index.{files_in_order}
 use Rattle.vt_log.specs.Faults.{OneHasRisen}
 use Rattle.vt_log.proofs.Lists.{slice_get_other}
-use Rattle.vt_open.specs.declared.bad.OpenBad.{OpenBad}
-use Rattle.vt_open.specs.declared.bad.OpenBad.TheVariants.{Refused}
+use Rattle.vt_open.specs.declared.error.OpenError.{OpenError}
+use Rattle.vt_open.specs.declared.error.OpenError.TheVariants.{Refused}
 use Rattle.vt_open.specs.Names.{files_of}
 use Rattle.vt_open.specs.Opening.{NamesCause}
 use Rattle.vt_open.proofs.Opened.{same_faults}
-use Rattle.vt_rebuild.specs.declared.bad.RebuildBad.{RebuildBad}
-use Rattle.vt_rebuild.specs.declared.bad.RebuildBad.TheVariants as rebuild_bad
-use Rattle.vt_upkeep.specs.declared.bad.UpkeepBad.{UpkeepBad}
-use Rattle.vt_upkeep.specs.declared.bad.UpkeepBad.TheVariants.{Unopened, Ended}
-use Rattle.vt_upkeep.specs.Checking.{ChecksOn}
-use Rattle.vt_upkeep.specs.Devices.{Refuses, faults_of}
-use Rattle.vt_upkeep.specs.Opened.{RefusesOpening, RefusesUse}
-use Rattle.vt_upkeep.specs.Rebuilding.{Rebuilds, StopsOn}
-use Rattle.vt_upkeep.specs.Stores.{NamesUnopened, OnStore, UsesStore}
-use Rattle.run_base.specs.declared.failure.Failure.{Failure}
-use Rattle.run_base.specs.declared.failure.Failure.TheVariants.{DiskFault, NoMemory, WriteFault}
+use Rattle.vt_rebuild.specs.declared.error.RebuildBad.{RebuildBad}
+use Rattle.vt_rebuild.specs.declared.error.RebuildBad.TheVariants as rebuild_bad
+use Rattle.vt_maintain.specs.declared.error.MaintainError.{MaintainError}
+use Rattle.vt_maintain.specs.declared.error.MaintainError.TheVariants.{Unopened, Ended}
+use Rattle.vt_maintain.specs.Checking.{ChecksOn}
+use Rattle.vt_maintain.specs.Devices.{RefusesDevices, device_faults}
+use Rattle.vt_maintain.specs.Opened.{RefusesOpening, RefusesUse}
+use Rattle.vt_maintain.specs.Rebuilding.{Rebuilds, StopsOn}
+use Rattle.vt_maintain.specs.Stores.{NamesUnopened, OnStore, WorksOnStore}
+use Rattle.run_base.specs.declared.error.CommandError.{CommandError}
+use Rattle.run_base.specs.declared.error.CommandError.TheVariants.{DiskFault, NoMemory, WriteFault}
 use Rattle.run_base.specs.Blocks.{FindsNoConf}
-use Rattle.run_base.specs.Change.{Change, FilesChange, MakesNothing, PartsChange}
-use Rattle.run_stores.specs.Buildindex.{DoesBuildindex, IsRebuildRefusal, RebuildsConf, blocks_line, failure_of as rebuild_failure}
-use Rattle.run_stores.specs.Checkarenas.{ChecksConf, DoesCheckarenas, IsCheckRefusal, TellsReports, arena_lines, failure_of as check_failure, first_of, outcome_of}
+use Rattle.run_base.specs.Change.{StreamChange, FilesChange, MakesNothing, PartsChange}
+use Rattle.run_stores.specs.Buildindex.{DoesBuildindex, IsRebuildRefusal, RebuildsConf, blocks_line, rebuild_failure}
+use Rattle.run_stores.specs.Checkarenas.{ChecksConf, DoesCheckarenas, IsCheckRefusal, TellsReports, arena_lines, check_failure, first_reported_damage, damage_outcome}
 use Rattle.run_base.specs.Unopened.{IsOpenRefusal}
 use Rattle.run_base.specs.Configurations.{IsRefusalAmong}
-use Rattle.run_base.specs.Failure.{Causes, HasCauseIn, HaveFailed, Outcome, no_cause, with_files, with_parts, with_sink}
+use Rattle.run_base.specs.Errors.{Causes, HasCauseIn, HaveFailed, CommandOutcome, no_cause, with_files, with_parts, with_sink}
 use Rattle.run_base.specs.Formatting.{Prints}
 use Rattle.run_base.proofs.Causes.{as_told, have_failed, printed_has_cause}
 use Rattle.run_base.proofs.OpenCauses.{has_failed, open_told, same_len}
@@ -49,11 +49,11 @@ use Rattle.run_base.proofs.StoredCauses.{no_conf_cause}
 -- ---- a store that isn't found, or on which a call failed
 
 -- what they are lent
-abbrev causes_in : {I P D K : Type 0} → DiskOf D → FilesChange I → PartsChange P D → Change K → Causes
+abbrev causes_in : {I P D K : Type 0} → DiskOf D → FilesChange I → PartsChange P D → StreamChange K → Causes
 causes_in disk files parts sink = with_files files (with_parts disk parts (with_sink sink no_cause))
 
 module _ {I P D K : Type 0} (score : List ℕ → List ℕ) (disk : DiskOf D) (file : List ℕ)
-    (conf : Conf) (files : FilesChange I) (parts : PartsChange P D) (sink : Change K) where
+    (conf : Conf) (files : FilesChange I) (parts : PartsChange P D) (sink : StreamChange K) where
   abbrev causes : Causes
   causes = causes_in disk files parts sink
 
@@ -61,12 +61,12 @@ module _ {I P D K : Type 0} (score : List ℕ → List ℕ) (disk : DiskOf D) (f
   IsOn Does = OnStore disk (IsTrue parts.tells) conf Does parts.old parts.new
 
   abbrev Uses : {T E : Type 0} → (Devices D → MountBad → Type 0)
-      → (Result T E → (devices back : Devices D) → Type 0) → Result T (UpkeepBad E) → Type 0
-  Uses Cause Does = UsesStore disk (IsTrue parts.tells) conf Cause Does parts.old parts.new
+      → (Result T E → (devices back : Devices D) → Type 0) → Result T (MaintainError E) → Type 0
+  Uses Cause Does = WorksOnStore disk (IsTrue parts.tells) conf Cause Does parts.old parts.new
       parts.faults parts.faults'
 
   store_fault : (Does : (devices back : Devices D) → Type 0) (on : IsOn Does)
-      → OneHasRisen (faults_of disk on.devices) (faults_of disk on.back)
+      → OneHasRisen (device_faults disk on.devices) (device_faults disk on.back)
       → HasCauseIn causes (Err DiskFault)
   store_fault Does on rose =
       let all = on.taken in
@@ -78,11 +78,11 @@ module _ {I P D K : Type 0} (score : List ℕ → List ℕ) (disk : DiskOf D) (f
       (same_len (devices_in on.back) (files_of conf) on.shape) all.taken.stood
       (λ t. on.given.stand t (all.taken.out t) (all.taken.apart t))
       (subst (λ (counts : List ℕ). HaveFailed (slice_index counts rose.which)
-      (slice_index (faults_of disk on.back) rose.which)) same risen))
+      (slice_index (device_faults disk on.back) rose.which)) same risen))
 
-  refused_told : (Cause : Devices D → MountBad → Type 0) (why : MountBad) (failure : Failure)
-      → IsOn (λ devices. Refuses (Cause devices) disk devices why) → NamesCause (Refused why)
-      → IsRefusalAmong file (files_in conf) why failure → HasCauseIn causes (Err failure)
+  refused_told : (Cause : Devices D → MountBad → Type 0) (why : MountBad) (failure : CommandError)
+      → IsOn (λ devices. RefusesDevices (Cause devices) disk devices why) → NamesCause (Refused why)
+      → IsRefusalAmong file (files_in_order conf) why failure → HasCauseIn causes (Err failure)
   refused_told Cause mount_bad.Fault failure on names is =
       as_told causes failure DiskFault is (store_fault _ on on.does.counts)
   refused_told Cause (mount_bad.NotFormatted part) failure on names is =
@@ -97,19 +97,19 @@ module _ {I P D K : Type 0} (score : List ℕ → List ℕ) (disk : DiskOf D) (f
       as_told causes failure _ is names
   refused_told Cause mount_bad.NoMemory failure on names is = as_told causes failure _ is tt
 
-  found_told : (Cause : Devices D → MountBad → Type 0) (why : MountBad) (bad : OpenBad)
-      (failure : Failure) → bad ≡ Refused why
-      → IsOn (λ devices. Refuses (Cause devices) disk devices why) → NamesCause bad
+  found_told : (Cause : Devices D → MountBad → Type 0) (why : MountBad) (bad : OpenError)
+      (failure : CommandError) → bad ≡ Refused why
+      → IsOn (λ devices. RefusesDevices (Cause devices) disk devices why) → NamesCause bad
       → IsOpenRefusal file conf bad failure → HasCauseIn causes (Err failure)
   found_told Cause why bad failure is on names told =
       let two : NamesCause (Refused why) = subst NamesCause is names in
       ⊎_elim
       (λ among. refused_told Cause why failure on two among)
       (λ memory. as_told causes failure NoMemory memory tt)
-      (subst (λ (b : OpenBad). IsOpenRefusal file conf b failure) is told)
+      (subst (λ (b : OpenError). IsOpenRefusal file conf b failure) is told)
 
   unopened_told : {T E : Type 0} (Cause : Devices D → MountBad → Type 0)
-      (Does : Result T E → (devices back : Devices D) → Type 0) (bad : OpenBad) (failure : Failure)
+      (Does : Result T E → (devices back : Devices D) → Type 0) (bad : OpenError) (failure : CommandError)
       → Uses Cause Does (Err (Unopened bad)) → NamesCause bad
       → IsOpenRefusal file conf bad failure → HasCauseIn causes (Err failure)
   unopened_told Cause Does bad failure uses names told = ⊎_elim
@@ -127,7 +127,7 @@ module _ {I P D K : Type 0} (score : List ℕ → List ℕ) (disk : DiskOf D) (f
   rebuild_ended (rebuild_bad.Damaged place want found) on = on.does.damage
   rebuild_ended rebuild_bad.NoMemory on = tt
 
-  rebuild_told : (bad : UpkeepBad RebuildBad) (failure : Failure)
+  rebuild_told : (bad : MaintainError RebuildBad) (failure : CommandError)
       → Uses (RefusesOpening disk) (Rebuilds score disk) (Err bad) → NamesUnopened bad
       → IsRebuildRefusal file conf bad failure → HasCauseIn causes (Err failure)
   rebuild_told (Unopened bad) failure uses names told =
@@ -135,15 +135,15 @@ module _ {I P D K : Type 0} (score : List ℕ → List ℕ) (disk : DiskOf D) (f
   rebuild_told (Ended bad) failure uses names told =
       as_told causes failure (rebuild_failure bad) told (rebuild_ended bad uses.0)
 
-  rebuilt_has_cause : (outcome : Outcome)
+  rebuilt_has_cause : (outcome : CommandOutcome)
       → RebuildsConf score disk file conf outcome parts sink → HasCauseIn causes outcome
   rebuilt_has_cause outcome it = by it.result it.uses it.differs it.told
     where
-      by : (result : Result ℕ (UpkeepBad RebuildBad))
+      by : (result : Result ℕ (MaintainError RebuildBad))
           → Uses (RefusesOpening disk) (Rebuilds score disk) result
           → MatchResult result (λ _. Unit {0}) NamesUnopened
           → MatchResult result (λ blocks. Prints (blocks_line blocks) outcome sink)
-          (λ bad. ((failure : Failure) × (outcome ≡ Err failure)
+          (λ bad. ((failure : CommandError) × (outcome ≡ Err failure)
           × IsRebuildRefusal file conf bad failure) × (sink.after ≡ sink.before))
           → HasCauseIn causes outcome
       by (Ok blocks) uses names told =
@@ -158,7 +158,7 @@ module _ {I P D K : Type 0} (score : List ℕ → List ℕ) (disk : DiskOf D) (f
   check_ended check_err.Fault on = store_fault _ on on.does.counts
   check_ended check_err.NoMemory on = tt
 
-  check_told : (bad : UpkeepBad CheckErr) (failure : Failure)
+  check_told : (bad : MaintainError CheckErr) (failure : CommandError)
       → Uses (RefusesUse score disk) (ChecksOn score disk) (Err bad) → NamesUnopened bad
       → IsCheckRefusal file conf bad failure → HasCauseIn causes (Err failure)
   check_told (Unopened bad) failure uses names told =
@@ -177,10 +177,10 @@ module _ {I P D K : Type 0} (score : List ℕ → List ℕ) (disk : DiskOf D) (f
   first_differs : (reports : List ArenaReport)
       → ((i : ℕ) (report : ArenaReport) → slice_get reports i ≡ Some report
       → IfSome report.damage DamageDiffers)
-      → (damage : Damage) → first_of reports ≡ Some damage → DamageDiffers damage
+      → (damage : Damage) → first_reported_damage reports ≡ Some damage → DamageDiffers damage
   first_differs [] each damage is = absurd (cc)
   first_differs (report ∷ reports) each damage is =
-      either_differs report.damage (first_of reports) damage (each 0 report refl)
+      either_differs report.damage (first_reported_damage reports) damage (each 0 report refl)
       (first_differs reports (λ i. each (suc i))) is
 
   each_differs : (report : Report) → IsOn (ChecksOn score disk (Ok report)) → (i : ℕ)
@@ -194,32 +194,32 @@ module _ {I P D K : Type 0} (score : List ℕ → List ℕ) (disk : DiskOf D) (f
 
   outcome_told : (first : Option Damage)
       → ((damage : Damage) → first ≡ Some damage → DamageDiffers damage)
-      → HasCauseIn causes (outcome_of first)
+      → HasCauseIn causes (damage_outcome first)
   outcome_told None differs = tt
   outcome_told (Some damage) differs = differs damage refl
 
-  reports_told : (reports : List ArenaReport) (outcome : Outcome)
-      → ((damage : Damage) → first_of reports ≡ Some damage → DamageDiffers damage)
+  reports_told : (reports : List ArenaReport) (outcome : CommandOutcome)
+      → ((damage : Damage) → first_reported_damage reports ≡ Some damage → DamageDiffers damage)
       → TellsReports reports outcome sink → HasCauseIn causes outcome
   reports_told reports outcome differs told = by told.0 told.1 told.2
     where
-      by : (printed : Outcome) → Prints (arena_lines reports) printed sink
-          → MatchResult printed (λ _. outcome ≡ outcome_of (first_of reports))
+      by : (printed : CommandOutcome) → Prints (arena_lines reports) printed sink
+          → MatchResult printed (λ _. outcome ≡ damage_outcome (first_reported_damage reports))
           (λ failure. outcome ≡ Err failure) → HasCauseIn causes outcome
       by (Ok done) prints is = subst (HasCauseIn causes) (sym is)
-          (outcome_told (first_of reports) differs)
+          (outcome_told (first_reported_damage reports) differs)
       by (Err WriteFault) prints is = subst (HasCauseIn causes) (sym is) prints.1
       by (Err failure) prints is = absurd prints
 
-  checked_has_cause : (outcome : Outcome)
+  checked_has_cause : (outcome : CommandOutcome)
       → ChecksConf score disk file conf outcome parts sink → HasCauseIn causes outcome
   checked_has_cause outcome it = by it.result it.uses it.differs it.told
     where
-      by : (result : Result Report (UpkeepBad CheckErr))
+      by : (result : Result Report (MaintainError CheckErr))
           → Uses (RefusesUse score disk) (ChecksOn score disk) result
           → MatchResult result (λ _. Unit {0}) NamesUnopened
           → MatchResult result (λ report. TellsReports report.arenas.items outcome sink)
-          (λ bad. ((failure : Failure) × (outcome ≡ Err failure)
+          (λ bad. ((failure : CommandError) × (outcome ≡ Err failure)
           × IsCheckRefusal file conf bad failure) × (sink.after ≡ sink.before))
           → HasCauseIn causes outcome
       by (Ok report) uses names told = reports_told report.arenas.items outcome
@@ -230,7 +230,7 @@ module _ {I P D K : Type 0} (score : List ℕ → List ℕ) (disk : DiskOf D) (f
 -- ---- by what was done
 
 module _ {I P D K : Type 0} (score : List ℕ → List ℕ) (disk : DiskOf D) (file : List ℕ)
-    (outcome : Outcome) (files : FilesChange I) (parts : PartsChange P D) (sink : Change K) where
+    (outcome : CommandOutcome) (files : FilesChange I) (parts : PartsChange P D) (sink : StreamChange K) where
   none_cause : FindsNoConf file outcome files (MakesNothing parts sink)
       → HasCauseIn (causes_in disk files parts sink) outcome
   none_cause = no_conf_cause (causes_in disk files parts sink) file outcome files (λ rose. rose)

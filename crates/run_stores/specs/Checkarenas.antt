@@ -10,18 +10,18 @@ use Rattle.vt_check.specs.declared.checking.Damage.{Damage}
 use Rattle.vt_check.specs.declared.checking.Report.{Report}
 use Rattle.vt_conf.specs.declared.conf.Conf.{Conf}
 use Rattle.vt_disk.specs.Members.{DiskOf}
-use Rattle.vt_upkeep.specs.declared.bad.UpkeepBad.{UpkeepBad}
-use Rattle.vt_upkeep.specs.declared.bad.UpkeepBad.TheVariants.{Unopened, Ended}
-use Rattle.vt_upkeep.specs.Checking.{ChecksOn}
-use Rattle.vt_upkeep.specs.Opened.{RefusesUse}
-use Rattle.vt_upkeep.specs.Stores.{NamesUnopened, UsesStore}
-use Rattle.run_base.specs.declared.failure.Failure.{Failure}
-use Rattle.run_base.specs.declared.failure.Failure.TheVariants.{DiskFault, Damaged, NoMemory}
+use Rattle.vt_maintain.specs.declared.error.MaintainError.{MaintainError}
+use Rattle.vt_maintain.specs.declared.error.MaintainError.TheVariants.{Unopened, Ended}
+use Rattle.vt_maintain.specs.Checking.{ChecksOn}
+use Rattle.vt_maintain.specs.Opened.{RefusesUse}
+use Rattle.vt_maintain.specs.Stores.{NamesUnopened, WorksOnStore}
+use Rattle.run_base.specs.declared.error.CommandError.{CommandError}
+use Rattle.run_base.specs.declared.error.CommandError.TheVariants.{DiskFault, Damaged, NoMemory}
 use Rattle.run_base.specs.Blocks.{FindsNoConf}
-use Rattle.run_base.specs.Change.{Change, FilesChange, MakesNothing, PartsChange}
+use Rattle.run_base.specs.Change.{StreamChange, FilesChange, MakesNothing, PartsChange}
 use Rattle.run_base.specs.Unopened.{IsOpenRefusal}
 use Rattle.run_base.specs.Configurations.{ReadsConf}
-use Rattle.run_base.specs.Failure.{Outcome}
+use Rattle.run_base.specs.Errors.{CommandOutcome}
 use Rattle.run_base.specs.Formatting.{Prints}
 
 -- ---- what is printed
@@ -46,51 +46,54 @@ arena_lines reports = concat (map arena_line reports)
 -- ---- what is told
 
 -- the damage of the first arena that has one
-abbrev pub first_of : List ArenaReport → Option Damage
-first_of [] = None
-first_of (report ∷ reports) = option_or report.damage (first_of reports)
+abbrev pub first_reported_damage : List ArenaReport → Option Damage
+first_reported_damage [] = None
+first_reported_damage (report ∷ reports) = option_or report.damage (first_reported_damage reports)
 
 -- it is told as the outcome
-abbrev pub outcome_of : Option Damage → Outcome
-outcome_of None = Ok tt
-outcome_of (Some damage) = Err (Damaged damage.want damage.found)
+abbrev pub damage_outcome : Option Damage → CommandOutcome
+damage_outcome None = Ok tt
+damage_outcome (Some damage) = Err (Damaged damage.want damage.found)
 
 -- The line of each arena was printed, whatever was found, and then the first damage is told, if there
 -- is one; or a write failed behind a front of them.
-abbrev pub TellsReports : {K : Type 0} → List ArenaReport → Outcome → Change K → Type 0
-TellsReports reports outcome sink = (printed : Outcome)
+abbrev pub TellsReports : {K : Type 0} → List ArenaReport → CommandOutcome → StreamChange K → Type 0
+TellsReports reports outcome sink = (printed : CommandOutcome)
     × Prints (arena_lines reports) printed sink
-    × MatchResult printed (λ _. outcome ≡ outcome_of (first_of reports))
+    × MatchResult printed (λ _. outcome ≡ damage_outcome (first_reported_damage reports))
     (λ failure. outcome ≡ Err failure)
 
 -- what is told of what ended the work
-abbrev pub failure_of : CheckErr → Failure
-failure_of check_err.Fault = DiskFault
-failure_of check_err.NoMemory = NoMemory
+abbrev pub check_failure : CheckErr → CommandError
+check_failure check_err.Fault = DiskFault
+check_failure check_err.NoMemory = NoMemory
 
 -- what is told where the arenas aren't checked
-abbrev pub IsCheckRefusal : (file : List ℕ) → Conf → UpkeepBad CheckErr → Failure → Type 0
+abbrev pub IsCheckRefusal : (file : List ℕ) → Conf → MaintainError CheckErr → CommandError → Type 0
 IsCheckRefusal file conf (Unopened bad) failure = IsOpenRefusal file conf bad failure
-IsCheckRefusal file conf (Ended bad) failure = failure ≡ failure_of bad
+IsCheckRefusal file conf (Ended bad) failure = failure ≡ check_failure bad
 
 -- ---- what is done
 
 -- The arenas were checked, and that is told, or it is told why not, and nothing is printed.
 pub record ChecksConf {K P D : Type 0} (score : List ℕ → List ℕ) (disk : DiskOf D)
-    (file : List ℕ) (conf : Conf) (outcome : Outcome) (parts : PartsChange P D) (sink : Change K)
+    (file : List ℕ) (conf : Conf) (outcome : CommandOutcome) (parts : PartsChange P D)
+    (sink : StreamChange K)
     : Type 0 where
-  pub result : Result Report (UpkeepBad CheckErr)
-  pub uses : UsesStore disk (IsTrue parts.tells) conf (RefusesUse score disk) (ChecksOn score disk)
+  pub result : Result Report (MaintainError CheckErr)
+  pub uses : WorksOnStore disk (IsTrue parts.tells) conf (RefusesUse score disk)
+      (ChecksOn score disk)
       parts.old parts.new parts.faults parts.faults' result
   pub differs : IfErr result NamesUnopened
   pub told : MatchResult result (λ report. TellsReports report.arenas.items outcome sink)
-      (λ bad. ((failure : Failure) × (outcome ≡ Err failure) × IsCheckRefusal file conf bad failure)
+      (λ bad. ((failure : CommandError) × (outcome ≡ Err failure)
+      × IsCheckRefusal file conf bad failure)
       × (sink.after ≡ sink.before))
 
 -- The configuration was read, and the arenas of its store checked; or it is told why none was read,
 -- and nothing is done.
 abbrev pub DoesCheckarenas : {I P D K : Type 0} → (List ℕ → List ℕ) → DiskOf D
-    → (file : List ℕ) → Outcome → FilesChange I → PartsChange P D → Change K → Type 0
+    → (file : List ℕ) → CommandOutcome → FilesChange I → PartsChange P D → StreamChange K → Type 0
 DoesCheckarenas score disk file outcome files parts sink =
     FindsNoConf file outcome files (MakesNothing parts sink)
     ⊎ ((conf : Conf) × ReadsConf file conf files

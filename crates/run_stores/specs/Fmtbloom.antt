@@ -5,10 +5,10 @@ use Rattle.vt_bloom.specs.Size.{filter_len}
 use Rattle.vt_conf.specs.Numbers.{wrong_digit}
 use Rattle.vt_disk.specs.Members.{DiskOf}
 use Rattle.vt_format.specs.Filters.{FormatsFilter}
-use Rattle.run_base.specs.declared.failure.Failure.{Failure}
-use Rattle.run_base.specs.declared.failure.Failure.TheVariants.{BadNumber}
-use Rattle.run_base.specs.Change.{Change, MakesNothing, PartsChange}
-use Rattle.run_base.specs.Failure.{Outcome}
+use Rattle.run_base.specs.declared.error.CommandError.{CommandError}
+use Rattle.run_base.specs.declared.error.CommandError.TheVariants.{BadNumber}
+use Rattle.run_base.specs.Change.{StreamChange, MakesNothing, PartsChange}
+use Rattle.run_base.specs.Errors.{CommandOutcome}
 use Rattle.run_base.specs.Formatting.{FormatsFile, RefusesWord}
 use Rattle.run_stores.specs.Words.{SaysSize, SaysPositions}
 
@@ -18,7 +18,7 @@ pub record AsksForFilter (size positions : List ℕ) (m bytes bits : ℕ) : Type
   pub positions_is : SaysPositions positions bits
 
 -- the first of them that isn't, and its first wrong byte
-abbrev pub AsksForNoFilter : (size positions : List ℕ) → Failure → Type 0
+abbrev pub AsksForNoFilter : (size positions : List ℕ) → CommandError → Type 0
 AsksForNoFilter size positions failure =
     (((m bytes : ℕ) → ¬ SaysSize size m bytes) × (failure ≡ BadNumber (wrong_digit size)))
     ⊎ (((m bytes : ℕ) × SaysSize size m bytes) × ((bits : ℕ) → ¬ SaysPositions positions bits)
@@ -31,8 +31,9 @@ filter_line bytes bits =
     ∷ codes " positions\n" ∷ [])
 
 -- its words were refused, or the file was made a filter
-abbrev pub DoesFmtbloom : {P D K : Type 0} → DiskOf D → (file size positions : List ℕ) → Outcome
-    → PartsChange P D → Change K → Type 0
+abbrev pub DoesFmtbloom : {P D K : Type 0} → DiskOf D → (file size positions : List ℕ)
+    → CommandOutcome
+    → PartsChange P D → StreamChange K → Type 0
 DoesFmtbloom disk file size positions outcome parts sink =
     RefusesWord (AsksForNoFilter size positions) outcome (MakesNothing parts sink)
     ⊎ ((m bytes bits : ℕ) × AsksForFilter size positions m bytes bits

@@ -5,10 +5,10 @@ use Rattle.vt_conf.specs.Numbers.{wrong_digit}
 use Rattle.vt_rehearse.specs.declared.summary.Summary.{Summary}
 use Rattle.vt_rehearse.specs.Rounds.{rounds_from}
 use Rattle.vt_rehearse.specs.Summary.{AddsUp, IsRehearsalOf}
-use Rattle.run_base.specs.declared.failure.Failure.{Failure}
-use Rattle.run_base.specs.declared.failure.Failure.TheVariants.{BadNumber, NoMemory}
-use Rattle.run_base.specs.Change.{Change, IsUntouched}
-use Rattle.run_base.specs.Failure.{Outcome}
+use Rattle.run_base.specs.declared.error.CommandError.{CommandError}
+use Rattle.run_base.specs.declared.error.CommandError.TheVariants.{BadNumber, NoMemory}
+use Rattle.run_base.specs.Change.{StreamChange, IsUntouched}
+use Rattle.run_base.specs.Errors.{CommandOutcome}
 use Rattle.run_base.specs.Formatting.{Prints, RefusesWord}
 use Rattle.run_stores.specs.Words.{SaysCount, SaysSeed}
 
@@ -18,7 +18,7 @@ pub record AsksToRehearse (seed count : List ℕ) (x rounds : ℕ) : Type 0 wher
   pub count_is : SaysCount count rounds
 
 -- the first of them that isn't, and its first wrong byte
-abbrev pub AsksForNoRehearsal : (seed count : List ℕ) → Failure → Type 0
+abbrev pub AsksForNoRehearsal : (seed count : List ℕ) → CommandError → Type 0
 AsksForNoRehearsal seed count failure =
     (((x : ℕ) → ¬ SaysSeed seed x) × (failure ≡ BadNumber (wrong_digit seed)))
     ⊎ (((x : ℕ) × SaysSeed seed x) × ((rounds : ℕ) → ¬ SaysCount count rounds)
@@ -44,14 +44,15 @@ summary_text s =
 
 -- Just the rounds were made that the seed draws, and what they came to is printed; or memory ran
 -- out, and nothing is.
-abbrev pub Rehearses : {K : Type 0} → (seed rounds : ℕ) → Outcome → Change K → Type 0
+abbrev pub Rehearses : {K : Type 0} → (seed rounds : ℕ) → CommandOutcome → StreamChange K → Type 0
 Rehearses seed rounds outcome sink =
     ((s : Summary) × IsRehearsalOf seed rounds s × AddsUp (rounds_from seed rounds) s
     × Prints (summary_text s) outcome sink)
     ⊎ ((outcome ≡ Err NoMemory) × IsUntouched sink)
 
 -- its words were refused, or the store was rehearsed
-abbrev pub DoesRehearse : {K : Type 0} → (seed count : List ℕ) → Outcome → Change K → Type 0
+abbrev pub DoesRehearse : {K : Type 0} → (seed count : List ℕ) → CommandOutcome → StreamChange K
+    → Type 0
 DoesRehearse seed count outcome sink =
     RefusesWord (AsksForNoRehearsal seed count) outcome (IsUntouched sink)
     ⊎ ((x : ℕ) × (rounds : ℕ) × AsksToRehearse seed count x rounds

@@ -1,6 +1,6 @@
 -- What the words behind a command's name say.
 use Rattle.std.specs.Prelude.{ℕ, ◌≡◌, ◌^◌, ◌<◌, ◌≤◌, List, decimal}
-use Rattle.vt_bloom.specs.Size.{IsSize}
+use Rattle.vt_bloom.specs.Size.{IsFilterSize}
 use Rattle.vt_format.specs.declared.TheConstants.{MAX_LEN, MOST_POSITIONS}
 use Rattle.vt_part.specs.Table.{IsArenaSize}
 
@@ -17,7 +17,7 @@ pub record SaysArenaSize (word : List ℕ) (size : ℕ) : Type 0 where
 -- the size of a filter of 2^m bits
 pub record SaysSize (word : List ℕ) (m size : ℕ) : Type 0 where
   pub is : word ≡ decimal size
-  pub fits : IsSize m size
+  pub fits : IsFilterSize m size
 
 -- how many bits of a filter each score has
 pub record SaysPositions (word : List ℕ) (positions : ℕ) : Type 0 where

@@ -2,44 +2,44 @@
 
 ghost use Rattle.run_base.specs.Formatting.{IsOfOneFile, IsRefusalOf};
 
-use run_base::{Failure, Shown, Unit};
+use run_base::{CommandError, Shown, Unit};
 use vt_base::{MountBad, Text};
 use vt_out::Sink;
 
 /// What is told where the partition of this file is refused, which is the only one. A file of which
 /// a call failed is named on the terminal.
-pub fn refused<T: Sink + Drop>(terminal: Option<T>, file: Text, bad: MountBad) -> Failure
+pub fn refused<T: Sink + Drop>(terminal: Option<T>, file: Text, bad: MountBad) -> CommandError
     requires { IsOfOneFile bad }
     ensures { IsRefusalOf file bad result }
 {
     if let MountBad::Fault = bad {
         Shown::new(terminal, Unit::Buckets).name(file.as_slice());
-        return Failure::DiskFault;
+        return CommandError::DiskFault;
     }
     refusal_of(file, bad)
 }
 
 /// What is told where the partition of this file is refused.
-fn refusal_of(file: Text, bad: MountBad) -> Failure
+fn refusal_of(file: Text, bad: MountBad) -> CommandError
     requires { IsOfOneFile bad }
     ensures { IsRefusalOf file bad result }
 {
     match bad {
-        MountBad::Fault => Failure::DiskFault,
-        MountBad::NotFormatted { part: _ } => Failure::NotFormatted { file },
-        MountBad::TooSmall { part: _, len, need } => Failure::TooSmall { file, len, need },
+        MountBad::Fault => CommandError::DiskFault,
+        MountBad::NotFormatted { part: _ } => CommandError::NotFormatted { file },
+        MountBad::TooSmall { part: _, len, need } => CommandError::TooSmall { file, len, need },
         MountBad::Disagree {
             part: _,
             field,
             found,
             want,
-        } => Failure::Disagree {
+        } => CommandError::Disagree {
             file,
             field,
             found,
             want,
         },
-        MountBad::NoMemory => Failure::NoMemory,
+        MountBad::NoMemory => CommandError::NoMemory,
         MountBad::DuplicateName { .. } | MountBad::Damaged { .. } => unreachable!(),
     }
 }

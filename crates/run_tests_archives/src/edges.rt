@@ -4,11 +4,11 @@
 use crate::items::{file, two};
 use std::alloc::{AllocError, Global};
 use std::test::Fail;
-use vt_folders::MemFolders;
 use vt_host_memory::{
     Given, ONE_ARENA, Partitions, Ran, Runtime, Talk, Told, folder_named, made, run_with_folders,
     see_talk, told,
 };
+use vt_out::MemFolders;
 use vt_rows::Rows;
 
 // ---- the folder

@@ -2,7 +2,7 @@
 
 use std::alloc::{AllocError, Global};
 use vt_base::Text;
-use vt_folder::{Facts, MemContent, MemItem};
+use vt_out::{Facts, MemContent, MemItem};
 
 /// What is told of an item: its name, its mode, and its owner's name.
 pub type About<'a> = (&'a [u8], u32, &'a [u8]);

@@ -5,12 +5,11 @@ use crate::items::{file, folder, one, other, two};
 use std::alloc::{AllocError, Global};
 use std::test::Fail;
 use vt_base::Text;
-use vt_folder::{Facts, MemContent, MemItem};
-use vt_folders::MemFolders;
 use vt_host_memory::{
     Given, Partitions, Row, Runtime, SMALL_ARENA, Told, Wanted, folder_named, made,
     run_with_folders, see_rows, told,
 };
+use vt_out::{Facts, MemContent, MemFolders, MemItem};
 use vt_rows::Rows;
 
 /// The folder `d` with the file `f` of `abc` and a link.

@@ -4,12 +4,12 @@
 use crate::items::{one, other};
 use std::alloc::{AllocError, Global};
 use std::test::Fail;
-use vt_folders::MemFolders;
 use vt_host_memory::messages::{OUR_LINE, WELCOME};
 use vt_host_memory::{
     Bits, Given, Partitions, Ran, Runtime, Server, Told, Wanted, folder_named, joined,
     run_with_folders, told,
 };
+use vt_out::MemFolders;
 use vt_rows::Rows;
 
 /// Under the name `home`, a folder with nothing but an item that is no file and no folder.

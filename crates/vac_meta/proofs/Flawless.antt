@@ -4,14 +4,14 @@ use Rattle.std.specs.Prelude.{nat_lt, slice_index, position}
 use Rattle.std.specs.Option.{option_or}
 use Rattle.std.proofs.lemmas.Bool.{le-ltb, ne_eqb}
 use Rattle.vac_meta.specs.declared.TheConstants.{MAX_NAME}
-use Rattle.vac_meta.specs.declared.err.MetaErr.{MetaErr}
+use Rattle.vac_meta.specs.declared.error.MetaErr.{MetaErr}
 use Rattle.vac_meta.specs.Flaws.{string_len, string_in, behind_string, flaw_of_name, flaw_of_numbers, flaw_of_owner, flaw_from_uid, flaw_from_kind, first_flaw}
-use Rattle.vac_meta.specs.Records.{IsName, string, is_next, is_barred}
+use Rattle.vac_meta.specs.Records.{IsItemName, string, is_next, is_barred}
 use Rattle.vac_meta.proofs.Strings.{len_is, text_is, behind_is, long}
 
 module _ (bytes text rest : List ℕ) (is : bytes ≡ string text ++ rest) where
   -- a name that may stand here
-  module _ (last : Option (List ℕ)) (at : ℕ) (name : IsName text) (next : is_next last text ≡ true)
+  module _ (last : Option (List ℕ)) (at : ℕ) (name : IsItemName text) (next : is_next last text ≡ true)
     where
       short : length text < 2 ^ 16
       short = let most : length text ≤ 255 = name.most in omega arith

@@ -5,12 +5,12 @@ use Rattle.std.proofs.lemmas.List.{get_or-drop, drop_all}
 use Rattle.byteorder.specs.Endian.{big_bytes, big_number}
 use Rattle.byteorder.specs.Numbers.{big_from-lt}
 use Rattle.vt_base.specs.Bytes.{AreBytes}
-use Rattle.vt_fields.specs.Fields.{drop-byte, drop-number}
+use Rattle.vt_base.specs.Fields.{drop-byte, drop-number}
 use Rattle.vac_meta.specs.declared.decoding.Found.{Found}
 use Rattle.vac_meta.specs.declared.record.Record.{Record}
 use Rattle.vac_meta.specs.declared.record.RecordKind.TheVariants.{File, Folder}
-use Rattle.vac_meta.specs.Found.{record_of}
-use Rattle.vac_meta.specs.Records.{HasRanges, kind_byte, numbers, spelled, string}
+use Rattle.vac_meta.specs.Found.{found_record}
+use Rattle.vac_meta.specs.Records.{HasRanges, kind_byte, number_fields, record_bytes, string}
 use Rattle.vac_meta.proofs.Spelled.{opened}
 
 -- ---- bytes of parts
@@ -37,9 +37,9 @@ module _ (f : Found) (len : length f.numbers.now ≡ 21) (low : slice_index f.nu
   m = f.numbers.now
 
   abbrev r : Record
-  r = record_of f
+  r = found_record f
 
-  pub numbers_are : m ≡ numbers r
+  pub numbers_are : m ≡ number_fields r
   numbers_are =
       let none : drop 21 m ≡ [] = drop_all 21 m (omega (arith, len)) in
       let qid : drop 13 m ≡ big_bytes 8 r.qid =
@@ -75,10 +75,10 @@ module _ (f : Found) (len : length f.numbers.now ≡ 21) (low : slice_index f.nu
 
 -- parts that stand one behind another are a record
 pub joined : (r : Record) (bytes b1 m b2 b3 rest : List ℕ) → bytes ≡ string r.name ++ b1
-    → b1 ≡ m ++ b2 → m ≡ numbers r → b2 ≡ string r.uid ++ b3 → b3 ≡ string r.gid ++ rest
-    → bytes ≡ spelled r ++ rest
+    → b1 ≡ m ++ b2 → m ≡ number_fields r → b2 ≡ string r.uid ++ b3 → b3 ≡ string r.gid ++ rest
+    → bytes ≡ record_bytes r ++ rest
 joined r bytes b1 m b2 b3 rest a b c d e =
     a ∙ ap (λ (l : List ℕ). string r.name ++ l)
     (b ∙ ap (λ (l : List ℕ). l ++ b2) c
-    ∙ ap (λ (l : List ℕ). numbers r ++ l) (d ∙ ap (λ (l : List ℕ). string r.uid ++ l) e))
+    ∙ ap (λ (l : List ℕ). number_fields r ++ l) (d ∙ ap (λ (l : List ℕ). string r.uid ++ l) e))
     ∙ sym (opened r rest)

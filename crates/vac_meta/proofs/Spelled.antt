@@ -8,17 +8,17 @@ use Rattle.vac_meta.specs.declared.record.Record.{Record}
 use Rattle.vac_meta.specs.declared.record.RecordKind.{RecordKind}
 use Rattle.vac_meta.specs.declared.record.RecordKind.TheVariants.{File, Folder}
 use Rattle.vac_meta.specs.Flaws.{first_flaw}
-use Rattle.vac_meta.specs.Records.{IsRecord, Ascend, all_spelled, is_next, kind_byte, last_name, numbers, spelled, string}
+use Rattle.vac_meta.specs.Records.{IsRecord, Ascend, all_spelled, is_next, kind_byte, last_name, number_fields, record_bytes, string}
 use Rattle.vac_meta.proofs.Flawless.{behind_name, behind_numbers, behind_uid, owner_is_good}
 use Rattle.vac_meta.proofs.Strings.{same_number, same_string}
 
 -- a record and what stands behind it, part by part
 pub opened : (r : Record) (x : List ℕ)
-    → spelled r ++ x ≡ string r.name ++ (numbers r ++ (string r.uid ++ (string r.gid ++ x)))
+    → record_bytes r ++ x ≡ string r.name ++ (number_fields r ++ (string r.uid ++ (string r.gid ++ x)))
 opened r x =
     ap (λ (l : List ℕ). big_bytes 2 (length r.name) ++ l)
-    (append_assoc r.name (numbers r ++ (string r.uid ++ string r.gid)) x)
-    ∙ ap (λ (l : List ℕ). string r.name ++ (numbers r ++ (big_bytes 2 (length r.uid) ++ l)))
+    (append_assoc r.name (number_fields r ++ (string r.uid ++ string r.gid)) x)
+    ∙ ap (λ (l : List ℕ). string r.name ++ (number_fields r ++ (big_bytes 2 (length r.uid) ++ l)))
     (append_assoc r.uid (string r.gid) x)
 
 same_kind : (a b : RecordKind) → kind_byte a ≡ kind_byte b → a ≡ b
@@ -32,7 +32,7 @@ short text most = let few : length text ≤ 255 = most in omega arith
 
 -- one record stands in front at most
 pub same_record : (f g : Record) (x y : List ℕ) → IsRecord f → IsRecord g
-    → spelled f ++ x ≡ spelled g ++ y → (f ≡ g) × (x ≡ y)
+    → record_bytes f ++ x ≡ record_bytes g ++ y → (f ≡ g) × (x ≡ y)
 same_record f g x y v w h =
     let both = sym (opened f x) ∙ h ∙ opened g y in
     let n = same_string f.name g.name _ _ (short f.name v.fits.name.most)
@@ -74,7 +74,7 @@ same_records (f ∷ a) (g ∷ b) v w h =
 
 -- ---- no record has a flaw
 
-numbers_len : (r : Record) → length (numbers r) ≡ 21
+numbers_len : (r : Record) → length (number_fields r) ≡ 21
 numbers_len r = refl
 
 low : (kind : RecordKind) → kind_byte kind ≤ 1
@@ -82,12 +82,12 @@ low File = omega arith
 low Folder = omega arith
 
 pub clean : (last : Option (List ℕ)) (at : ℕ) (r : Record) (x : List ℕ) → IsRecord r
-    → is_next last r.name ≡ true → first_flaw last at (spelled r ++ x) ≡ None
+    → is_next last r.name ≡ true → first_flaw last at (record_bytes r ++ x) ≡ None
 clean last at r x is next =
     let behind_kind = string r.uid ++ (string r.gid ++ x) in
-    behind_name (spelled r ++ x) r.name (numbers r ++ behind_kind) (opened r x) last at
+    behind_name (record_bytes r ++ x) r.name (number_fields r ++ behind_kind) (opened r x) last at
     is.fits.name next
-    ∙ behind_numbers (at + 2 + length r.name) (numbers r ++ behind_kind) (numbers r) behind_kind
+    ∙ behind_numbers (at + 2 + length r.name) (number_fields r ++ behind_kind) (number_fields r) behind_kind
     refl (numbers_len r) (low r.kind)
     ∙ behind_uid behind_kind r.uid (string r.gid ++ x) refl (at + 2 + length r.name + 21)
     is.fits.uid
@@ -112,17 +112,17 @@ last_name-append last [] r = refl
 last_name-append last (x ∷ xs) r = last_name-append (Some x.name) xs r
 
 pub spelled-append : (xs : List Record) (r : Record)
-    → all_spelled (xs ++ r ∷ []) ≡ all_spelled xs ++ spelled r
-spelled-append [] r = append-nil (spelled r)
+    → all_spelled (xs ++ r ∷ []) ≡ all_spelled xs ++ record_bytes r
+spelled-append [] r = append-nil (record_bytes r)
 spelled-append (x ∷ xs) r =
-    ap (λ (l : List ℕ). spelled x ++ l) (spelled-append xs r)
-    ∙ sym (append_assoc (spelled x) (all_spelled xs) (spelled r))
+    ap (λ (l : List ℕ). record_bytes x ++ l) (spelled-append xs r)
+    ∙ sym (append_assoc (record_bytes x) (all_spelled xs) (record_bytes r))
 
 -- what is left behind one record more
 pub further : (bytes : List ℕ) (xs : List Record) (r : Record) (rest behind : List ℕ)
-    → bytes ≡ all_spelled xs ++ rest → rest ≡ spelled r ++ behind
+    → bytes ≡ all_spelled xs ++ rest → rest ≡ record_bytes r ++ behind
     → bytes ≡ all_spelled (xs ++ r ∷ []) ++ behind
 further bytes xs r rest behind a b =
     a ∙ ap (λ (l : List ℕ). all_spelled xs ++ l) b
-    ∙ sym (append_assoc (all_spelled xs) (spelled r) behind)
+    ∙ sym (append_assoc (all_spelled xs) (record_bytes r) behind)
     ∙ ap (λ (l : List ℕ). l ++ behind) (sym (spelled-append xs r))

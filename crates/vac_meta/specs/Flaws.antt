@@ -5,9 +5,9 @@ use Rattle.std.specs.Prelude.{◌≡◌, ◌≢◌, ◌+◌, ◌==◌, ◌||◌,
 use Rattle.std.specs.Option.{option_or}
 use Rattle.byteorder.specs.Endian.{big_number}
 use Rattle.vac_meta.specs.declared.TheConstants.{MAX_NAME}
-use Rattle.vac_meta.specs.declared.err.Flaw.TheVariants.{Cut, NameLength, NameByte, Order, Kind, OwnerLength}
-use Rattle.vac_meta.specs.declared.err.MetaErr.{MetaErr}
-use Rattle.vac_meta.specs.declared.err.MetaErr.TheVariants.{Bad}
+use Rattle.vac_meta.specs.declared.error.RecordCause.TheVariants.{Cut, NameLength, NameByte, Order, Kind, OwnerLength}
+use Rattle.vac_meta.specs.declared.error.MetaErr.{MetaErr}
+use Rattle.vac_meta.specs.declared.error.MetaErr.TheVariants.{Bad}
 use Rattle.vac_meta.specs.declared.record.Record.{Record}
 use Rattle.vac_meta.specs.Records.{AreRecords, all_spelled, last_name, is_barred, is_next}
 
@@ -79,7 +79,7 @@ first_flaw last at bytes =
 
 -- The bytes begin with the records of a folder, and more stands behind these, of which the first
 -- test that fails is this one.
-pub record IsRefused (bytes : List ℕ) (why : MetaErr) : Type 0 where
+pub record IsRefusedMetadata (bytes : List ℕ) (why : MetaErr) : Type 0 where
   pub good : List Record
   pub rest : List ℕ
   pub allowed : AreRecords good

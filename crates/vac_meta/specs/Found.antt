@@ -6,8 +6,8 @@ use Rattle.vac_meta.specs.declared.record.Record.{Record}
 use Rattle.vac_meta.specs.declared.record.RecordKind.TheVariants.{File, Folder}
 
 -- what its fields say
-abbrev pub record_of : Found → Record
-record_of f = record {
+abbrev pub found_record : Found → Record
+found_record f = record {
   name = f.name.now;
   kind = if slice_index f.numbers.now 0 == 0 then File else Folder;
   entry = big_number 4 (drop 1 f.numbers.now);

@@ -22,23 +22,23 @@ kind_byte File = 0
 kind_byte Folder = 1
 
 -- the kind and the numbers of a record
-abbrev pub numbers : Record → List ℕ
-numbers r = kind_byte r.kind ∷ (big_bytes 4 r.entry ++ (big_bytes 4 r.mode
+abbrev pub number_fields : Record → List ℕ
+number_fields r = kind_byte r.kind ∷ (big_bytes 4 r.entry ++ (big_bytes 4 r.mode
     ++ (big_bytes 4 r.mtime ++ big_bytes 8 r.qid)))
 
 -- the bytes of a record
-abbrev pub spelled : Record → List ℕ
-spelled r = string r.name ++ (numbers r ++ (string r.uid ++ string r.gid))
+abbrev pub record_bytes : Record → List ℕ
+record_bytes r = string r.name ++ (number_fields r ++ (string r.uid ++ string r.gid))
 
 abbrev pub all_spelled : List Record → List ℕ
-all_spelled records = flat_map spelled records
+all_spelled records = flat_map record_bytes records
 
 -- a byte that no name has: a slash or zero
 abbrev pub is_barred : ℕ → Bool
 is_barred b = b == 47 || b == 0
 
 -- what may name an item: 1 to 255 bytes, none of them a slash or zero
-pub record IsName (name : List ℕ) : Type 0 where
+pub record IsItemName (name : List ℕ) : Type 0 where
   pub some : 1 ≤ length name
   pub most : length name ≤ MAX_NAME
   pub plain : position is_barred name ≡ None
@@ -52,7 +52,7 @@ pub record HasRanges (r : Record) : Type 0 where
 
 -- what the texts of a record may be
 pub record FitsRecord (r : Record) : Type 0 where
-  pub name : IsName r.name
+  pub name : IsItemName r.name
   pub uid : length r.uid ≤ MAX_NAME
   pub gid : length r.gid ≤ MAX_NAME
 
@@ -82,6 +82,6 @@ pub record AreRecords (records : List Record) : Type 0 where
   pub ascending : Ascend None records
 
 -- the bytes are the metadata of a folder with these records
-pub record Spells (records : List Record) (bytes : List ℕ) : Type 0 where
+pub record SpellsMetadata (records : List Record) (bytes : List ℕ) : Type 0 where
   pub allowed : AreRecords records
   pub is : bytes ≡ all_spelled records

@@ -4,28 +4,28 @@ ghost use Rattle.std.specs.Prelude.{◌≡◌, ◌+◌, ◌<◌, ◌≤◌, ◌^
 ghost use Rattle.std.specs.Prelude.{IfOk, IfErr, MatchResult, position, slice_index};
 ghost use Rattle.std.specs.Option.{option_copied};
 ghost use Rattle.vac_meta.specs.declared.TheConstants.{MAX_NAME};
-ghost use Rattle.vac_meta.specs.declared.err.Flaw.{Flaw};
+ghost use Rattle.vac_meta.specs.declared.error.RecordCause.{RecordCause};
 ghost use Rattle.vac_meta.specs.declared.record.Record.{Record};
-ghost use Rattle.vac_meta.specs.Flaws.{IsRefused, first_flaw};
+ghost use Rattle.vac_meta.specs.Flaws.{IsRefusedMetadata, first_flaw};
 ghost use Rattle.vac_meta.specs.Flaws.{cut, string_in};
 ghost use Rattle.vac_meta.specs.Flaws.{flaw_of_name, flaw_of_numbers, flaw_of_owner};
-ghost use Rattle.vac_meta.specs.Records.{IsName, IsRecord, Spells, is_barred, is_next};
-ghost use Rattle.vac_meta.specs.Records.{spelled, string};
-ghost use Rattle.vac_meta.specs.Found.{record_of};
+ghost use Rattle.vac_meta.specs.Records.{IsItemName, IsRecord, SpellsMetadata, is_barred, is_next};
+ghost use Rattle.vac_meta.specs.Records.{record_bytes, string};
+ghost use Rattle.vac_meta.specs.Found.{found_record};
 
-use crate::{Flaw, MAX_NAME, MetaErr, Record, RecordKind, Records};
+use crate::{MAX_NAME, MetaErr, Record, RecordCause, RecordKind, Records};
 use std::alloc::{AllocError, Global};
 use vt_base::Text;
-use vt_fields::{u16_at, u32_at, u64_at};
+use vt_base::fields::{u16_at, u32_at, u64_at};
 
 /// The records of a folder's metadata, or the first record that can't stand there: the first of its
 /// fields that can't, and its place.
 pub fn decode(alloc: Global, bytes: &[u8]) -> Result<Records, MetaErr>
-    ensures found { IfOk result (λ records. Spells records bytes.now) }
-    ensures only { (records : List Record) → Spells records bytes.now →
+    ensures found { IfOk result (λ records. SpellsMetadata records bytes.now) }
+    ensures only { (records : List Record) → SpellsMetadata records bytes.now →
         MatchResult result (λ r. r ≡ records) (λ e. e ≡ MetaErr.NoMemory) }
-    ensures refused { (at : ℕ) (why : Flaw) →
-        result ≡ Err (MetaErr.Bad at why) → IsRefused bytes.now (MetaErr.Bad at why) }
+    ensures refused { (at : ℕ) (why : RecordCause) →
+        result ≡ Err (MetaErr.Bad at why) → IsRefusedMetadata bytes.now (MetaErr.Bad at why) }
 {
     let mut records = Vec::new(alloc);
     let mut last = None;
@@ -57,7 +57,7 @@ impl<'a> Found<'a> {
     /// The record in memory of its own.
     fn kept(&self, alloc: Global) -> Result<Record, AllocError>
         requires { length self.now.numbers.now ≡ 21 }
-        ensures { IfOk result (λ kept. kept ≡ record_of self.now) }
+        ensures { IfOk result (λ kept. kept ≡ found_record self.now) }
     {
         let numbers = self.numbers;
         Ok(Record {
@@ -86,9 +86,9 @@ fn record_in_front<'a>(
 ) -> Result<(Found<'a>, &'a [u8]), MetaErr>
     requires { at + length bytes.now < 2 ^ 63 }
     ensures numbers { IfOk result (λ r. length r.0.numbers.now ≡ 21) }
-    ensures allowed { IfOk result (λ r. IsRecord (record_of r.0)) }
+    ensures allowed { IfOk result (λ r. IsRecord (found_record r.0)) }
     ensures next { IfOk result (λ r. is_next (option_copied last.entry) r.0.name.now ≡ true) }
-    ensures whole { IfOk result (λ r. bytes.now ≡ spelled (record_of r.0) ++ r.1.now) }
+    ensures whole { IfOk result (λ r. bytes.now ≡ record_bytes (found_record r.0) ++ r.1.now) }
     ensures flaw { IfErr result (λ e. first_flaw (option_copied last.entry) at bytes.now ≡ Some e) }
 {
     let (name, rest) = name_in_front(bytes, at, last)?;
@@ -114,7 +114,7 @@ fn name_in_front<'a>(
     last: Option<&[u8]>,
 ) -> Result<(&'a [u8], &'a [u8]), MetaErr>
     requires { at + length bytes.now < 2 ^ 63 }
-    ensures allowed { IfOk result (λ r. IsName r.0.now) }
+    ensures allowed { IfOk result (λ r. IsItemName r.0.now) }
     ensures next { IfOk result (λ r. is_next (option_copied last.entry) r.0.now ≡ true) }
     ensures whole { IfOk result (λ r. bytes.now ≡ string r.0.now ++ r.1.now) }
     ensures flaw { IfErr result
@@ -127,14 +127,14 @@ fn name_in_front<'a>(
     if len == 0 || len > MAX_NAME {
         return Err(MetaErr::Bad {
             at,
-            why: Flaw::NameLength,
+            why: RecordCause::NameLength,
         });
     }
     let name = string_in(bytes);
     if let Some(i) = first_barred(name) {
         return Err(MetaErr::Bad {
             at: at + 2 + i,
-            why: Flaw::NameByte,
+            why: RecordCause::NameByte,
         });
     }
     if bytes.len() < 2 + len {
@@ -143,7 +143,7 @@ fn name_in_front<'a>(
     if !is_next(last, name) {
         return Err(MetaErr::Bad {
             at,
-            why: Flaw::Order,
+            why: RecordCause::Order,
         });
     }
     Ok((name, &bytes[2 + len..]))
@@ -187,7 +187,7 @@ fn numbers_in_front(bytes: &[u8], at: usize) -> Result<(&[u8; 21], &[u8]), MetaE
     if kind > 1 {
         return Err(MetaErr::Bad {
             at,
-            why: Flaw::Kind,
+            why: RecordCause::Kind,
         });
     }
     bytes.split_first_chunk().ok_or(cut(bytes, at))
@@ -207,7 +207,7 @@ fn owner_in_front(bytes: &[u8], at: usize) -> Result<(&[u8], &[u8]), MetaErr>
     if len > MAX_NAME {
         return Err(MetaErr::Bad {
             at,
-            why: Flaw::OwnerLength,
+            why: RecordCause::OwnerLength,
         });
     }
     if bytes.len() < 2 + len {
@@ -223,6 +223,6 @@ fn cut(bytes: &[u8], at: usize) -> MetaErr
 {
     MetaErr::Bad {
         at: at + bytes.len(),
-        why: Flaw::Cut,
+        why: RecordCause::Cut,
     }
 }

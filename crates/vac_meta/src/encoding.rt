@@ -4,12 +4,12 @@ ghost use Rattle.std.specs.Prelude.{◌≡◌, ◌+◌, ◌≤◌, ◌++◌, tru
 ghost use Rattle.std.specs.Prelude.{OnOk, OnErr};
 ghost use Rattle.vac_meta.specs.declared.TheConstants.{MAX_NAME};
 ghost use Rattle.vac_meta.specs.declared.record.Record.{Record};
-ghost use Rattle.vac_meta.specs.Records.{FitsRecord, HasRanges, Spells, is_next, last_name};
-ghost use Rattle.vac_meta.specs.Records.{kind_byte, numbers, spelled, string};
+ghost use Rattle.vac_meta.specs.Records.{FitsRecord, HasRanges, SpellsMetadata, is_next, last_name};
+ghost use Rattle.vac_meta.specs.Records.{kind_byte, number_fields, record_bytes, string};
 
 use crate::{Record, RecordKind};
 use std::alloc::AllocError;
-use vt_fields::{put, put_u8, put_u16, put_u32, put_u64};
+use vt_base::fields::{put, put_u8, put_u16, put_u32, put_u64};
 
 /// The most bytes of a record.
 const MAX_RECORD: usize = 792;
@@ -20,10 +20,11 @@ const MAX_RECORD: usize = 792;
 pub fn encode(item: &Record, metadata: &mut Vec<u8>) -> Result<(), AllocError>
     requires { FitsRecord item.now }
     ensures written { OnOk result
-        (metadata.new.items ≡ metadata.old.items ++ spelled item.now) }
-    ensures spells { OnOk result ((before : List Record) → Spells before metadata.old.items →
+        (metadata.new.items ≡ metadata.old.items ++ record_bytes item.now) }
+    ensures spells { OnOk result ((before : List Record) → SpellsMetadata before metadata.old.items
+        →
         is_next (last_name None before) item.now.name ≡ true →
-        Spells (before ++ item.now ∷ []) metadata.new.items) }
+        SpellsMetadata (before ++ item.now ∷ []) metadata.new.items) }
     ensures unchanged { OnErr result (metadata.new.items ≡ metadata.old.items) }
 {
     let mut bytes = [0; MAX_RECORD];
@@ -38,7 +39,7 @@ fn put_record(buf: &mut [u8], item: &Record) -> usize
     requires room { MAX_RECORD ≤ length buf.old }
     ensures ranges { HasRanges item.now }
     ensures most { result ≤ MAX_RECORD }
-    ensures written { take result buf.new ≡ spelled item.now }
+    ensures written { take result buf.new ≡ record_bytes item.now }
 {
     let at = put_string(buf, 0, item.name.as_slice());
     let at = put_numbers(buf, at, item);
@@ -51,7 +52,7 @@ fn put_numbers(buf: &mut [u8], at: usize, item: &Record) -> usize
     requires { at + 21 ≤ length buf.old }
     ensures ranges { HasRanges item.now }
     ensures end { result ≡ at + 21 }
-    ensures written { take result buf.new ≡ take at buf.old ++ numbers item.now }
+    ensures written { take result buf.new ≡ take at buf.old ++ number_fields item.now }
 {
     let at = put_u8(buf, at, kind_byte(item.kind));
     let at = put_u32(buf, at, item.entry);

@@ -5,13 +5,13 @@
 
 mod decoding;
 mod encoding;
-mod err;
+mod error;
 pub mod laws;
 mod record;
 
 pub use decoding::decode;
 pub use encoding::encode;
-pub use err::{Flaw, MetaErr};
+pub use error::{MetaErr, RecordCause};
 pub use record::{Record, RecordKind, Records};
 
 /// The most bytes of a name, a uid and a gid.

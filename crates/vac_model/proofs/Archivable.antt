@@ -7,17 +7,17 @@ use Rattle.std.specs.Cmp.Lexicographic.{slice_cmp}
 use Rattle.std.specs.Str.{bytes_eq}
 use Rattle.std.proofs.lemmas.Bool.{cases_Bool, ltb-false, leb-false}
 use Rattle.std.proofs.lemmas.Nat.{and_assoc, and_le_r}
-use Rattle.vt_folder.specs.declared.item.Facts.{Facts}
-use Rattle.vt_folder.specs.Items.{Items, none, file, folder, other}
+use Rattle.vt_out.specs.declared.folder_item.Facts.{Facts}
+use Rattle.vt_out.specs.FolderItems.{Items, none, file, folder, other}
 use Rattle.vac_meta.specs.declared.TheConstants.{MAX_NAME}
 use Rattle.vac_meta.specs.declared.record.Record.{Record}
 use Rattle.vac_meta.specs.declared.record.RecordKind.TheVariants.{File, Folder}
-use Rattle.vac_meta.specs.Records.{IsName, is_next, is_barred, all_spelled, spelled, string, numbers}
+use Rattle.vac_meta.specs.Records.{IsItemName, is_next, is_barred, all_spelled, record_bytes, string, number_fields}
 use Rattle.vac_model.specs.declared.TheConstants.{MAX_FILE, MAX_METADATA, MAX_NESTING}
-use Rattle.vac_model.specs.Archives.{record_of, records_of, metadata}
+use Rattle.vac_model.specs.Archives.{item_record, records_of, metadata}
 use Rattle.vac_model.specs.Good.{IsGood, AreGood}
 use Rattle.vac_model.specs.Kept.{placed, in_order, kept, cut_mode, count, numbered, archived, path_to}
-use Rattle.vac_model.specs.Limits.{bad_name, too_long, too_deep, is_bad_name, is_bad_behind, is_bad, first_bad, unfit_name, unfit_listing, unfit_inside, first_unfit, HaveTimes}
+use Rattle.vac_model.specs.Limits.{bad_name, too_long, too_deep, is_bad_name, is_bad_behind, is_bad, first_bad_item, unfit_name, unfit_listing, unfit_inside, first_unfit, HaveTimes}
 use Rattle.vac_model.specs.Trees.{nesting}
 use Rattle.vac_model.proofs.InOrder.{NotBefore, AreOrdered, are_ordered}
 use Rattle.vac_model.proofs.Names.{Below, below_below, above_other}
@@ -57,7 +57,7 @@ plain : (o : Option ℕ) → is_some o ≡ false → o ≡ None
 plain None e = refl
 plain (Some x) e = true_false e
 
-pub a_name : (name : List ℕ) → is_bad_name name ≡ false → IsName name
+pub a_name : (name : List ℕ) → is_bad_name name ≡ false → IsItemName name
 a_name name e =
     let two = neither (length name == 0 || nat_lt MAX_NAME (length name))
     (is_some (position is_barred name)) e in
@@ -74,7 +74,7 @@ a_name name e =
 
 -- a name that may stand behind the last item is a name, and above the last that is kept
 name_behind : (kept seen : Option (List ℕ)) (name : List ℕ) → is_bad_behind seen name ≡ false
-    → NotBefore seen name → Under kept seen → IsName name × (is_next kept name ≡ true)
+    → NotBefore seen name → Under kept seen → IsItemName name × (is_next kept name ≡ true)
 name_behind None None name good order under = (a_name name good, refl)
 name_behind None (Some s) name good order under =
     (a_name name (neither (is_bad_name name) (bytes_eq s name) good).0, refl)
@@ -99,11 +99,11 @@ under_more (Some k) (Some s) name good order under =
 -- ---- what numbers leave
 
 record_len : (r : Record)
-    → length (spelled r) ≡ 27 + length r.name + length r.uid + length r.gid
+    → length (record_bytes r) ≡ 27 + length r.name + length r.uid + length r.gid
 record_len r =
     omega (
       arith,
-      length-append r.name (numbers r ++ (string r.uid ++ string r.gid)),
+      length-append r.name (number_fields r ++ (string r.uid ++ string r.gid)),
       length-append r.uid (string r.gid),
     )
 
@@ -113,40 +113,40 @@ same_len : (m n i j : ℕ) (items : Items Facts)
     ≡ length (all_spelled (records_of j (numbered n items)))
 same_len m n i j none = refl
 same_len m n i j (file about bytes others) =
-    let a = record_of (record { facts = about; qid = m }) File i in
-    let b = record_of (record { facts = about; qid = n }) File j in
-    let same : length (spelled a) ≡ length (spelled b) = record_len a ∙ sym (record_len b) in
+    let a = item_record (record { facts = about; qid = m }) File i in
+    let b = item_record (record { facts = about; qid = n }) File j in
+    let same : length (record_bytes a) ≡ length (record_bytes b) = record_len a ∙ sym (record_len b) in
     omega (
       arith,
       same,
       same_len (m + 1) (n + 1) (i + 1) (j + 1) others,
-      length-append (spelled a) (all_spelled (records_of (i + 1) (numbered (m + 1) others))),
-      length-append (spelled b) (all_spelled (records_of (j + 1) (numbered (n + 1) others))),
+      length-append (record_bytes a) (all_spelled (records_of (i + 1) (numbered (m + 1) others))),
+      length-append (record_bytes b) (all_spelled (records_of (j + 1) (numbered (n + 1) others))),
     )
 same_len m n i j (folder about inside others) =
-    let a = record_of (record { facts = about; qid = m }) Folder i in
-    let b = record_of (record { facts = about; qid = n }) Folder j in
+    let a = item_record (record { facts = about; qid = m }) Folder i in
+    let b = item_record (record { facts = about; qid = n }) Folder j in
     let p : ℕ = m + 1 + count inside in
     let q : ℕ = n + 1 + count inside in
-    let same : length (spelled a) ≡ length (spelled b) = record_len a ∙ sym (record_len b) in
+    let same : length (record_bytes a) ≡ length (record_bytes b) = record_len a ∙ sym (record_len b) in
     omega (
       arith,
       same,
       same_len p q (i + 2) (j + 2) others,
-      length-append (spelled a) (all_spelled (records_of (i + 2) (numbered p others))),
-      length-append (spelled b) (all_spelled (records_of (j + 2) (numbered q others))),
+      length-append (record_bytes a) (all_spelled (records_of (i + 2) (numbered p others))),
+      length-append (record_bytes b) (all_spelled (records_of (j + 2) (numbered q others))),
     )
 same_len m n i j (other about others) = same_len m n i j others
 
 -- ---- items
 
 listing_fits : (path : List ℕ) (items : Items Facts) → unfit_listing path items ≡ None
-    → (first_bad None items ≡ None) × (length (metadata (numbered 1 (kept items))) ≤ MAX_METADATA)
-listing_fits path items e = of (first_bad None items) refl e
+    → (first_bad_item None items ≡ None) × (length (metadata (numbered 1 (kept items))) ≤ MAX_METADATA)
+listing_fits path items e = of (first_bad_item None items) refl e
   where
-    of : (bad : Option (List ℕ)) → first_bad None items ≡ bad
+    of : (bad : Option (List ℕ)) → first_bad_item None items ≡ bad
         → unfit_name path bad (length (metadata (numbered 1 (kept items)))) ≡ None
-        → (first_bad None items ≡ None)
+        → (first_bad_item None items ≡ None)
         × (length (metadata (numbered 1 (kept items))) ≤ MAX_METADATA)
     of (Some name) is h = some_none (bad_name (path_to path name)) h
     of None is h =
@@ -181,12 +181,12 @@ good_name seen about good =
     (nat_lt MAX_NAME (length about.gid)) good).0).0
 
 are_good : (last seen : Option (List ℕ)) (depth : ℕ) (path : List ℕ) (n : ℕ) (s : Items Facts)
-    → AreOrdered seen s → first_bad seen s ≡ None → unfit_inside depth path s ≡ None
+    → AreOrdered seen s → first_bad_item seen s ≡ None → unfit_inside depth path s ≡ None
     → HaveTimes s → Under last seen → n + count (kept s) ≤ 2 ^ 64
     → AreGood last (numbered n (kept s))
 are_good last seen depth path n none ordered good fit times under few = tt
 are_good last seen depth path n (file about bytes others) ordered good fit times under few =
-    let here = passes (is_bad seen about) about.name (first_bad (Some about.name) others) good in
+    let here = passes (is_bad seen about) about.name (first_bad_item (Some about.name) others) good in
     let long = passes (nat_lt MAX_FILE (length bytes)) too_long (unfit_inside depth path others)
     fit in (
       is_good last seen about n here.0 ordered.0 under times.0 (omega (arith, few)),
@@ -195,7 +195,7 @@ are_good last seen depth path n (file about bytes others) ordered good fit times
           long.1 times.1 (inl refl) (omega (arith, few)),
     )
 are_good last seen depth path n (folder about inside others) ordered good fit times under few =
-    let here = passes (is_bad seen about) about.name (first_bad (Some about.name) others) good in
+    let here = passes (is_bad seen about) about.name (first_bad_item (Some about.name) others) good in
     let below : List ℕ = path_to path about.name in
     let parts = both_none (cond (nat_le MAX_NESTING depth) (Some (too_deep below))
     (option_or (unfit_listing below inside) (unfit_inside (depth + 1) below inside)))
@@ -215,7 +215,7 @@ are_good last seen depth path n (folder about inside others) ordered good fit ti
     )
 are_good last seen depth path n (other about others) ordered good fit times under few =
     let here = passes (is_bad_behind seen about.name) about.name
-    (first_bad (Some about.name) others) good in
+    (first_bad_item (Some about.name) others) good in
     are_good last (Some about.name) depth path n others ordered.1 here.1 fit times
     (under_more last seen about.name here.0 ordered.0 under) few
 

@@ -4,8 +4,8 @@ use Rattle.std.specs.Prelude.{⊤}
 use Rattle.std.specs.Ordering.{nat_cmp, is_lt}
 use Rattle.std.specs.Cmp.Lexicographic.{slice_cmp}
 use Rattle.std.proofs.lemmas.Bool.{cases_Bool}
-use Rattle.vt_folder.specs.declared.item.Facts.{Facts}
-use Rattle.vt_folder.specs.Items.{Items, none, file, folder, other}
+use Rattle.vt_out.specs.declared.folder_item.Facts.{Facts}
+use Rattle.vt_out.specs.FolderItems.{Items, none, file, folder, other}
 use Rattle.vac_model.specs.Kept.{placed, in_order}
 use Rattle.vac_model.proofs.Names.{NotBelow, not_both}
 

@@ -1,13 +1,13 @@
 -- The metadata of good items spells their records.
 use Rattle.std.proofs.Common.{ℕ, ◌+◌, ◌^◌, ◌<◌, ◌≤◌, Option, Some, None, List, length, refl, arith, length-append}
 use Rattle.std.specs.List.{AllByRecursion}
-use Rattle.vt_folder.specs.Items.{Items, none, file, folder, other}
+use Rattle.vt_out.specs.FolderItems.{Items, none, file, folder, other}
 use Rattle.vac_meta.specs.declared.record.Record.{Record}
 use Rattle.vac_meta.specs.declared.record.RecordKind.{RecordKind}
 use Rattle.vac_meta.specs.declared.record.RecordKind.TheVariants.{File, Folder}
-use Rattle.vac_meta.specs.Records.{IsRecord, Ascend, Spells, all_spelled, spelled}
+use Rattle.vac_meta.specs.Records.{IsRecord, Ascend, SpellsMetadata, all_spelled, record_bytes}
 use Rattle.vac_model.specs.declared.TheConstants.{MAX_METADATA}
-use Rattle.vac_model.specs.Archives.{record_of, records_of, metadata}
+use Rattle.vac_model.specs.Archives.{item_record, records_of, metadata}
 use Rattle.vac_model.specs.Good.{IsGood, AreGood}
 use Rattle.vac_model.specs.Kept.{Numbered}
 
@@ -19,7 +19,7 @@ width (folder about inside others) = 2 + width others
 width (other about others) = width others
 
 is_record : (last : Option (List ℕ)) (about : Numbered) (kind : RecordKind) (n : ℕ)
-    → IsGood last about → n < 2 ^ 32 → IsRecord (record_of about kind n)
+    → IsGood last about → n < 2 ^ 32 → IsRecord (item_record about kind n)
 is_record last about kind n good small = record {
   fits = record { name = good.name; uid = good.uid; gid = good.gid };
   ranges = record {
@@ -53,32 +53,32 @@ ascend last n (folder about inside others) good =
 ascend last n (other about others) good = absurd good
 
 -- a record has more bytes than its item has entries
-record_is_long : (r : Record) → 2 ≤ length (spelled r)
+record_is_long : (r : Record) → 2 ≤ length (record_bytes r)
 record_is_long r = omega arith
 
 few_entries : (n : ℕ) (items : Items Numbered)
     → width items ≤ length (all_spelled (records_of n items))
 few_entries n none = omega arith
 few_entries n (file about bytes others) =
-    let r = record_of about File n in
+    let r = item_record about File n in
     omega (
       arith,
-      length-append (spelled r) (all_spelled (records_of (n + 1) others)),
+      length-append (record_bytes r) (all_spelled (records_of (n + 1) others)),
       record_is_long r,
       few_entries (n + 1) others,
     )
 few_entries n (folder about inside others) =
-    let r = record_of about Folder n in
+    let r = item_record about Folder n in
     omega (
       arith,
-      length-append (spelled r) (all_spelled (records_of (n + 2) others)),
+      length-append (record_bytes r) (all_spelled (records_of (n + 2) others)),
       record_is_long r,
       few_entries (n + 2) others,
     )
 few_entries n (other about others) = few_entries n others
 
 pub is_spelled : (items : Items Numbered) → AreGood None items
-    → length (metadata items) ≤ MAX_METADATA → Spells (records_of 0 items) (metadata items)
+    → length (metadata items) ≤ MAX_METADATA → SpellsMetadata (records_of 0 items) (metadata items)
 is_spelled items good short =
     let most : length (metadata items) ≤ 16777216 = short in
     record {

@@ -2,29 +2,29 @@
 use Rattle.std.proofs.Common.{◌≡◌, ℕ, ◌+◌, Ok, Some, List, [], ◌∷◌, length, take, drop, refl, sym, ◌∙◌, ap, subst, arith}
 use Rattle.std.specs.Prelude.{Result, slice_index}
 use Rattle.std.proofs.lemmas.List.{ext_get_or}
-use Rattle.vt_folder.specs.Items.{Items, none, file, folder, other}
+use Rattle.vt_out.specs.FolderItems.{Items, none, file, folder, other}
 use Rattle.vt_tree.specs.declared.entry.Entry.{Entry}
-use Rattle.vt_tree.specs.declared.plain.Trouble.{Trouble}
+use Rattle.vt_tree.specs.declared.plain.ContentError.{ContentError}
 use Rattle.vt_tree.specs.declared.root.Root.{Root}
-use Rattle.vt_tree.specs.Content.{byte_of, AreGiven, IsContent}
-use Rattle.vt_tree.specs.Entries.{IsEntry, SpellsEntry}
+use Rattle.vt_tree.specs.Content.{byte_of, AreGiven, IsFileContent}
+use Rattle.vt_tree.specs.Entries.{IsTreeEntry, SpellsEntry}
 use Rattle.vt_tree.specs.Maps.{BlockMap}
-use Rattle.vt_tree.specs.Roots.{IsRoot, spelled as root_bytes}
+use Rattle.vt_tree.specs.Roots.{IsRoot, root_bytes}
 use Rattle.vac_meta.specs.declared.record.Record.{Record}
 use Rattle.vac_meta.specs.declared.record.RecordKind.{RecordKind}
 use Rattle.vac_meta.specs.declared.record.RecordKind.TheVariants.{File, Folder}
-use Rattle.vac_meta.specs.Records.{Spells}
+use Rattle.vac_meta.specs.Records.{SpellsMetadata}
 use Rattle.vac_model.specs.Kept.{Numbered}
 use Rattle.vac_model.specs.Trees.{HasEntry, HasFile, AreFolder, HasFolder, StandFor, IsTreeOf, entry_place}
 
 -- bytes that are given at one place are the same
-same_given : (byte : ℕ → Result ℕ Trouble) (at : ℕ) (x y : List ℕ) → length x ≡ length y
+same_given : (byte : ℕ → Result ℕ ContentError) (at : ℕ) (x y : List ℕ) → length x ≡ length y
     → AreGiven byte at x → AreGiven byte at y → x ≡ y
 same_given byte at x y len a b =
     ext_get_or 0 x y len (λ i within. ok_is_ok (slice_index x i) (slice_index y i)
     (byte (at + i)) (a i within) (b i (omega (arith, within, len))))
   where
-    ok_is_ok : (m n : ℕ) (r : Result ℕ Trouble) → r ≡ Ok m → r ≡ Ok n → m ≡ n
+    ok_is_ok : (m n : ℕ) (r : Result ℕ ContentError) → r ≡ Ok m → r ≡ Ok n → m ≡ n
     ok_is_ok m n r e f = cc
 
 some_is_some : {A : Type 0} (a b : A) → Some a ≡ Some b → a ≡ b
@@ -33,12 +33,12 @@ some_is_some a b e = cc
 file_is_no_folder : (kind : RecordKind) → kind ≡ File → kind ≡ Folder → ⊥
 file_is_no_folder kind a b = let e : File ≡ Folder = sym a ∙ b in cc
 
-module _ (one_entry : (a b : Entry) (bytes : List ℕ) → IsEntry a → IsEntry b
+module _ (one_entry : (a b : Entry) (bytes : List ℕ) → IsTreeEntry a → IsTreeEntry b
     → SpellsEntry a bytes → SpellsEntry b bytes → a ≡ b)
     (one_root : (a b : Root) → IsRoot a → IsRoot b → root_bytes a ≡ root_bytes b → a ≡ b)
-    (one_content : (map : BlockMap) (e : Entry) (a b : List ℕ) → IsContent map e a
-    → IsContent map e b → a ≡ b)
-    (one_metadata : (a b : List Record) (bytes : List ℕ) → Spells a bytes → Spells b bytes
+    (one_content : (map : BlockMap) (e : Entry) (a b : List ℕ) → IsFileContent map e a
+    → IsFileContent map e b → a ≡ b)
+    (one_metadata : (a b : List Record) (bytes : List ℕ) → SpellsMetadata a bytes → SpellsMetadata b bytes
     → a ≡ b)
   where
     module _ (map : BlockMap) where
@@ -55,14 +55,14 @@ module _ (one_entry : (a b : Entry) (bytes : List ℕ) → IsEntry a → IsEntry
       same_file stream i a b x y =
           let entry = same_entry stream i x.entry y.entry x.there y.there in
           one_content map x.entry a b x.content
-          (subst (λ (e : Entry). IsContent map e b) (sym entry) y.content)
+          (subst (λ (e : Entry). IsFileContent map e b) (sym entry) y.content)
 
       same_records : (entries e metadata : Entry) (a b : List Record)
           → AreFolder map entries metadata a → AreFolder map e metadata b → a ≡ b
       same_records entries e metadata a b x y =
           let bytes = one_content map metadata x.bytes y.bytes x.content y.content in
           one_metadata a b x.bytes x.spelled
-          (subst (λ (l : List ℕ). Spells b l) (sym bytes) y.spelled)
+          (subst (λ (l : List ℕ). SpellsMetadata b l) (sym bytes) y.spelled)
 
       same_folder : (stream : Entry) (i : ℕ) (e f : Entry) (a b : List Record)
           → HasFolder map stream i e a → HasFolder map stream i f b → (e ≡ f) × (a ≡ b)

@@ -6,16 +6,16 @@ use Rattle.std.proofs.Math.Nat.{div-add-mod', mod-lt}
 use Rattle.std.proofs.lemmas.List.Elements.{All-head, All-tail}
 use Rattle.std.proofs.lemmas.List.{length_push}
 use Rattle.std.proofs.lemmas.Nat.{div-mul-add}
-use Rattle.vt_folder.specs.Items.{Items, none, file, folder, other}
+use Rattle.vt_out.specs.FolderItems.{Items, none, file, folder, other}
 use Rattle.vt_model.specs.History.{Block}
 use Rattle.vt_tree.specs.declared.entry.Entry.{Entry}
-use Rattle.vt_tree.specs.Content.{byte_of, AreGiven, IsContent}
-use Rattle.vt_tree.specs.Entries.{IsEntry, SpellsEntry, spelled as entry_bytes}
+use Rattle.vt_tree.specs.Content.{byte_of, AreGiven, IsFileContent}
+use Rattle.vt_tree.specs.Entries.{IsTreeEntry, SpellsEntry, tree_entry_bytes}
 use Rattle.vt_tree.specs.Maps.{BlockMap, Has}
-use Rattle.vt_tree.specs.Roots.{spelled as root_bytes}
-use Rattle.vt_tree.specs.Streams.{Shape, FitsShape, depth_of, reach, stream_of, entry_of}
+use Rattle.vt_tree.specs.Roots.{root_bytes}
+use Rattle.vt_tree.specs.Streams.{Shape, FitsShape, depth_of, reach, stream_of, entry_of_stream}
 use Rattle.vac_model.specs.declared.TheConstants.{MAX_METADATA, MAX_NESTING}
-use Rattle.vac_model.specs.Archives.{file_shape, directory_shape, directory_entry, metadata_entry, entries_of, records_of, metadata, folder_blocks, blocks_of, top_bytes, root_of, archive_with}
+use Rattle.vac_model.specs.Archives.{file_shape, directory_shape, directory_entry, metadata_entry, item_entries, records_of, metadata, folder_blocks, blocks_of, top_bytes, root_of, archive_with}
 use Rattle.vac_model.specs.Good.{IsGood, AreGood}
 use Rattle.vac_model.specs.Kept.{Numbered}
 use Rattle.vac_model.specs.Trees.{HasEntry, AreFolder, StandFor, AreTopEntries, IsTreeOf, entry_place, nesting}
@@ -29,13 +29,13 @@ module _ (score_of : List ℕ → List ℕ) (map : BlockMap) (bsize : ℕ)
     → (depth_of shape size < 8) × (size ≤ reach shape (depth_of shape size)))
     (reads_back : (shape : Shape) (bytes : List ℕ) → FitsShape shape → length bytes ≤ 2 ^ 40
     → All (Has score_of map) (stream_of score_of shape bytes).blocks
-    → IsContent map (entry_of score_of shape bytes) bytes)
+    → IsFileContent map (entry_of_stream score_of shape bytes) bytes)
   where
     abbrev HasAll : List Block → Type 0
     HasAll blocks = All (Has score_of map) blocks
 
     abbrev entries : Items Numbered → List Entry
-    entries items = entries_of score_of bsize items
+    entries items = item_entries score_of bsize items
 
     abbrev directory : Items Numbered → Entry
     directory items = directory_entry score_of bsize (entries items)
@@ -43,14 +43,14 @@ module _ (score_of : List ℕ → List ℕ) (map : BlockMap) (bsize : ℕ)
     -- ---- entries
 
     file_entry : (bytes : List ℕ) → length bytes ≤ 2 ^ 40
-        → IsEntry (entry_of score_of (file_shape bsize) bytes)
+        → IsTreeEntry (entry_of_stream score_of (file_shape bsize) bytes)
     file_entry bytes short =
         stream_entry score_of len depth_is_least (file_shape bsize) bytes
         (fits_file bsize least most)
         short
 
     dir_entry : (bytes : List ℕ) → length bytes ≤ 2 ^ 40
-        → IsEntry (entry_of score_of (directory_shape bsize) bytes)
+        → IsTreeEntry (entry_of_stream score_of (directory_shape bsize) bytes)
     dir_entry bytes short =
         stream_entry score_of len depth_is_least (directory_shape bsize) bytes
         (fits_directory bsize least most) short
@@ -62,22 +62,22 @@ module _ (score_of : List ℕ → List ℕ) (map : BlockMap) (bsize : ℕ)
     entries_width (other about others) = entries_width others
 
     -- the entry of a folder's directory, and that of its metadata
-    folder_entries : (items : Items Numbered) → AllByRecursion IsEntry (entries items)
+    folder_entries : (items : Items Numbered) → AllByRecursion IsTreeEntry (entries items)
         → length (metadata items) ≤ MAX_METADATA
-        → (length (flat_map entry_bytes (entries items)) ≤ 2 ^ 40) × IsEntry (directory items)
-        × IsEntry (metadata_entry score_of bsize items)
+        → (length (flat_map tree_entry_bytes (entries items)) ≤ 2 ^ 40) × IsTreeEntry (directory items)
+        × IsTreeEntry (metadata_entry score_of bsize items)
     folder_entries items all short =
         let few : length (metadata items) ≤ 16777216 = short in
-        let size : length (flat_map entry_bytes (entries items)) ≤ 2 ^ 40 =
+        let size : length (flat_map tree_entry_bytes (entries items)) ≤ 2 ^ 40 =
         omega (arith, entries_len (entries items) all, entries_width items, width_fits items short)
         in (
           size,
-          dir_entry (flat_map entry_bytes (entries items)) size,
+          dir_entry (flat_map tree_entry_bytes (entries items)) size,
           file_entry (metadata items) (omega (arith, few)),
         )
 
     are_entries : (last : Option (List ℕ)) (items : Items Numbered) → AreGood last items
-        → AllByRecursion IsEntry (entries items)
+        → AllByRecursion IsTreeEntry (entries items)
     are_entries last none good = tt
     are_entries last (file about bytes others) good =
         (file_entry bytes good.1, are_entries (Some about.facts.name) others good.2)
@@ -87,41 +87,41 @@ module _ (score_of : List ℕ → List ℕ) (map : BlockMap) (bsize : ℕ)
     are_entries last (other about others) good = absurd good
 
     -- an entry of a folder stands in its directory
-    has_entry : (all : List Entry) → AllByRecursion IsEntry all
-        → length (flat_map entry_bytes all) ≤ 2 ^ 40
-        → HasAll (stream_of score_of (directory_shape bsize) (flat_map entry_bytes all)).blocks
+    has_entry : (all : List Entry) → AllByRecursion IsTreeEntry all
+        → length (flat_map tree_entry_bytes all) ≤ 2 ^ 40
+        → HasAll (stream_of score_of (directory_shape bsize) (flat_map tree_entry_bytes all)).blocks
         → (front : List Entry) (e : Entry) (back : List Entry) → all ≡ front ++ e ∷ back
         → HasEntry map (directory_entry score_of bsize all) (length front) e
     has_entry all are short has front e back is =
         let stream = directory_entry score_of bsize all in
-        let bytes : List ℕ = flat_map entry_bytes all in
-        let content : IsContent map stream bytes =
+        let bytes : List ℕ = flat_map tree_entry_bytes all in
+        let content : IsFileContent map stream bytes =
         reads_back (directory_shape bsize) bytes (fits_directory bsize least most) short has in
-        let each = all_front (front) (e ∷ back) (subst (AllByRecursion IsEntry) is are) in
+        let each = all_front (front) (e ∷ back) (subst (AllByRecursion IsTreeEntry) is are) in
         let i : ℕ = length front in
-        let before : length (flat_map entry_bytes front) ≡ 40 * i = entries_len front each.0 in
-        let forty : length (entry_bytes e) ≡ 40 = entry_len e each.1.0 in
+        let before : length (flat_map tree_entry_bytes front) ≡ 40 * i = entries_len front each.0 in
+        let forty : length (tree_entry_bytes e) ≡ 40 = entry_len e each.1.0 in
         let split : bytes
-        ≡ flat_map entry_bytes front ++ (entry_bytes e ++ flat_map entry_bytes back) =
-        ap (flat_map entry_bytes) is ∙ flat_split front e back in
+        ≡ flat_map tree_entry_bytes front ++ (tree_entry_bytes e ++ flat_map tree_entry_bytes back) =
+        ap (flat_map tree_entry_bytes) is ∙ flat_split front e back in
         let place : entry_place stream i ≡ 40 * i = place_in i in
         record {
-          bytes = entry_bytes e;
+          bytes = tree_entry_bytes e;
           within = omega (
             arith,
             place,
             before,
             forty,
             ap length split,
-            length-append (flat_map entry_bytes front)
-                (entry_bytes e ++ flat_map entry_bytes back),
-            length-append (entry_bytes e) (flat_map entry_bytes back),
+            length-append (flat_map tree_entry_bytes front)
+                (tree_entry_bytes e ++ flat_map tree_entry_bytes back),
+            length-append (tree_entry_bytes e) (flat_map tree_entry_bytes back),
           );
           forty = forty;
-          given = subst (λ (at : ℕ). AreGiven (byte_of map stream) at (entry_bytes e))
+          given = subst (λ (at : ℕ). AreGiven (byte_of map stream) at (tree_entry_bytes e))
               (before ∙ sym place)
-              (part_given (byte_of map stream) (flat_map entry_bytes front) (entry_bytes e)
-              (flat_map entry_bytes back)
+              (part_given (byte_of map stream) (flat_map tree_entry_bytes front) (tree_entry_bytes e)
+              (flat_map tree_entry_bytes back)
               (subst (λ (l : List ℕ). AreGiven (byte_of map stream) 0 l) split content.each));
           allowed = each.1.0;
           spelled = spells e;
@@ -143,8 +143,8 @@ module _ (score_of : List ℕ → List ℕ) (map : BlockMap) (bsize : ℕ)
             ap (λ (k : ℕ). i / k * (bsize / 40 * 40) + 40 * (i % k)) each
             ∙ place_is (bsize / 40) i some
 
-        all_front : (front back : List Entry) → AllByRecursion IsEntry (front ++ back)
-            → AllByRecursion IsEntry front × AllByRecursion IsEntry back
+        all_front : (front back : List Entry) → AllByRecursion IsTreeEntry (front ++ back)
+            → AllByRecursion IsTreeEntry front × AllByRecursion IsTreeEntry back
         all_front [] back all = (tt, all)
         all_front (f ∷ front) back all =
             let two = all_front front back all.1 in ((all.0, two.0), two.1)
@@ -169,7 +169,7 @@ module _ (score_of : List ℕ → List ℕ) (map : BlockMap) (bsize : ℕ)
               (omega (arith, few))
               (all_right (Has score_of map)
               (stream_of score_of (directory_shape bsize)
-              (flat_map entry_bytes (entries items))).blocks
+              (flat_map tree_entry_bytes (entries items))).blocks
               (stream_of score_of (file_shape bsize) (metadata items)).blocks has);
           spelled = is_spelled items good short;
         }
@@ -184,7 +184,7 @@ module _ (score_of : List ℕ → List ℕ) (map : BlockMap) (bsize : ℕ)
         let are = are_entries None items good in
         has_entry (entries items) are (folder_entries items are short).0
         (all_left (Has score_of map)
-        (stream_of score_of (directory_shape bsize) (flat_map entry_bytes (entries items))).blocks
+        (stream_of score_of (directory_shape bsize) (flat_map tree_entry_bytes (entries items))).blocks
         (stream_of score_of (file_shape bsize) (metadata items)).blocks has)
 
     says : (last : Option (List ℕ)) (about : Numbered) → IsGood last about → about ≡ record {
@@ -219,7 +219,7 @@ module _ (score_of : List ℕ → List ℕ) (map : BlockMap) (bsize : ℕ)
     stand last none stream all front good is there has = tt
     stand last (other about others) stream all front good is there has = absurd good
     stand last (file about bytes others) stream all front good is there has =
-        let e : Entry = entry_of score_of (file_shape bsize) bytes in
+        let e : Entry = entry_of_stream score_of (file_shape bsize) bytes in
         let name = Some about.facts.name in
         let rest = stand name others stream all (front ++ e ∷ []) good.2
         (is ∙ sym (append_assoc front (e ∷ []) (entries others))) there
@@ -282,14 +282,14 @@ module _ (score_of : List ℕ → List ℕ) (map : BlockMap) (bsize : ℕ)
 
     -- ---- the root
 
-    two_entries : (items : Items Numbered) → IsEntry (directory items)
-        → IsEntry (metadata_entry score_of bsize items)
+    two_entries : (items : Items Numbered) → IsTreeEntry (directory items)
+        → IsTreeEntry (metadata_entry score_of bsize items)
         → Has score_of map (record { kind = 2; bytes = top_bytes score_of bsize items })
         → AreTopEntries map (score_of (top_bytes score_of bsize items)) (directory items)
         (metadata_entry score_of bsize items)
     two_entries items d m has =
-        let one : List ℕ = entry_bytes (directory items) in
-        let two : List ℕ = entry_bytes (metadata_entry score_of bsize items) in
+        let one : List ℕ = tree_entry_bytes (directory items) in
+        let two : List ℕ = tree_entry_bytes (metadata_entry score_of bsize items) in
         let long_one : length one ≡ 40 = entry_len (directory items) d in
         let long_two : length two ≡ 40 = entry_len (metadata_entry score_of bsize items) m in
         let first : take 40 (one ++ two) ≡ one = take_at one two 40 long_one in

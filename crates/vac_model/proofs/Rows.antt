@@ -3,8 +3,8 @@
 -- apart by a score of their length and bytes; no bytes have the score that SHA-1 gives them.
 use Rattle.std.specs.Prelude.{ℕ, ◌≡◌, ◌+◌, ◌*◌, List, [], ◌∷◌, ◌++◌, codes, length, replicate, refl}
 use Rattle.byteorder.specs.Endian.{big_bytes}
-use Rattle.vt_folder.specs.declared.item.Facts.{Facts}
-use Rattle.vt_folder.specs.Items.{Items, none, file, folder, other}
+use Rattle.vt_out.specs.declared.folder_item.Facts.{Facts}
+use Rattle.vt_out.specs.FolderItems.{Items, none, file, folder, other}
 use Rattle.vac_model.specs.Archives.{archive_of}
 use Rattle.vac_model.specs.Kept.{skipped}
 

@@ -7,10 +7,10 @@ use Rattle.std.proofs.lemmas.Bool.{le-ltb}
 use Rattle.std.proofs.lemmas.List.{get_or-append-add, get_or_append_left}
 use Rattle.std.proofs.lemmas.List.Elements.{All-head, All-tail, All-nil, All-cons}
 use Rattle.vt_tree.specs.declared.entry.Entry.{Entry}
-use Rattle.vt_tree.specs.declared.plain.Trouble.{Trouble}
+use Rattle.vt_tree.specs.declared.plain.ContentError.{ContentError}
 use Rattle.vt_tree.specs.Content.{AreGiven}
-use Rattle.vt_tree.specs.Entries.{IsEntry, SpellsEntry, flags_of, spelled as entry_bytes, spelled_with}
-use Rattle.vt_tree.specs.Streams.{Shape, FitsShape, depth_of, reach, tree_of, entry_of}
+use Rattle.vt_tree.specs.Entries.{IsTreeEntry, SpellsEntry, flags_of, tree_entry_bytes, spelled_with}
+use Rattle.vt_tree.specs.Streams.{Shape, FitsShape, depth_of, reach, tree_of, entry_of_stream}
 use Rattle.vac_model.specs.Archives.{file_shape, directory_shape}
 
 -- ---- shapes
@@ -52,7 +52,7 @@ all_right P [] ys all = all
 all_right P (x ∷ xs) ys all = all_right P xs ys (All-tail P x (xs ++ ys) all)
 
 -- a part of bytes that are given is given at its place
-pub part_given : (byte : ℕ → Result ℕ Trouble) (xs ys zs : List ℕ)
+pub part_given : (byte : ℕ → Result ℕ ContentError) (xs ys zs : List ℕ)
     → AreGiven byte 0 (xs ++ (ys ++ zs)) → AreGiven byte (length xs) ys
 part_given byte xs ys zs all i within =
     let len : length xs + i < length (xs ++ (ys ++ zs)) =
@@ -73,7 +73,7 @@ module _ (score_of : List ℕ → List ℕ) (len : (block : List ℕ) → length
         → (depth_of shape size < 8) × (size ≤ reach shape (depth_of shape size))) where
       -- the entry of a stream may stand in a directory
       pub stream_entry : (shape : Shape) (bytes : List ℕ) → FitsShape shape
-          → length bytes ≤ 2 ^ 40 → IsEntry (entry_of score_of shape bytes)
+          → length bytes ≤ 2 ^ 40 → IsTreeEntry (entry_of_stream score_of shape bytes)
       stream_entry shape bytes fits short =
           let most : shape.psize ≤ 57344 = fits.psize_most in
           let most_d : shape.dsize ≤ 57344 = fits.dsize_most in
@@ -101,7 +101,7 @@ module _ (score_of : List ℕ → List ℕ) (len : (block : List ℕ) → length
           small false = omega arith
 
 -- the bytes of an entry spell it
-pub spells : (e : Entry) → SpellsEntry e (entry_bytes e)
+pub spells : (e : Entry) → SpellsEntry e (tree_entry_bytes e)
 spells e = record {
   flag_20 = false;
   flag_80 = false;
@@ -113,16 +113,16 @@ spells e = record {
     no_flags : (n : ℕ) → n ≡ n + 32 * 0 + 128 * 0
     no_flags n = omega arith
 
-pub entry_len : (e : Entry) → IsEntry e → length (entry_bytes e) ≡ 40
+pub entry_len : (e : Entry) → IsTreeEntry e → length (tree_entry_bytes e) ≡ 40
 entry_len e is = omega (arith, is.ranges.score)
 
-pub entries_len : (entries : List Entry) → AllByRecursion IsEntry entries
-    → length (flat_map entry_bytes entries) ≡ 40 * length entries
+pub entries_len : (entries : List Entry) → AllByRecursion IsTreeEntry entries
+    → length (flat_map tree_entry_bytes entries) ≡ 40 * length entries
 entries_len [] all = refl
 entries_len (e ∷ entries) all =
     omega (
       arith,
-      length-append (entry_bytes e) (flat_map entry_bytes entries),
+      length-append (tree_entry_bytes e) (flat_map tree_entry_bytes entries),
       entry_len e all.0,
       entries_len entries all.1,
     )
@@ -136,10 +136,10 @@ place_is q i some =
     omega (arith, d, moved)
 
 pub flat_split : (front : List Entry) (e : Entry) (back : List Entry)
-    → flat_map entry_bytes (front ++ e ∷ back)
-    ≡ flat_map entry_bytes front ++ (entry_bytes e ++ flat_map entry_bytes back)
+    → flat_map tree_entry_bytes (front ++ e ∷ back)
+    ≡ flat_map tree_entry_bytes front ++ (tree_entry_bytes e ++ flat_map tree_entry_bytes back)
 flat_split [] e back = refl
 flat_split (f ∷ front) e back =
-    ap (λ (l : List ℕ). entry_bytes f ++ l) (flat_split front e back)
-    ∙ sym (append_assoc (entry_bytes f) (flat_map entry_bytes front)
-    (entry_bytes e ++ flat_map entry_bytes back))
+    ap (λ (l : List ℕ). tree_entry_bytes f ++ l) (flat_split front e back)
+    ∙ sym (append_assoc (tree_entry_bytes f) (flat_map tree_entry_bytes front)
+    (tree_entry_bytes e ++ flat_map tree_entry_bytes back))

@@ -2,15 +2,15 @@
 -- of the entries of its items, and one of records that tell what the items are.
 use Rattle.std.specs.Prelude.{ℕ, ◌+◌, ◌*◌, ◌/◌, true, false, List, [], ◌∷◌, ◌++◌, codes}
 use Rattle.std.specs.List.{flat_map}
-use Rattle.vt_fields.specs.Filled.{filled}
-use Rattle.vt_folder.specs.declared.item.Facts.{Facts}
-use Rattle.vt_folder.specs.Items.{Items, none, file, folder, other}
+use Rattle.vt_base.specs.Filled.{filled}
+use Rattle.vt_out.specs.declared.folder_item.Facts.{Facts}
+use Rattle.vt_out.specs.FolderItems.{Items, none, file, folder, other}
 use Rattle.vt_model.specs.History.{Block}
 use Rattle.vt_tree.specs.declared.entry.Entry.{Entry}
 use Rattle.vt_tree.specs.declared.root.Root.{Root}
-use Rattle.vt_tree.specs.Entries.{spelled as entry_bytes}
-use Rattle.vt_tree.specs.Roots.{spelled as root_bytes}
-use Rattle.vt_tree.specs.Streams.{Shape, stream_of, entry_of}
+use Rattle.vt_tree.specs.Entries.{tree_entry_bytes}
+use Rattle.vt_tree.specs.Roots.{root_bytes}
+use Rattle.vt_tree.specs.Streams.{Shape, stream_of, entry_of_stream}
 use Rattle.vac_meta.specs.declared.record.Record.{Record}
 use Rattle.vac_meta.specs.declared.record.RecordKind.{RecordKind}
 use Rattle.vac_meta.specs.declared.record.RecordKind.TheVariants.{File, Folder}
@@ -29,8 +29,8 @@ directory_shape bsize =
 -- ---- a folder's metadata
 
 -- the record of an item of this kind, whose first entry has this number
-abbrev pub record_of : Numbered → RecordKind → (entry : ℕ) → Record
-record_of about kind entry = record {
+abbrev pub item_record : Numbered → RecordKind → (entry : ℕ) → Record
+item_record about kind entry = record {
   name = about.facts.name;
   kind = kind;
   entry = entry;
@@ -44,8 +44,8 @@ record_of about kind entry = record {
 -- the records of items whose entries are numbered from n on: a file has one, a folder two
 abbrev pub records_of : (n : ℕ) → Items Numbered → List Record
 records_of n none = []
-records_of n (file about bytes others) = record_of about File n ∷ records_of (n + 1) others
-records_of n (folder about inside others) = record_of about Folder n ∷ records_of (n + 2) others
+records_of n (file about bytes others) = item_record about File n ∷ records_of (n + 1) others
+records_of n (folder about inside others) = item_record about Folder n ∷ records_of (n + 2) others
 records_of n (other about others) = records_of n others
 
 abbrev pub metadata : Items Numbered → List ℕ
@@ -56,27 +56,28 @@ metadata items = all_spelled (records_of 0 items)
 module _ (score_of : List ℕ → List ℕ) (bsize : ℕ) where
   -- the entry of a folder's metadata, and that of its entries
   abbrev pub metadata_entry : Items Numbered → Entry
-  metadata_entry items = entry_of score_of (file_shape bsize) (metadata items)
+  metadata_entry items = entry_of_stream score_of (file_shape bsize) (metadata items)
 
   abbrev pub directory_entry : List Entry → Entry
   directory_entry entries =
-      entry_of score_of (directory_shape bsize) (flat_map entry_bytes entries)
+      entry_of_stream score_of (directory_shape bsize) (flat_map tree_entry_bytes entries)
 
   -- the entries of items: a folder's are those of its entries and of its metadata
-  abbrev pub entries_of : Items Numbered → List Entry
-  entries_of none = []
-  entries_of (file about bytes others) =
-      entry_of score_of (file_shape bsize) bytes ∷ entries_of others
-  entries_of (folder about inside others) =
-      directory_entry (entries_of inside) ∷ (metadata_entry inside ∷ entries_of others)
-  entries_of (other about others) = entries_of others
+  abbrev pub item_entries : Items Numbered → List Entry
+  item_entries none = []
+  item_entries (file about bytes others) =
+      entry_of_stream score_of (file_shape bsize) bytes ∷ item_entries others
+  item_entries (folder about inside others) =
+      directory_entry (item_entries inside) ∷ (metadata_entry inside ∷ item_entries others)
+  item_entries (other about others) = item_entries others
 
   -- ---- blocks
 
   -- the blocks of a folder's two streams
   abbrev pub folder_blocks : Items Numbered → List Block
   folder_blocks items =
-      (stream_of score_of (directory_shape bsize) (flat_map entry_bytes (entries_of items))).blocks
+      (stream_of score_of (directory_shape bsize)
+      (flat_map tree_entry_bytes (item_entries items))).blocks
       ++ (stream_of score_of (file_shape bsize) (metadata items)).blocks
 
   -- the blocks of items and of all that is inside them, a folder's behind what is inside it
@@ -91,7 +92,8 @@ module _ (score_of : List ℕ → List ℕ) (bsize : ℕ) where
   -- the block of the top folder's two entries
   abbrev pub top_bytes : Items Numbered → List ℕ
   top_bytes items =
-      entry_bytes (directory_entry (entries_of items)) ++ entry_bytes (metadata_entry items)
+      tree_entry_bytes (directory_entry (item_entries items))
+      ++ tree_entry_bytes (metadata_entry items)
 
   abbrev pub root_of : (top : List ℕ) → Root
   root_of top = record {

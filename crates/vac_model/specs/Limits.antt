@@ -2,8 +2,8 @@
 use Rattle.std.specs.Prelude.{ℕ, ◌≡◌, ◌≤◌, ◌<◌, ◌^◌, ◌+◌, ◌==◌, ◌||◌, nat_le, nat_lt, is_some, Bool, if◌then◌else◌, Option, Some, None, List, [], ⊤, length, position}
 use Rattle.std.specs.Option.{option_or}
 use Rattle.std.specs.Str.{bytes_eq}
-use Rattle.vt_folder.specs.declared.item.Facts.{Facts}
-use Rattle.vt_folder.specs.Items.{Items, none, file, folder, other}
+use Rattle.vt_out.specs.declared.folder_item.Facts.{Facts}
+use Rattle.vt_out.specs.FolderItems.{Items, none, file, folder, other}
 use Rattle.vac_meta.specs.declared.TheConstants.{MAX_NAME}
 use Rattle.vac_meta.specs.Records.{is_barred}
 use Rattle.vac_model.specs.declared.TheConstants.{MAX_FILE, MAX_METADATA, MAX_NESTING, MIN_BLOCK_SIZE, MAX_BLOCK_SIZE}
@@ -34,14 +34,15 @@ is_bad last about =
     || nat_lt MAX_NAME (length about.gid)
 
 -- the first item of a folder that can't stand there, by its name
-abbrev pub first_bad : (last : Option (List ℕ)) → Items Facts → Option (List ℕ)
-first_bad last none = None
-first_bad last (file about bytes others) =
-    if is_bad last about then Some about.name else first_bad (Some about.name) others
-first_bad last (folder about inside others) =
-    if is_bad last about then Some about.name else first_bad (Some about.name) others
-first_bad last (other about others) =
-    if is_bad_behind last about.name then Some about.name else first_bad (Some about.name) others
+abbrev pub first_bad_item : (last : Option (List ℕ)) → Items Facts → Option (List ℕ)
+first_bad_item last none = None
+first_bad_item last (file about bytes others) =
+    if is_bad last about then Some about.name else first_bad_item (Some about.name) others
+first_bad_item last (folder about inside others) =
+    if is_bad last about then Some about.name else first_bad_item (Some about.name) others
+first_bad_item last (other about others) =
+    if is_bad_behind last about.name then Some about.name else first_bad_item (Some about.name)
+    others
 
 abbrev pub unfit_name : (path : List ℕ) → Option (List ℕ) → (len : ℕ) → Option Unfit
 unfit_name path (Some name) len = Some (bad_name (path_to path name))
@@ -50,7 +51,7 @@ unfit_name path None len = if nat_lt MAX_METADATA len then Some too_long else No
 -- what makes the items of a folder unfit, without what is inside them
 abbrev pub unfit_listing : (path : List ℕ) → Items Facts → Option Unfit
 unfit_listing path items =
-    unfit_name path (first_bad None items) (length (metadata (numbered 1 (kept items))))
+    unfit_name path (first_bad_item None items) (length (metadata (numbered 1 (kept items))))
 
 -- The first thing that makes the files and folders among items, of a folder of this path and depth,
 -- unfit: a folder is looked at whole before what is in it.

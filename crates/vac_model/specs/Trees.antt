@@ -1,16 +1,16 @@
 -- The folder that a root stands for (vacfs(4)).
 use Rattle.std.specs.Prelude.{ℕ, ◌≡◌, ◌+◌, ◌*◌, ◌/◌, ◌%◌, ◌≤◌, max, bit_and, true, false, ⊤, Some, List, [], ◌∷◌, codes, take, drop, length}
-use Rattle.vt_fields.specs.Filled.{filled}
-use Rattle.vt_folder.specs.Items.{Items, none, file, folder, other}
+use Rattle.vt_base.specs.Filled.{filled}
+use Rattle.vt_out.specs.FolderItems.{Items, none, file, folder, other}
 use Rattle.vt_tree.specs.declared.entry.Entry.{Entry}
 use Rattle.vt_tree.specs.declared.root.Root.{Root}
-use Rattle.vt_tree.specs.Content.{size_of, byte_of, AreGiven, IsContent}
-use Rattle.vt_tree.specs.Entries.{IsEntry, SpellsEntry}
+use Rattle.vt_tree.specs.Content.{size_of, byte_of, AreGiven, IsFileContent}
+use Rattle.vt_tree.specs.Entries.{IsTreeEntry, SpellsEntry}
 use Rattle.vt_tree.specs.Maps.{BlockMap}
-use Rattle.vt_tree.specs.Roots.{IsRoot, spelled as root_bytes}
+use Rattle.vt_tree.specs.Roots.{IsRoot, root_bytes}
 use Rattle.vac_meta.specs.declared.record.Record.{Record}
 use Rattle.vac_meta.specs.declared.record.RecordKind.TheVariants.{File, Folder}
-use Rattle.vac_meta.specs.Records.{Spells}
+use Rattle.vac_meta.specs.Records.{SpellsMetadata}
 use Rattle.vac_model.specs.declared.TheConstants.{MAX_FILE, MAX_METADATA, MAX_NESTING, MIN_BLOCK_SIZE, MAX_BLOCK_SIZE}
 use Rattle.vac_model.specs.Kept.{Numbered}
 
@@ -27,7 +27,7 @@ pub record HasEntry (map : BlockMap) (stream : Entry) (i : ℕ) (e : Entry) : Ty
   pub within : entry_place stream i + 40 ≤ size_of stream
   pub forty : length bytes ≡ 40
   pub given : AreGiven (byte_of map stream) (entry_place stream i) bytes
-  pub allowed : IsEntry e
+  pub allowed : IsTreeEntry e
   pub spelled : SpellsEntry e bytes
 
 -- it is that of a file with these bytes
@@ -36,7 +36,7 @@ pub record HasFile (map : BlockMap) (stream : Entry) (i : ℕ) (bytes : List ℕ
   pub there : HasEntry map stream i entry
   pub plain : entry.is_dir ≡ false
   pub short : size_of entry ≤ MAX_FILE
-  pub content : IsContent map entry bytes
+  pub content : IsFileContent map entry bytes
 
 -- two entries are those of a folder whose metadata has these records
 pub record AreFolder (map : BlockMap) (entries metadata : Entry) (records : List Record)
@@ -46,8 +46,8 @@ pub record AreFolder (map : BlockMap) (entries metadata : Entry) (records : List
   pub plain : metadata.is_dir ≡ false
   pub bytes : List ℕ
   pub short : length bytes ≤ MAX_METADATA
-  pub content : IsContent map metadata bytes
-  pub spelled : Spells records bytes
+  pub content : IsFileContent map metadata bytes
+  pub spelled : SpellsMetadata records bytes
 
 -- entry i and the one behind it are those of a folder with these records
 pub record HasFolder (map : BlockMap) (stream : Entry) (i : ℕ) (entries : Entry)
@@ -110,9 +110,9 @@ pub record AreTopEntries (map : BlockMap) (score : List ℕ) (entries metadata :
   pub bytes : List ℕ
   pub block : map score 2 ≡ Some bytes
   pub long : 80 ≤ length bytes
-  pub first_allowed : IsEntry entries
+  pub first_allowed : IsTreeEntry entries
   pub first : SpellsEntry entries (take 40 bytes)
-  pub second_allowed : IsEntry metadata
+  pub second_allowed : IsTreeEntry metadata
   pub second : SpellsEntry metadata (take 40 (drop 40 bytes))
 
 -- the archive of this score is one of these items, in folders at most 256 deep

@@ -6,49 +6,49 @@ use Rattle.std.proofs.lemmas.List.{get_or-take, get_or-drop, length-take, length
 use Rattle.std.proofs.lemmas.Nat.{div-mul-add, mod-mul-add}
 use Rattle.std.specs.Prelude.{slice_index}
 use Rattle.vt_tree.specs.declared.entry.Entry.{Entry}
-use Rattle.vt_tree.specs.declared.entry.BadEntry.{BadEntry}
+use Rattle.vt_tree.specs.declared.entry.EntryError.{EntryError}
 use Rattle.vt_tree.specs.declared.entry.EntryField.TheVariants.{PSize, DSize}
-use Rattle.vt_tree.specs.declared.err.TreeErr.{TreeErr}
-use Rattle.vt_tree.specs.declared.err.TreeErr.TheVariants as trees
-use Rattle.vt_tree.specs.declared.plain.Trouble.{Trouble}
-use Rattle.vt_tree.specs.declared.plain.Trouble.TheVariants.{Absent, BadBlock}
+use Rattle.vt_tree.specs.declared.error.TreeErr.{TreeErr}
+use Rattle.vt_tree.specs.declared.error.TreeErr.TheVariants as trees
+use Rattle.vt_tree.specs.declared.plain.ContentError.{ContentError}
+use Rattle.vt_tree.specs.declared.plain.ContentError.TheVariants.{Absent, BadBlock}
 use Rattle.vt_tree.specs.Content.{FirstTrouble, byte_below, byte_of, byte_of_leaf, fits_at, leaf_kind, pointer_kind, score_of_pointers, scores_in, size_of, through}
 use Rattle.vt_tree.specs.Entries.{SpellsEntry, bad}
 use Rattle.vt_tree.specs.Maps.{BlockMap}
-use Rattle.vt_tree.specs.Reading.{Gives, refusal_in}
+use Rattle.vt_tree.specs.Reading.{GivesBytes, refusal_in}
 use Rattle.vac_model.specs.Trees.{entry_place}
-use Rattle.vac_read.specs.declared.err.VacBad.{VacBad}
-use Rattle.vac_read.specs.declared.err.VacBad.TheVariants.{Tree, Root, Meta, NoMemory}
-use Rattle.vac_read.specs.Broken.{HasEntryBytes, IsUnread, LacksEntry}
+use Rattle.vac_read.specs.declared.error.VacBad.{VacBad}
+use Rattle.vac_read.specs.declared.error.VacBad.TheVariants.{Tree, Root, Meta, NoMemory}
+use Rattle.vac_read.specs.Broken.{HasEntryBytes, IsUnread, LacksDirectoryEntry}
 use Rattle.vac_read.specs.Folders.{IsLeaf, IsPlace, TellsBytes, TellsEntry}
 use Rattle.vac_read.specs.Nodes.{IsDirectory}
 use Rattle.vac_read.specs.Reading.{refused_by}
 
 -- ---- a trouble is that of a whole leaf
 
-fitting_trouble : (fits : Bool) (x y : ℕ) (other t : Trouble)
+fitting_trouble : (fits : Bool) (x y : ℕ) (other t : ContentError)
     → (if fits then Ok x else Err other) ≡ Err t → (if fits then Ok y else Err other) ≡ Err t
 fitting_trouble true x y other t is =
-    let never : ◌≡◌ {A = Result ℕ Trouble} (Ok x) (Err t) = is in cc
+    let never : ◌≡◌ {A = Result ℕ ContentError} (Ok x) (Err t) = is in cc
 fitting_trouble false x y other t is = is
 
-leaf_trouble : (e : Entry) (block : Option (List ℕ)) (a b : ℕ) (t : Trouble)
+leaf_trouble : (e : Entry) (block : Option (List ℕ)) (a b : ℕ) (t : ContentError)
     → byte_of_leaf e a block ≡ Err t → byte_of_leaf e b block ≡ Err t
 leaf_trouble e None a b t is = is
 leaf_trouble e (Some block) a b t is =
     fitting_trouble (fits_at e 0 block) (slice_index block a) (slice_index block b)
     (BadBlock 0 (length block)) t is
 
-through_trouble : (r : Result (Option (List ℕ)) Trouble) (f g : List ℕ → Result ℕ Trouble)
-    (t : Trouble) → ((s : List ℕ) → f s ≡ Err t → g s ≡ Err t)
+through_trouble : (r : Result (Option (List ℕ)) ContentError) (f g : List ℕ → Result ℕ ContentError)
+    (t : ContentError) → ((s : List ℕ) → f s ≡ Err t → g s ≡ Err t)
     → through r f ≡ Err t → through r g ≡ Err t
 through_trouble (Err trouble) f g t same is = is
 through_trouble (Ok None) f g t same is =
-    let never : ◌≡◌ {A = Result ℕ Trouble} (Ok 0) (Err t) = is in cc
+    let never : ◌≡◌ {A = Result ℕ ContentError} (Ok 0) (Err t) = is in cc
 through_trouble (Ok (Some s)) f g t same is = same s is
 
 below_trouble : (map : BlockMap) (e : Entry) (depth : ℕ) (score : List ℕ) (leaf a b : ℕ)
-    (t : Trouble) → byte_below map e depth score leaf a ≡ Err t
+    (t : ContentError) → byte_below map e depth score leaf a ≡ Err t
     → byte_below map e depth score leaf b ≡ Err t
 below_trouble map e zero score leaf a b t is =
     leaf_trouble e (map score (leaf_kind e.is_dir)) a b t is
@@ -60,7 +60,7 @@ below_trouble map e (suc d) score leaf a b t is =
     (λ s. below_trouble map e d s (leaf % leaves) a b t) is
 
 -- the byte at this place of this leaf
-byte_at : BlockMap → Entry → (leaf byte : ℕ) → Result ℕ Trouble
+byte_at : BlockMap → Entry → (leaf byte : ℕ) → Result ℕ ContentError
 byte_at map e leaf byte =
     if nat_lt leaf (scores_in e.psize ^ e.depth) then byte_below map e e.depth e.score.0 leaf byte
     else Ok 0
@@ -73,13 +73,13 @@ byte_inside map e leaf byte within =
     (div-mul-add leaf e.dsize byte within)
     ∙ ap (λ (n : ℕ). byte_at map e leaf n) (mod-mul-add leaf e.dsize byte within)
 
-reached_trouble : (reached : Bool) (r s : Result ℕ Trouble) (t : Trouble)
+reached_trouble : (reached : Bool) (r s : Result ℕ ContentError) (t : ContentError)
     → (r ≡ Err t → s ≡ Err t) → (if reached then r else Ok 0) ≡ Err t
     → (if reached then s else Ok 0) ≡ Err t
 reached_trouble true r s t same is = same is
 reached_trouble false r s t same is = is
 
-byte_trouble : (map : BlockMap) (e : Entry) (leaf a b : ℕ) (t : Trouble) → a < e.dsize
+byte_trouble : (map : BlockMap) (e : Entry) (leaf a b : ℕ) (t : ContentError) → a < e.dsize
     → b < e.dsize → byte_of map e (leaf * e.dsize + a) ≡ Err t
     → byte_of map e (leaf * e.dsize + b) ≡ Err t
 unfolding byte_at
@@ -92,7 +92,7 @@ byte_trouble map e leaf a b t a_in b_in is =
 
 -- ---- entries
 
-ok : ℕ → Result ℕ Trouble
+ok : ℕ → Result ℕ ContentError
 ok n = Ok n
 
 -- what is kept, where it begins there
@@ -105,7 +105,7 @@ kept_leaf map stream start at leaf some same (inr is) =
     subst (λ (n : ℕ). IsLeaf map stream n leaf) same is
 
 -- a directory with bytes has whole entries in its leaves
-no_fault : (active pointers leaves : Bool) (x y : BadEntry)
+no_fault : (active pointers leaves : Bool) (x y : EntryError)
     → (if not active then None else if pointers then Some x else if leaves then Some y else None)
     ≡ None → leaves ≡ true → active ≡ false
 no_fault false pointers leaves x y none bad = refl
@@ -134,7 +134,7 @@ module _ (map : BlockMap) (stream : Entry) (i start inside : ℕ)
     at_place = λ k. place.start_is k + place.inside_is k
 
     -- a trouble in the leaf is one of the entry
-    entry_trouble : (len : ℕ) (t : Trouble) → len ≤ stream.dsize
+    entry_trouble : (len : ℕ) (t : ContentError) → len ≤ stream.dsize
         → FirstTrouble (byte_of map stream) start len t
         → FirstTrouble (byte_of map stream) (entry_place stream i) 40 t
     entry_trouble len t most first =
@@ -154,8 +154,8 @@ module _ (map : BlockMap) (stream : Entry) (i start inside : ℕ)
         }
 
     unread_tree : (len : ℕ) (err : TreeErr) → len ≤ stream.dsize
-        → Gives (byte_of map stream) start len (Err err)
-        → Gives (byte_of map stream) (entry_place stream i) 40 (Err err)
+        → GivesBytes (byte_of map stream) start len (Err err)
+        → GivesBytes (byte_of map stream) (entry_place stream i) 40 (Err err)
     unread_tree len (trees.Block err) most gives =
         λ refused. entry_trouble len Absent most (gives refused)
     unread_tree len trees.SourceFault most gives = tt
@@ -174,7 +174,7 @@ module _ (map : BlockMap) (stream : Entry) (i start inside : ℕ)
 
     -- where the leaf isn't given, the entry isn't
     pub unread_entry : (len : ℕ) (is_dir : Bool) (field : ℕ) (bad : VacBad) → len ≤ stream.dsize
-        → IsUnread map stream start len bad → LacksEntry map stream i is_dir field bad
+        → IsUnread map stream start len bad → LacksDirectoryEntry map stream i is_dir field bad
     unread_entry len is_dir field bad most unread =
         let within : entry_place stream i + 40 ≤ size_of stream =
         subst (λ (n : ℕ). n + 40 ≤ size_of stream) at_place place.there in

@@ -11,7 +11,7 @@ use Rattle.vt_tree.specs.declared.entry.Entry.{Entry}
 use Rattle.vt_tree.specs.Maps.{BlockMap}
 use Rattle.vt_tree.proofs.Appending.{all_then}
 use Rattle.vac_meta.specs.declared.record.Record.{Record}
-use Rattle.vac_meta.specs.Records.{IsRecord, all_spelled, spelled}
+use Rattle.vac_meta.specs.Records.{IsRecord, all_spelled, record_bytes}
 use Rattle.vac_read.specs.declared.node.Node.{Node}
 use Rattle.vac_read.specs.Nodes.{AreNodes, IsNode, named}
 
@@ -28,27 +28,27 @@ nodes_more map stream (q ∷ records) (n ∷ nodes) r node are is =
 
 pub place_more : (records : List Record) (r : Record) (place : ℕ)
     → place ≡ length (all_spelled records)
-    → place + length (spelled r) ≡ length (all_spelled (records ++ r ∷ []))
+    → place + length (record_bytes r) ≡ length (all_spelled (records ++ r ∷ []))
 place_more records r place is =
     omega (
       arith,
       is,
-      ap (λ (l : List ℕ). length l) (flat_map-append spelled records (r ∷ [])),
+      ap (λ (l : List ℕ). length l) (flat_map-append record_bytes records (r ∷ [])),
       length-append (all_spelled records) (all_spelled (r ∷ [])),
-      length-append (spelled r) [],
+      length-append (record_bytes r) [],
     )
 
 pub place_within : (records before : List Record) (r : Record) (rest : List Record) (place : ℕ)
     → records ≡ before ++ r ∷ rest → place ≡ length (all_spelled before)
-    → length (all_spelled records) < 2 ^ 63 → place + length (spelled r) < 2 ^ 63
+    → length (all_spelled records) < 2 ^ 63 → place + length (record_bytes r) < 2 ^ 63
 place_within records before r rest place among is short =
     omega (
       arith,
       is,
       ap (λ (l : List Record). length (all_spelled l)) among,
-      ap (λ (l : List ℕ). length l) (flat_map-append spelled before (r ∷ rest)),
+      ap (λ (l : List ℕ). length l) (flat_map-append record_bytes before (r ∷ rest)),
       length-append (all_spelled before) (all_spelled (r ∷ rest)),
-      length-append (spelled r) (all_spelled rest),
+      length-append (record_bytes r) (all_spelled rest),
     )
 
 pub is_record_there : (records before : List Record) (r : Record) (rest : List Record)

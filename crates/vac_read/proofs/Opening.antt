@@ -1,18 +1,18 @@
 -- The blocks that lead to an archive's top folder.
 use Rattle.std.proofs.Common.{◌≡◌, ℕ, Option, Ok, Some, None, true, false, List, take, drop, refl, sym, ◌∙◌, ap, inl, inr}
 use Rattle.vt_tree.specs.declared.root.Root.{Root as TreeRoot}
-use Rattle.vt_tree.specs.Calls.{Call, get, Tells, after}
+use Rattle.vt_tree.specs.Calls.{Call, get, TellsOfMap, after}
 use Rattle.vt_tree.specs.Maps.{BlockMap, Maps}
 use Rattle.vt_tree.specs.Reading.{refusal_in}
 use Rattle.vac_model.specs.Trees.{IsArchive}
-use Rattle.vac_read.specs.declared.err.VacBad.{VacBad}
-use Rattle.vac_read.specs.declared.err.VacBad.TheVariants.{Tree, Root, Meta, NoMemory}
+use Rattle.vac_read.specs.declared.error.VacBad.{VacBad}
+use Rattle.vac_read.specs.declared.error.VacBad.TheVariants.{Tree, Root, Meta, NoMemory}
 use Rattle.vac_read.specs.declared.node.Stored.{Stored}
 use Rattle.vac_read.specs.declared.node.Stored.TheVariants as stored
 use Rattle.vac_read.specs.Broken.{AreNoEntries, IsNoEntry}
-use Rattle.vac_read.specs.Folders.{BeginsWith, IsArchiveRoot, IsNoRoot}
+use Rattle.vac_read.specs.Folders.{BeginsWithFolder, IsArchiveRoot, IsNoRoot}
 use Rattle.vac_read.specs.Nodes.{AreTop}
-use Rattle.vac_read.specs.Reading.{Reads, IsNoArchive, refusal_of}
+use Rattle.vac_read.specs.Reading.{ReadsArchive, IsNoArchive, refusal_of}
 use Rattle.vac_read.proofs.Readings.{block_told, reads_then}
 
 -- ---- what is no refusal of a call
@@ -66,7 +66,7 @@ module _ (map : BlockMap) (score block bytes : List ℕ) (there : map score 1 �
     }
 
 pub top_is : (map : BlockMap) (top block bytes : List ℕ) (s : Stored) → map top 2 ≡ Some block
-    → bytes ≡ block → BeginsWith bytes s → AreTop map top s
+    → bytes ≡ block → BeginsWithFolder bytes s → AreTop map top s
 top_is map top block bytes (stored.File e) there same begins = absurd begins
 top_is map top block bytes (stored.Folder entries metadata) there same begins = (
   record {
@@ -86,10 +86,10 @@ top_is map top block bytes (stored.Folder entries metadata) there same begins = 
 pub two_blocks : {S : Type 0} (does : S → Call → S → Type 0) (holds : S → Maps → Type 0)
     (score_of : List ℕ → List ℕ)
     (law : (s s' : S) (call : Call) (m : Maps) → does s call s' → holds s m
-    → Tells score_of m.held call × holds s' (after score_of call m))
+    → TellsOfMap score_of m.held call × holds s' (after score_of call m))
     (a b c : S) (score top root block : List ℕ) → does a (get 1 score (Ok root)) b
     → does b (get 2 top (Ok block)) c
-    → Reads does holds score_of a c (Ok block)
+    → ReadsArchive does holds score_of a c (Ok block)
     (λ map. (map score 1 ≡ Some root) × (map top 2 ≡ Some block))
 two_blocks does holds score_of law a b c score top root block first second =
     reads_then does holds score_of a b c root (Ok block) (Ok block) _ _ _ refl

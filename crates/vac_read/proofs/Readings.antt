@@ -2,31 +2,31 @@
 use Rattle.std.proofs.Common.{◌≡◌, ℕ, Result, Ok, Err, Some, None, List, [], ◌∷◌, ◌++◌, length, refl, sym, subst}
 use Rattle.std.specs.Prelude.{IfErr}
 use Rattle.vt_tree.specs.declared.entry.Entry.{Entry}
-use Rattle.vt_tree.specs.declared.err.BlockErr.{BlockErr}
-use Rattle.vt_tree.specs.declared.err.TreeErr.{TreeErr}
-use Rattle.vt_tree.specs.declared.err.TreeErr.TheVariants as trees
-use Rattle.vt_tree.specs.Calls.{Call, get, IsGet, Tells, after}
+use Rattle.vt_tree.specs.declared.error.BlockErr.{BlockErr}
+use Rattle.vt_tree.specs.declared.error.TreeErr.{TreeErr}
+use Rattle.vt_tree.specs.declared.error.TreeErr.TheVariants as trees
+use Rattle.vt_tree.specs.Calls.{Call, get, IsGet, TellsOfMap, after}
 use Rattle.vt_tree.specs.Content.{byte_of, AreGiven}
 use Rattle.vt_tree.specs.Making.{EndsBy}
 use Rattle.vt_tree.specs.Maps.{BlockMap, Maps}
-use Rattle.vt_tree.specs.Reading.{Gives, IsOfEntry, ReadsRange, unfit}
+use Rattle.vt_tree.specs.Reading.{GivesBytes, IsOfEntry, ReadsRange, unfit}
 use Rattle.vt_tree.proofs.Appending.{all_join, all_first, all_then, ends_more}
 use Rattle.vt_tree.proofs.Making.{makes_more, makes_one}
-use Rattle.vac_read.specs.declared.err.VacBad.{VacBad}
-use Rattle.vac_read.specs.declared.err.VacBad.TheVariants.{Tree}
+use Rattle.vac_read.specs.declared.error.VacBad.{VacBad}
+use Rattle.vac_read.specs.declared.error.VacBad.TheVariants.{Tree}
 use Rattle.vac_read.specs.Broken.{IsUnread}
-use Rattle.vac_read.specs.Reading.{Reads, Answers, refused_by, of_tree, IsAbsent}
+use Rattle.vac_read.specs.Reading.{ReadsArchive, AnswersOrTells, refused_by, of_tree, IsAbsentBlock}
 
 -- what a reading of a stream tells
 abbrev pub TellsRange : Entry → (at len : ℕ) → Result (List ℕ) VacBad → BlockMap → Type 0
 TellsRange e at len result map =
-    Answers result (λ bytes. (length bytes ≡ len) × AreGiven (byte_of map e) at bytes)
+    AnswersOrTells result (λ bytes. (length bytes ≡ len) × AreGiven (byte_of map e) at bytes)
     (IsUnread map e at len)
 
 -- what asking for a block tells
 abbrev pub TellsBlock : (score : List ℕ) → (kind : ℕ) → Result (List ℕ) VacBad → BlockMap → Type 0
 TellsBlock score kind result map =
-    Answers result (λ bytes. map score kind ≡ Some bytes) (IsAbsent map score kind)
+    AnswersOrTells result (λ bytes. map score kind ≡ Some bytes) (IsAbsentBlock map score kind)
 
 -- what asking for a block answered, as a reader of an archive answers it
 abbrev pub of_block : Result (List ℕ) BlockErr → Result (List ℕ) VacBad
@@ -38,7 +38,7 @@ module _ {S : Type 0} (does : S → Call → S → Type 0) (holds : S → Maps �
   -- nothing was asked for
   pub reads_nothing : {X : Type 0} (s : S) (result : Result X VacBad) (right : BlockMap → Type 0)
       → refused_by result ≡ None → ((map : BlockMap) → right map)
-      → Reads does holds score_of s s result right
+      → ReadsArchive does holds score_of s s result right
   reads_nothing s result right none all = record {
     calls = [];
     made = refl;
@@ -51,8 +51,8 @@ module _ {S : Type 0} (does : S → Call → S → Type 0) (holds : S → Maps �
   -- the same calls, said of another answer
   pub reads_as : {X Y : Type 0} (s s' : S) (result : Result X VacBad) (other : Result Y VacBad)
       (P Q : BlockMap → Type 0) → refused_by other ≡ refused_by result
-      → Reads does holds score_of s s' result P → ((map : BlockMap) → P map → Q map)
-      → Reads does holds score_of s s' other Q
+      → ReadsArchive does holds score_of s s' result P → ((map : BlockMap) → P map → Q map)
+      → ReadsArchive does holds score_of s s' other Q
   reads_as s s' result other P Q same first then = record {
     calls = first.calls;
     made = first.made;
@@ -66,9 +66,9 @@ module _ {S : Type 0} (does : S → Call → S → Type 0) (holds : S → Maps �
   pub reads_then : {X Y Z : Type 0} (a b c : S) (x : X) (result : Result Y VacBad)
       (other : Result Z VacBad) (P Q R : BlockMap → Type 0)
       → refused_by other ≡ refused_by result
-      → Reads does holds score_of a b (Ok x) P → Reads does holds score_of b c result Q
+      → ReadsArchive does holds score_of a b (Ok x) P → ReadsArchive does holds score_of b c result Q
       → ((map : BlockMap) → P map → Q map → R map)
-      → Reads does holds score_of a c other R
+      → ReadsArchive does holds score_of a c other R
   reads_then a b c x result other P Q R same first second join = record {
     calls = first.calls ++ second.calls;
     made = makes_more does a b c first.calls second.calls first.made second.made;
@@ -76,8 +76,8 @@ module _ {S : Type 0} (does : S → Call → S → Type 0) (holds : S → Maps �
     refused = ends_more (refused_by other) first.calls second.calls first.refused
         (subst (λ o. EndsBy o second.calls) (sym same) second.refused);
     right = λ map once tells. join map
-        (first.right map once (all_first (Tells score_of map) first.calls second.calls tells))
-        (second.right map once (all_then (Tells score_of map) first.calls second.calls tells));
+        (first.right map once (all_first (TellsOfMap score_of map) first.calls second.calls tells))
+        (second.right map once (all_then (TellsOfMap score_of map) first.calls second.calls tells));
     held = λ m held.
         let f = first.held m held in
         let t = second.held m f.0 in
@@ -92,7 +92,7 @@ module _ {S : Type 0} (does : S → Call → S → Type 0) (holds : S → Maps �
 
   given : (result : Result (List ℕ) TreeErr) (map : BlockMap) (e : Entry) (at len : ℕ)
       → IfErr result (λ err. IsOfEntry err → unfit e ≡ Some err)
-      → Gives (byte_of map e) at len result → TellsRange e at len (of_tree result) map
+      → GivesBytes (byte_of map e) at len result → TellsRange e at len (of_tree result) map
   given (Ok bytes) map e at len fit gives = gives
   given (Err err) map e at len fit gives = λ some. (gives, fit)
 
@@ -100,8 +100,8 @@ module _ {S : Type 0} (does : S → Call → S → Type 0) (holds : S → Maps �
   pub range_told : (s s' : S) (e : Entry) (at len : ℕ) (result : Result (List ℕ) TreeErr)
       → IfErr result (λ err. IsOfEntry err → unfit e ≡ Some err)
       → ReadsRange does score_of s s' e at len result
-      → ((m : Maps) → holds s m → holds s' m × Gives (byte_of m.held e) at len result)
-      → Reads does holds score_of s s' (of_tree result) (TellsRange e at len (of_tree result))
+      → ((m : Maps) → holds s m → holds s' m × GivesBytes (byte_of m.held e) at len result)
+      → ReadsArchive does holds score_of s s' (of_tree result) (TellsRange e at len (of_tree result))
   range_told s s' e at len result fit reads content = record {
     calls = reads.calls;
     made = reads.made;
@@ -124,17 +124,17 @@ module _ {S : Type 0} (does : S → Call → S → Type 0) (holds : S → Maps �
   }
 
   block_is : (result : Result (List ℕ) BlockErr) (map : BlockMap) (score : List ℕ) (kind : ℕ)
-      → Tells score_of map (get kind score result)
+      → TellsOfMap score_of map (get kind score result)
       → TellsBlock score kind (of_block result) map
   block_is (Ok bytes) map score kind tells = tells
   block_is (Err err) map score kind tells = λ some. tells
 
   -- one block
   pub block_told : (law : (s s' : S) (call : Call) (m : Maps) → does s call s' → holds s m
-      → Tells score_of m.held call × holds s' (after score_of call m))
+      → TellsOfMap score_of m.held call × holds s' (after score_of call m))
       → (s s' : S) (score : List ℕ) (kind : ℕ) (result : Result (List ℕ) BlockErr)
       → does s (get kind score result) s'
-      → Reads does holds score_of s s' (of_block result) (TellsBlock score kind (of_block result))
+      → ReadsArchive does holds score_of s s' (of_block result) (TellsBlock score kind (of_block result))
   block_told law s s' score kind result done = record {
     calls = get kind score result ∷ [];
     made = makes_one does s s' (get kind score result) done;

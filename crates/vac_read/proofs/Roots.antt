@@ -6,14 +6,14 @@ use Rattle.std.specs.Str.{bytes_eq}
 use Rattle.std.proofs.lemmas.Bool.{lt-ltb, le-ltb}
 use Rattle.std.proofs.lemmas.Slice.Eq.{bytes_eq-Decides}
 use Rattle.byteorder.specs.Endian.{big_number}
-use Rattle.vt_fields.specs.Filled.{filled}
+use Rattle.vt_base.specs.Filled.{filled}
 use Rattle.vt_tree.specs.declared.root.Root.{Root}
-use Rattle.vt_tree.specs.declared.root.RootField.TheVariants as fields
-use Rattle.vt_tree.specs.Roots.{IsRoot, spelled, root_fault}
+use Rattle.vt_tree.specs.declared.root.RootError.TheVariants as fields
+use Rattle.vt_tree.specs.Roots.{IsRoot, root_bytes, root_fault}
 use Rattle.vt_tree.proofs.RootBytes.{spelled_root_is_read}
 use Rattle.vac_model.specs.declared.TheConstants.{MIN_BLOCK_SIZE, MAX_BLOCK_SIZE}
-use Rattle.vac_read.specs.declared.err.RootField.{RootField}
-use Rattle.vac_read.specs.declared.err.RootField.TheVariants.{«Type» as Kind, BlockSize}
+use Rattle.vac_read.specs.declared.error.RootField.{RootField}
+use Rattle.vac_read.specs.declared.error.RootField.TheVariants.{«Type» as Kind, BlockSize}
 use Rattle.vac_read.specs.Broken.{field_of, root_flaw}
 
 abbrev kind_bytes : List ℕ
@@ -27,7 +27,7 @@ flaw_behind kind size =
     else if nat_lt MAX_BLOCK_SIZE size then Some BlockSize
     else None
 
-module _ (bytes : List ℕ) (root : Root) (is : IsRoot root) (are : bytes ≡ spelled root) where
+module _ (bytes : List ℕ) (root : Root) (is : IsRoot root) (are : bytes ≡ root_bytes root) where
   no_fault : root_fault bytes ≡ None
   no_fault =
       let read = spelled_root_is_read root bytes is are in

@@ -3,43 +3,43 @@ use Rattle.std.proofs.Common.{◌≡◌, ℕ, ◌+◌, ◌-◌, ◌<◌, ◌≤�
 use Rattle.std.specs.Prelude.{slice_index}
 use Rattle.std.proofs.lemmas.Bool.{le-ltb}
 use Rattle.std.proofs.lemmas.List.{ext_get_or, get_or-take, get_or-drop, length-take, length-drop}
-use Rattle.vt_folder.specs.Items.{Items, none, file, folder, other, item_of as listed_as}
+use Rattle.vt_out.specs.FolderItems.{Items, none, file, folder, other, listed_item}
 use Rattle.vt_tree.specs.declared.entry.Entry.{Entry}
-use Rattle.vt_tree.specs.declared.entry.BadEntry.{BadEntry}
-use Rattle.vt_tree.specs.declared.err.TreeErr.TheVariants as trees
-use Rattle.vt_tree.specs.declared.plain.Trouble.{Trouble}
+use Rattle.vt_tree.specs.declared.entry.EntryError.{EntryError}
+use Rattle.vt_tree.specs.declared.error.TreeErr.TheVariants as trees
+use Rattle.vt_tree.specs.declared.plain.ContentError.{ContentError}
 use Rattle.vt_tree.specs.declared.root.Root.{Root as TreeRoot}
-use Rattle.vt_tree.specs.Content.{AreGiven, FirstTrouble, IsContent, byte_of, size_of}
-use Rattle.vt_tree.specs.Entries.{IsEntry, SpellsEntry, entry_fault}
+use Rattle.vt_tree.specs.Content.{AreGiven, FirstTrouble, IsFileContent, byte_of, size_of}
+use Rattle.vt_tree.specs.Entries.{IsTreeEntry, SpellsEntry, entry_fault}
 use Rattle.vt_tree.specs.Maps.{BlockMap}
-use Rattle.vt_tree.specs.Reading.{Gives, unfit, unfit_by}
-use Rattle.vt_tree.specs.Roots.{IsRoot, spelled as root_bytes}
+use Rattle.vt_tree.specs.Reading.{GivesBytes, unfit, unfit_by}
+use Rattle.vt_tree.specs.Roots.{IsRoot, root_bytes}
 use Rattle.vt_tree.proofs.EntryBytes.{spelled_is_read}
-use Rattle.vac_meta.specs.declared.err.MetaErr.{MetaErr}
+use Rattle.vac_meta.specs.declared.error.MetaErr.{MetaErr}
 use Rattle.vac_meta.specs.declared.record.Record.{Record}
 use Rattle.vac_meta.specs.declared.record.RecordKind.{RecordKind}
 use Rattle.vac_meta.specs.declared.record.RecordKind.TheVariants.{File, Folder}
-use Rattle.vac_meta.specs.Flaws.{IsRefused}
-use Rattle.vac_meta.specs.Records.{Spells}
+use Rattle.vac_meta.specs.Flaws.{IsRefusedMetadata}
+use Rattle.vac_meta.specs.Records.{SpellsMetadata}
 use Rattle.vac_model.specs.Kept.{Numbered}
 use Rattle.vac_model.specs.Trees.{AreFolder, HasEntry, HasFile, HasFolder, IsArchive, IsTreeOf, StandFor, entry_place}
-use Rattle.vac_read.specs.declared.err.VacBad.{VacBad}
-use Rattle.vac_read.specs.declared.err.VacBad.TheVariants.{Tree, Root, Meta, NoMemory}
+use Rattle.vac_read.specs.declared.error.VacBad.{VacBad}
+use Rattle.vac_read.specs.declared.error.VacBad.TheVariants.{Tree, Root, Meta, NoMemory}
 use Rattle.vac_read.specs.declared.node.Node.{Node}
 use Rattle.vac_read.specs.declared.node.Stored.{Stored}
 use Rattle.vac_read.specs.declared.node.Stored.TheVariants as stored
-use Rattle.vac_read.specs.Broken.{AreNoEntries, IsBroken, IsNoEntry, IsUnfound, IsUnread, LacksEntries, LacksEntry, LacksRecords, root_flaw}
-use Rattle.vac_read.specs.Laws.{AreItems, HoldsBytes, IsOfStore, StandsAs}
-use Rattle.vac_read.specs.Nodes.{AreEntries, AreNodes, AreTop, IsStored, IsTop, Lists, kind_of, len_of}
-use Rattle.vac_read.specs.Reading.{IsAbsent, IsNoArchive}
+use Rattle.vac_read.specs.Broken.{AreNoEntries, IsBroken, IsNoEntry, IsUnfound, IsUnread, LacksEntries, LacksDirectoryEntry, LacksRecords, root_flaw}
+use Rattle.vac_read.specs.Laws.{AreNodesOf, HoldsBytes, IsOfStore, StandsAs}
+use Rattle.vac_read.specs.Nodes.{AreNodeEntries, AreNodes, AreTop, IsStoredNode, IsTop, Lists, kind_of, len_of}
+use Rattle.vac_read.specs.Reading.{IsAbsentBlock, IsNoArchive}
 use Rattle.vac_read.proofs.Roots.{unflawed}
 
 -- ---- bytes that are given
 
-ok_is_ok : (m n : ℕ) (r : Result ℕ Trouble) → r ≡ Ok m → r ≡ Ok n → m ≡ n
+ok_is_ok : (m n : ℕ) (r : Result ℕ ContentError) → r ≡ Ok m → r ≡ Ok n → m ≡ n
 ok_is_ok m n r e f = cc
 
-ok_is_no_err : (m : ℕ) (t : Trouble) (r : Result ℕ Trouble) → r ≡ Ok m → r ≡ Err t → ⊥
+ok_is_no_err : (m : ℕ) (t : ContentError) (r : Result ℕ ContentError) → r ≡ Ok m → r ≡ Err t → ⊥
 ok_is_no_err m t r e f = cc
 
 some_is_some : {A : Type 0} (a b : A) → Some a ≡ Some b → a ≡ b
@@ -48,13 +48,13 @@ some_is_some a b e = cc
 none_is_no_some : {A : Type 0} (a : A) (o : Option A) → o ≡ None → o ≡ Some a → ⊥
 none_is_no_some a o e f = cc
 
-same_given : (byte : ℕ → Result ℕ Trouble) (at : ℕ) (x y : List ℕ) → length x ≡ length y
+same_given : (byte : ℕ → Result ℕ ContentError) (at : ℕ) (x y : List ℕ) → length x ≡ length y
     → AreGiven byte at x → AreGiven byte at y → x ≡ y
 same_given byte at x y len a b =
     ext_get_or 0 x y len (λ i within. ok_is_ok (slice_index x i) (slice_index y i)
     (byte (at + i)) (a i within) (b i (omega (arith, within, len))))
 
-no_trouble : (byte : ℕ → Result ℕ Trouble) (at len : ℕ) (bytes : List ℕ) (t : Trouble)
+no_trouble : (byte : ℕ → Result ℕ ContentError) (at len : ℕ) (bytes : List ℕ) (t : ContentError)
     → length bytes ≡ len → AreGiven byte at bytes → FirstTrouble byte at len t → ⊥
 no_trouble byte at len bytes t all given first =
     ok_is_no_err (slice_index bytes first.place) t (byte (at + first.place))
@@ -62,15 +62,15 @@ no_trouble byte at len bytes t all given first =
 
 fit : (e : Entry) → entry_fault e ≡ None → size_of e ≤ 2 ^ 40 → unfit e ≡ None
 fit e sound short =
-    ap (λ (o : Option BadEntry). unfit_by o (size_of e)) sound
+    ap (λ (o : Option EntryError). unfit_by o (size_of e)) sound
     ∙ ap (λ (b : Bool). if b then Some trees.TooLong else None) (le-ltb (2 ^ 40) (size_of e) short)
 
-abbrev ok : ℕ → Result ℕ Trouble
+abbrev ok : ℕ → Result ℕ ContentError
 ok k = Ok k
 
 -- what is read of a file
 pub read_bytes : (map : BlockMap) (e : Entry) (bytes got : List ℕ) (at n : ℕ)
-    → IsContent map e bytes → Gives (byte_of map e) at (min n (size_of e - at)) (Ok got)
+    → IsFileContent map e bytes → GivesBytes (byte_of map e) at (min n (size_of e - at)) (Ok got)
     → got ≡ take n (drop at bytes)
 read_bytes map e bytes got at n content gives =
     let all = content.all in
@@ -87,12 +87,12 @@ read_bytes map e bytes got at n content gives =
     ∙ ap ok
     (sym (get_or-take n (drop at bytes) i 0 below ∙ get_or-drop at bytes i 0))))
 
-module _ (one_entry : (a b : Entry) (bytes : List ℕ) → IsEntry a → IsEntry b
+module _ (one_entry : (a b : Entry) (bytes : List ℕ) → IsTreeEntry a → IsTreeEntry b
     → SpellsEntry a bytes → SpellsEntry b bytes → a ≡ b)
     (one_root : (a b : TreeRoot) → IsRoot a → IsRoot b → root_bytes a ≡ root_bytes b → a ≡ b)
-    (one_content : (map : BlockMap) (e : Entry) (a b : List ℕ) → IsContent map e a
-    → IsContent map e b → a ≡ b)
-    (one_metadata : (a b : List Record) (bytes : List ℕ) → Spells a bytes → Spells b bytes
+    (one_content : (map : BlockMap) (e : Entry) (a b : List ℕ) → IsFileContent map e a
+    → IsFileContent map e b → a ≡ b)
+    (one_metadata : (a b : List Record) (bytes : List ℕ) → SpellsMetadata a bytes → SpellsMetadata b bytes
     → a ≡ b)
     (map : BlockMap)
   where
@@ -111,7 +111,7 @@ module _ (one_entry : (a b : Entry) (bytes : List ℕ) → IsEntry a → IsEntry
     same_records entries metadata a b x y =
         let bytes = one_content map metadata x.bytes y.bytes x.content y.content in
         one_metadata a b x.bytes x.spelled
-        (subst (λ (l : List ℕ). Spells b l) (sym bytes) y.spelled)
+        (subst (λ (l : List ℕ). SpellsMetadata b l) (sym bytes) y.spelled)
 
     same_root : (score a b : List ℕ) → (x : IsArchive map score a) → (y : IsArchive map score b)
         → a ≡ b
@@ -140,7 +140,7 @@ module _ (one_entry : (a b : Entry) (bytes : List ℕ) → IsEntry a → IsEntry
     unread_never e at len bytes (Meta place) all given fits unread = absurd unread
     unread_never e at len bytes NoMemory all given fits unread = tt
 
-    entry_never : (bytes : List ℕ) (e : Entry) (field : ℕ) (bad : VacBad) → IsEntry e
+    entry_never : (bytes : List ℕ) (e : Entry) (field : ℕ) (bad : VacBad) → IsTreeEntry e
         → SpellsEntry e bytes → IsNoEntry bytes e.is_dir field bad → ⊥
     entry_never bytes e field (Tree err) is spells why =
         none_is_no_some why.0 _ (spelled_is_read e bytes is spells).1 why.2
@@ -151,7 +151,7 @@ module _ (one_entry : (a b : Entry) (bytes : List ℕ) → IsEntry a → IsEntry
 
     lacks_never : (stream : Entry) (i field : ℕ) (e : Entry) (is_dir : Bool) (bad : VacBad)
         → unfit stream ≡ None → HasEntry map stream i e → e.is_dir ≡ is_dir
-        → LacksEntry map stream i is_dir field bad → IsOfStore bad
+        → LacksDirectoryEntry map stream i is_dir field bad → IsOfStore bad
     lacks_never stream i field e is_dir bad fits has kind (inl past) =
         absurd (omega (arith, past.1, has.within))
     lacks_never stream i field e is_dir bad fits has kind (inr (inl unread)) =
@@ -197,10 +197,10 @@ module _ (one_entry : (a b : Entry) (bytes : List ℕ) → IsEntry a → IsEntry
         absurd stand
 
     module _ (no_flaw : (records : List Record) (bytes : List ℕ) (why : MetaErr)
-        → Spells records bytes → IsRefused bytes why → ⊥)
+        → SpellsMetadata records bytes → IsRefusedMetadata bytes why → ⊥)
       where
         records_never : (entries metadata : Entry) (records : List Record) (bad : VacBad)
-            → IsEntry metadata → AreFolder map entries metadata records
+            → IsTreeEntry metadata → AreFolder map entries metadata records
             → LacksRecords map entries metadata bad → IsOfStore bad
         records_never entries metadata records bad is are (inl long) =
             let all = are.content.all in
@@ -215,7 +215,7 @@ module _ (one_entry : (a b : Entry) (bytes : List ℕ) → IsEntry a → IsEntry
             are.content.each (fit metadata is.allowed (omega arith)) unread
         records_never entries metadata records bad is are (inr (short, inr flaw)) =
             let bytes = one_content map metadata are.bytes flaw.0 are.content flaw.1 in
-            absurd (no_flaw records flaw.0 _ (subst (Spells records) bytes are.spelled) flaw.5)
+            absurd (no_flaw records flaw.0 _ (subst (SpellsMetadata records) bytes are.spelled) flaw.5)
 
         there : (entries metadata : Entry) (a b : List Record) (before : List Record) (r : Record)
             (rest : List Record) (items : Items Numbered) → AreFolder map entries metadata a
@@ -226,12 +226,12 @@ module _ (one_entry : (a b : Entry) (bytes : List ℕ) → IsEntry a → IsEntry
             subst (λ (l : List Record). StandFor map entries l items)
             (same_records entries metadata b a y x ∙ among) stand
 
-        entries_fit : (entries metadata : Entry) (records : List Record) → IsEntry entries
+        entries_fit : (entries metadata : Entry) (records : List Record) → IsTreeEntry entries
             → AreFolder map entries metadata records → unfit entries ≡ None
         entries_fit entries metadata records is are =
             let most : size_of entries ≤ 2 ^ 40 = are.short_entries in fit entries is.allowed most
 
-        pub broken_never : (s : Stored) (items : Items Numbered) (bad : VacBad) → AreEntries s
+        pub broken_never : (s : Stored) (items : Items Numbered) (bad : VacBad) → AreNodeEntries s
             → StandsAs map s items → IsBroken map s bad → IsOfStore bad
         broken_never (stored.File e) items bad are stand broken = absurd stand
         broken_never (stored.Folder entries metadata) items bad are stand (inl lacks) =
@@ -244,7 +244,7 @@ module _ (one_entry : (a b : Entry) (bytes : List ℕ) → IsEntry a → IsEntry
             lacks.1 stand.1 node.among stand.2) node.lacks
 
         pub unfound_never : (s : Stored) (items : Items Numbered) (name : List ℕ) (bad : VacBad)
-            → AreEntries s → StandsAs map s items → IsUnfound map s name bad → IsOfStore bad
+            → AreNodeEntries s → StandsAs map s items → IsUnfound map s name bad → IsOfStore bad
         unfound_never (stored.File e) items name bad are stand unfound = absurd stand
         unfound_never (stored.Folder entries metadata) items name bad are stand (inl lacks) =
             records_never entries metadata stand.0 bad are.1.0 stand.1 lacks
@@ -255,7 +255,7 @@ module _ (one_entry : (a b : Entry) (bytes : List ℕ) → IsEntry a → IsEntry
             lacks.are stand.1 lacks.among stand.2) lacks.lacks
 
     absent_never : (score : List ℕ) (kind : ℕ) (block : List ℕ) (bad : VacBad)
-        → map score kind ≡ Some block → IsAbsent map score kind bad → IsOfStore bad
+        → map score kind ≡ Some block → IsAbsentBlock map score kind bad → IsOfStore bad
     absent_never score kind block (Tree (trees.Block err)) has absent =
         λ refusal. none_is_no_some block (map score kind) (absent refusal) has
     absent_never score kind block (Tree trees.SourceFault) has absent = absurd absent
@@ -268,8 +268,8 @@ module _ (one_entry : (a b : Entry) (bytes : List ℕ) → IsEntry a → IsEntry
     absent_never score kind block NoMemory has absent = absurd absent
 
     top_never : (bytes : List ℕ) (entries metadata : Entry) (bad : VacBad) → 80 ≤ length bytes
-        → IsEntry entries → SpellsEntry entries (take 40 bytes) → entries.is_dir ≡ true
-        → IsEntry metadata → SpellsEntry metadata (take 40 (drop 40 bytes))
+        → IsTreeEntry entries → SpellsEntry entries (take 40 bytes) → entries.is_dir ≡ true
+        → IsTreeEntry metadata → SpellsEntry metadata (take 40 (drop 40 bytes))
         → metadata.is_dir ≡ false → AreNoEntries bytes bad → ⊥
     top_never bytes entries metadata bad long first spells dir second spelled plain (inl short) =
         absurd (omega (arith, short.1))
@@ -337,11 +337,11 @@ module _ (one_entry : (a b : Entry) (bytes : List ℕ) → IsEntry a → IsEntry
     file_is_no_folder kind a b = let e : File ≡ Folder = sym a ∙ b in cc
 
     file_stored : (stream : Entry) (kind : RecordKind) (i : ℕ) (s : Stored) (bytes : List ℕ)
-        → kind ≡ File → HasFile map stream i bytes → IsStored map stream kind i s
+        → kind ≡ File → HasFile map stream i bytes → IsStoredNode map stream kind i s
         → HoldsBytes map s bytes × (len_of s ≡ length bytes)
     file_stored stream kind i (stored.File e) bytes is has there =
         let same = same_entry stream i has.entry e has.there there.1 in
-        let content = subst (λ (x : Entry). IsContent map x bytes) same has.content in
+        let content = subst (λ (x : Entry). IsFileContent map x bytes) same has.content in
         (content, sym content.all)
     file_stored stream kind i (stored.Folder entries metadata) bytes is has there =
         absurd (file_is_no_folder kind is there.0)
@@ -349,7 +349,7 @@ module _ (one_entry : (a b : Entry) (bytes : List ℕ) → IsEntry a → IsEntry
     folder_stored : (stream : Entry) (kind : RecordKind) (i : ℕ) (s : Stored)
         (inside : Items Numbered) (entries : Entry) (below : List Record) → kind ≡ Folder
         → HasFolder map stream i entries below → StandFor map entries below inside
-        → IsStored map stream kind i s → StandsAs map s inside × (len_of s ≡ 0)
+        → IsStoredNode map stream kind i s → StandsAs map s inside × (len_of s ≡ 0)
     folder_stored stream kind i (stored.File e) inside entries below is has stand there =
         absurd (file_is_no_folder kind there.0 is)
     folder_stored stream kind i (stored.Folder e m) inside entries below is has stand there =
@@ -366,7 +366,7 @@ module _ (one_entry : (a b : Entry) (bytes : List ℕ) → IsEntry a → IsEntry
 
     nodes_are : (stream : Entry) (records : List Record) (items : Items Numbered)
         (nodes : List Node) → StandFor map stream records items
-        → AreNodes map stream records nodes → AreItems map items nodes
+        → AreNodes map stream records nodes → AreNodesOf map items nodes
     nodes_are stream [] none [] stand are = tt
     nodes_are stream [] none (node ∷ nodes) stand are = absurd are
     nodes_are stream [] (file about bytes others) nodes stand are = absurd stand
@@ -382,7 +382,7 @@ module _ (one_entry : (a b : Entry) (bytes : List ℕ) → IsEntry a → IsEntry
         is.is_stored in (
           record {
             item = is.item
-                ∙ (λ i. listed_as (sym stand.1 i).facts (kind_of (stand.0 i)));
+                ∙ (λ i. listed_item (sym stand.1 i).facts (kind_of (stand.0 i)));
             qid = is.qid ∙ ap (λ (n : Numbered). n.qid) (sym stand.1);
             size_is = is.size ∙ held.1;
           },
@@ -396,7 +396,7 @@ module _ (one_entry : (a b : Entry) (bytes : List ℕ) → IsEntry a → IsEntry
         is.is_stored in (
           record {
             item = is.item
-                ∙ (λ i. listed_as (sym stand.1 i).facts (kind_of (stand.0 i)));
+                ∙ (λ i. listed_item (sym stand.1 i).facts (kind_of (stand.0 i)));
             qid = is.qid ∙ ap (λ (n : Numbered). n.qid) (sym stand.1);
             size_is = is.size ∙ held.1;
           },
@@ -405,7 +405,7 @@ module _ (one_entry : (a b : Entry) (bytes : List ℕ) → IsEntry a → IsEntry
         )
 
     pub lists_are : (s : Stored) (items : Items Numbered) (nodes : List Node)
-        → StandsAs map s items → Lists map s nodes → AreItems map items nodes
+        → StandsAs map s items → Lists map s nodes → AreNodesOf map items nodes
     lists_are (stored.File e) items nodes stand lists = absurd stand
     lists_are (stored.Folder entries metadata) items nodes stand lists =
         let same = same_records entries metadata lists.records stand.0 lists.are stand.1 in

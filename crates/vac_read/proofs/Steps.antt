@@ -7,12 +7,12 @@ use Rattle.vac_meta.specs.declared.record.RecordKind.{RecordKind}
 use Rattle.vac_meta.specs.declared.record.RecordKind.TheVariants.{File, Folder}
 use Rattle.vac_meta.specs.Records.{all_spelled, string}
 use Rattle.vac_model.specs.Trees.{AreFolder, HasEntry}
-use Rattle.vac_read.specs.declared.err.VacBad.{VacBad}
+use Rattle.vac_read.specs.declared.error.VacBad.{VacBad}
 use Rattle.vac_read.specs.declared.node.Node.{Node}
 use Rattle.vac_read.specs.declared.node.Stored.TheVariants as stored
-use Rattle.vac_read.specs.Broken.{IsUnfound, LacksEntries, LacksEntry, LacksNode}
+use Rattle.vac_read.specs.Broken.{IsUnfound, LacksEntries, LacksDirectoryEntry, LacksNode}
 use Rattle.vac_read.specs.Folders.{IsNamed, TellsNodes}
-use Rattle.vac_read.specs.Nodes.{AreNodes, Finds, IsFound, IsNode, IsStored, named}
+use Rattle.vac_read.specs.Nodes.{AreNodes, FindsNode, IsFoundItem, IsNode, IsStoredNode, named}
 use Rattle.vac_read.specs.Reading.{ListsFolder}
 
 -- ---- the entries of a record
@@ -20,37 +20,37 @@ use Rattle.vac_read.specs.Reading.{ListsFolder}
 module _ (map : BlockMap) (stream old : Entry) (kind : RecordKind) (n i field : ℕ)
     (number : n ≡ i) (bad : VacBad)
   where
-    pub lacks_file : kind ≡ File → LacksEntry map stream n false field bad
+    pub lacks_file : kind ≡ File → LacksDirectoryEntry map stream n false field bad
         → LacksEntries map stream kind i field bad
     lacks_file is lacks =
         subst (λ (k : RecordKind). LacksEntries map stream k i field bad) (sym is)
-        (subst (λ (j : ℕ). LacksEntry map stream j false field bad) number lacks)
+        (subst (λ (j : ℕ). LacksDirectoryEntry map stream j false field bad) number lacks)
 
-    pub lacks_first : kind ≡ Folder → LacksEntry map stream n true field bad
+    pub lacks_first : kind ≡ Folder → LacksDirectoryEntry map stream n true field bad
         → LacksEntries map stream kind i field bad
     lacks_first is lacks =
         subst (λ (k : RecordKind). LacksEntries map stream k i field bad) (sym is)
-        (inl (subst (λ (j : ℕ). LacksEntry map stream j true field bad) number lacks))
+        (inl (subst (λ (j : ℕ). LacksDirectoryEntry map stream j true field bad) number lacks))
 
     pub lacks_second : kind ≡ Folder → (e : Entry) → old ≡ stream
         → HasEntry map stream n e × (e.is_dir ≡ true)
-        → LacksEntry map old (n + 1) false field bad
+        → LacksDirectoryEntry map old (n + 1) false field bad
         → LacksEntries map stream kind i field bad
     lacks_second is e same first lacks =
-        let here = subst (λ (s : Entry). LacksEntry map s (n + 1) false field bad) same lacks in
+        let here = subst (λ (s : Entry). LacksDirectoryEntry map s (n + 1) false field bad) same lacks in
         subst (λ (k : RecordKind). LacksEntries map stream k i field bad) (sym is)
         (inr (
           e,
           subst (λ (j : ℕ). HasEntry map stream j e) number first.0,
           first.1,
-          subst (λ (j : ℕ). LacksEntry map stream (j + 1) false field bad) number here,
+          subst (λ (j : ℕ). LacksDirectoryEntry map stream (j + 1) false field bad) number here,
         ))
 
 pub both_stored : (map : BlockMap) (stream old : Entry) (kind : RecordKind) (n i : ℕ)
     (e m : Entry) → n ≡ i → kind ≡ Folder → old ≡ stream
     → HasEntry map stream n e × (e.is_dir ≡ true)
     → HasEntry map old (n + 1) m × (m.is_dir ≡ false)
-    → IsStored map stream kind i (stored.Folder e m)
+    → IsStoredNode map stream kind i (stored.Folder e m)
 both_stored map stream old kind n i e m number is same first second = (
   is,
   subst (λ (j : ℕ). HasEntry map stream j e) number first.0,
@@ -119,16 +119,16 @@ module _ (map : BlockMap) (entries metadata stream : Entry) (records : List Reco
     })
 
     pub name_found : (node : Node) → IsNode map stream r node
-        → Finds map (stored.Folder entries metadata) name (Some node)
+        → FindsNode map (stored.Folder entries metadata) name (Some node)
     name_found node there = (
       records,
       are,
-      subst (λ (o : Option Record). IsFound map entries o (Some node)) (sym is.is)
+      subst (λ (o : Option Record). IsFoundItem map entries o (Some node)) (sym is.is)
           (subst (λ (e : Entry). IsNode map e r node) same there),
     )
 
 pub name_absent : (map : BlockMap) (entries metadata : Entry) (records : List Record)
     (name : List ℕ) → AreFolder map entries metadata records → named name records ≡ None
-    → Finds map (stored.Folder entries metadata) name None
+    → FindsNode map (stored.Folder entries metadata) name None
 name_absent map entries metadata records name are none =
-    (records, are, subst (λ (o : Option Record). IsFound map entries o None) (sym none) tt)
+    (records, are, subst (λ (o : Option Record). IsFoundItem map entries o None) (sym none) tt)

@@ -1,10 +1,10 @@
 -- Names one after another.
 use Rattle.std.proofs.Common.{◌≡◌, Option, Some, None, List, [], ◌∷◌, ◌++◌, ℕ, refl, sym, subst, inl, inr}
 use Rattle.vt_tree.specs.Maps.{BlockMap}
-use Rattle.vac_read.specs.declared.err.VacBad.{VacBad}
+use Rattle.vac_read.specs.declared.error.VacBad.{VacBad}
 use Rattle.vac_read.specs.declared.node.Node.{Node}
 use Rattle.vac_read.specs.Broken.{IsUnfound}
-use Rattle.vac_read.specs.Nodes.{Finds, Leads}
+use Rattle.vac_read.specs.Nodes.{FindsNode, Leads}
 use Rattle.vac_read.specs.Reading.{IsLost}
 
 same_node : (a b : Node) → Some a ≡ Some b → a ≡ b
@@ -17,12 +17,12 @@ leads_end map (Some node) = refl
 module _ (map : BlockMap) (name : List ℕ) (rest : List (List ℕ)) (found : Node) where
   -- names, and then another
   pub leads_on : (next last : Option Node) (start : Option Node) (names : List (List ℕ))
-      → Leads map start names (Some found) → Finds map found.stored name next
+      → Leads map start names (Some found) → FindsNode map found.stored name next
       → Leads map next rest last → Leads map start (names ++ name ∷ rest) last
   leads_on next last None names leads finds then = let never : Some found ≡ None = leads in cc
   leads_on next last (Some node) [] leads finds then =
       let same = same_node found node leads in
-      (next, subst (λ (n : Node). Finds map n.stored name next) same finds, then)
+      (next, subst (λ (n : Node). FindsNode map n.stored name next) same finds, then)
   leads_on next last (Some node) (a ∷ names) leads finds then =
       (leads.0, leads.1, leads_on next last leads.0 names leads.2 finds then)
 
@@ -35,7 +35,7 @@ module _ (map : BlockMap) (name : List ℕ) (rest : List (List ℕ)) (found : No
       (node, refl, inl (subst (λ (n : Node). IsUnfound map n.stored name bad) same unfound))
   lost_below bad (Some node) (a ∷ names) leads unfound =
       let below = lost_below bad leads.0 names leads.2 unfound in
-      let finds = subst (λ (o : Option Node). Finds map node.stored a o) below.1 leads.1 in
+      let finds = subst (λ (o : Option Node). FindsNode map node.stored a o) below.1 leads.1 in
       (node, refl, inr (below.0, finds, below.2))
 
   -- names, and then one that isn't told
@@ -49,12 +49,12 @@ module _ (map : BlockMap) (name : List ℕ) (rest : List (List ℕ)) (found : No
 
 pub leads_one_more : (map : BlockMap) (name : List ℕ) (node found : Node) (next : Option Node)
     (names : List (List ℕ)) → Leads map (Some node) names (Some found)
-    → Finds map found.stored name next → Leads map (Some node) (names ++ name ∷ []) next
+    → FindsNode map found.stored name next → Leads map (Some node) (names ++ name ∷ []) next
 leads_one_more map name node found next names leads finds =
     leads_on map name [] found next next (Some node) names leads finds (leads_end map next)
 
 pub leads_nowhere : (map : BlockMap) (name : List ℕ) (rest : List (List ℕ)) (node found : Node)
     (names : List (List ℕ)) → Leads map (Some node) names (Some found)
-    → Finds map found.stored name None → Leads map (Some node) (names ++ name ∷ rest) None
+    → FindsNode map found.stored name None → Leads map (Some node) (names ++ name ∷ rest) None
 leads_nowhere map name rest node found names leads finds =
     leads_on map name rest found None None (Some node) names leads finds refl

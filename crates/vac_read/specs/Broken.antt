@@ -3,30 +3,30 @@ use Rattle.std.specs.Prelude.{ℕ, ◌≡◌, ◌≢◌, ◌+◌, ◌<◌, ◌�
 use Rattle.std.specs.Option.{option_or, option_map}
 use Rattle.std.specs.Str.{bytes_eq}
 use Rattle.byteorder.specs.Endian.{big_number}
-use Rattle.vt_fields.specs.Filled.{filled}
+use Rattle.vt_base.specs.Filled.{filled}
 use Rattle.vt_tree.specs.declared.entry.Entry.{Entry}
-use Rattle.vt_tree.specs.declared.entry.BadEntry.{BadEntry}
-use Rattle.vt_tree.specs.declared.err.TreeErr.TheVariants as trees
-use Rattle.vt_tree.specs.declared.root.RootField.{RootField as TreeField}
-use Rattle.vt_tree.specs.declared.root.RootField.TheVariants as fields
-use Rattle.vt_tree.specs.Content.{size_of, byte_of, AreGiven, IsContent}
-use Rattle.vt_tree.specs.Entries.{IsEntry, SpellsEntry, fault_in}
+use Rattle.vt_tree.specs.declared.entry.EntryError.{EntryError}
+use Rattle.vt_tree.specs.declared.error.TreeErr.TheVariants as trees
+use Rattle.vt_tree.specs.declared.root.RootError.{RootError}
+use Rattle.vt_tree.specs.declared.root.RootError.TheVariants as fields
+use Rattle.vt_tree.specs.Content.{size_of, byte_of, AreGiven, IsFileContent}
+use Rattle.vt_tree.specs.Entries.{IsTreeEntry, SpellsEntry, entry_fault_in}
 use Rattle.vt_tree.specs.Maps.{BlockMap}
-use Rattle.vt_tree.specs.Reading.{Gives, IsOfEntry, unfit}
+use Rattle.vt_tree.specs.Reading.{GivesBytes, IsOfEntry, unfit}
 use Rattle.vt_tree.specs.Roots.{root_fault}
-use Rattle.vac_meta.specs.declared.err.Flaw.{Flaw}
-use Rattle.vac_meta.specs.declared.err.MetaErr.TheVariants.{Bad}
+use Rattle.vac_meta.specs.declared.error.RecordCause.{RecordCause}
+use Rattle.vac_meta.specs.declared.error.MetaErr.TheVariants.{Bad}
 use Rattle.vac_meta.specs.declared.record.Record.{Record}
 use Rattle.vac_meta.specs.declared.record.RecordKind.{RecordKind}
 use Rattle.vac_meta.specs.declared.record.RecordKind.TheVariants.{File, Folder}
-use Rattle.vac_meta.specs.Flaws.{IsRefused}
+use Rattle.vac_meta.specs.Flaws.{IsRefusedMetadata}
 use Rattle.vac_meta.specs.Records.{all_spelled, string}
 use Rattle.vac_model.specs.declared.TheConstants.{MAX_FILE, MAX_METADATA, MIN_BLOCK_SIZE, MAX_BLOCK_SIZE}
 use Rattle.vac_model.specs.Trees.{entry_place, HasEntry, AreFolder}
-use Rattle.vac_read.specs.declared.err.RootField.{RootField}
-use Rattle.vac_read.specs.declared.err.RootField.TheVariants.{Length, Version, «Type» as Kind, BlockSize}
-use Rattle.vac_read.specs.declared.err.VacBad.{VacBad}
-use Rattle.vac_read.specs.declared.err.VacBad.TheVariants.{Tree, Root, Meta, NoMemory}
+use Rattle.vac_read.specs.declared.error.RootField.{RootField}
+use Rattle.vac_read.specs.declared.error.RootField.TheVariants.{Length, Version, «Type» as Kind, BlockSize}
+use Rattle.vac_read.specs.declared.error.VacBad.{VacBad}
+use Rattle.vac_read.specs.declared.error.VacBad.TheVariants.{Tree, Root, Meta, NoMemory}
 use Rattle.vac_read.specs.declared.node.Node.{Node}
 use Rattle.vac_read.specs.declared.node.Stored.{Stored}
 use Rattle.vac_read.specs.declared.node.Stored.TheVariants as stored
@@ -36,7 +36,7 @@ use Rattle.vac_read.specs.Nodes.{AreNodes, named}
 -- of memory may come of any
 abbrev pub IsUnread : BlockMap → Entry → (at len : ℕ) → VacBad → Type 0
 IsUnread map e at len (Tree err) =
-    Gives (byte_of map e) at len (Err err) × (IsOfEntry err → unfit e ≡ Some err)
+    GivesBytes (byte_of map e) at len (Err err) × (IsOfEntry err → unfit e ≡ Some err)
 IsUnread map e at len (Root root_field) = ⊥
 IsUnread map e at len (Meta place) = ⊥
 IsUnread map e at len NoMemory = ⊥
@@ -47,9 +47,9 @@ IsUnread map e at len NoMemory = ⊥
 -- names the entry
 abbrev pub IsNoEntry : (bytes : List ℕ) → (is_dir : Bool) → (field : ℕ) → VacBad → Type 0
 IsNoEntry bytes is_dir field (Tree err) =
-    (bad : BadEntry) × (err ≡ trees.BadEntry bad) × (fault_in bytes ≡ Some bad)
+    (bad : EntryError) × (err ≡ trees.BadEntry bad) × (entry_fault_in bytes ≡ Some bad)
 IsNoEntry bytes is_dir field (Meta at) =
-    (at ≡ field) × (e : Entry) × IsEntry e × SpellsEntry e bytes × (e.is_dir ≢ is_dir)
+    (at ≡ field) × (e : Entry) × IsTreeEntry e × SpellsEntry e bytes × (e.is_dir ≢ is_dir)
 IsNoEntry bytes is_dir field (Root root_field) = ⊥
 IsNoEntry bytes is_dir field NoMemory = ⊥
 
@@ -61,9 +61,10 @@ pub record HasEntryBytes (map : BlockMap) (stream : Entry) (i : ℕ) (bytes : Li
 
 -- why entry i of a directory, a directory's itself or not, isn't told: it lies past the end, or its
 -- bytes aren't given, or are no such entry
-abbrev pub LacksEntry : BlockMap → (stream : Entry) → (i : ℕ) → (is_dir : Bool) → (field : ℕ)
+abbrev pub LacksDirectoryEntry : BlockMap → (stream : Entry) → (i : ℕ) → (is_dir : Bool)
+    → (field : ℕ)
     → VacBad → Type 0
-LacksEntry map stream i is_dir field bad =
+LacksDirectoryEntry map stream i is_dir field bad =
     ((bad ≡ Meta field) × (size_of stream < entry_place stream i + 40))
     ⊎ ((entry_place stream i + 40 ≤ size_of stream)
     × IsUnread map stream (entry_place stream i) 40 bad)
@@ -72,11 +73,11 @@ LacksEntry map stream i is_dir field bad =
 -- why the entries of a record aren't told: a file has one, a folder two
 abbrev pub LacksEntries : BlockMap → (stream : Entry) → RecordKind → (i field : ℕ) → VacBad
     → Type 0
-LacksEntries map stream File i field bad = LacksEntry map stream i false field bad
+LacksEntries map stream File i field bad = LacksDirectoryEntry map stream i false field bad
 LacksEntries map stream Folder i field bad =
-    LacksEntry map stream i true field bad
+    LacksDirectoryEntry map stream i true field bad
     ⊎ ((e : Entry) × HasEntry map stream i e × (e.is_dir ≡ true)
-    × LacksEntry map stream (i + 1) false field bad)
+    × LacksDirectoryEntry map stream (i + 1) false field bad)
 
 -- ---- folders
 
@@ -91,8 +92,8 @@ abbrev pub LacksRecords : BlockMap → (entries metadata : Entry) → VacBad →
 LacksRecords map entries metadata bad =
     ((bad ≡ Tree trees.TooLong) × (AreShort entries metadata → ⊥))
     ⊎ (AreShort entries metadata × (IsUnread map metadata 0 (size_of metadata) bad
-    ⊎ ((bytes : List ℕ) × IsContent map metadata bytes
-    × (at : ℕ) × (why : Flaw) × (bad ≡ Meta at) × IsRefused bytes (Bad at why))))
+    ⊎ ((bytes : List ℕ) × IsFileContent map metadata bytes
+    × (at : ℕ) × (why : RecordCause) × (bad ≡ Meta at) × IsRefusedMetadata bytes (Bad at why))))
 
 -- where the number of a record's entry stands, behind these records
 abbrev pub entry_field : (before : List Record) → Record → ℕ
@@ -139,7 +140,7 @@ IsUnfound map (stored.Folder entries metadata) name bad =
 
 -- ---- roots
 
-abbrev pub field_of : TreeField → RootField
+abbrev pub field_of : RootError → RootField
 field_of fields.Length = Length
 field_of fields.Version = Version
 
@@ -153,12 +154,12 @@ root_flaw bytes =
     else None)
 
 -- forty bytes are the entry of a directory, or of none
-abbrev pub IsEntryOf : (bytes : List ℕ) → (is_dir : Bool) → Type 0
-IsEntryOf bytes is_dir = (e : Entry) × IsEntry e × SpellsEntry e bytes × (e.is_dir ≡ is_dir)
+abbrev pub IsEntryOfKind : (bytes : List ℕ) → (is_dir : Bool) → Type 0
+IsEntryOfKind bytes is_dir = (e : Entry) × IsTreeEntry e × SpellsEntry e bytes × (e.is_dir ≡ is_dir)
 
 -- bytes don't begin with the two entries of a folder, of which the first is looked at first
 abbrev pub AreNoEntries : (bytes : List ℕ) → VacBad → Type 0
 AreNoEntries bytes bad =
     ((bad ≡ Meta 0) × (length bytes < 80))
     ⊎ ((80 ≤ length bytes) × (IsNoEntry (take 40 bytes) true 0 bad
-    ⊎ (IsEntryOf (take 40 bytes) true × IsNoEntry (take 40 (drop 40 bytes)) false 0 bad)))
+    ⊎ (IsEntryOfKind (take 40 bytes) true × IsNoEntry (take 40 (drop 40 bytes)) false 0 bad)))

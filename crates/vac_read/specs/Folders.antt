@@ -1,27 +1,27 @@
 -- What the parts of a reader of folders answer.
 use Rattle.std.specs.Prelude.{ℕ, ◌≡◌, ◌+◌, ◌-◌, ◌*◌, ◌/◌, ◌%◌, ◌<◌, ◌≤◌, ◌⊎◌, min, Bool, true, false, Option, Some, None, Result, Ok, Err, List, [], ◌∷◌, ◌++◌, codes, length, take, drop}
-use Rattle.vt_fields.specs.Filled.{filled}
+use Rattle.vt_base.specs.Filled.{filled}
 use Rattle.vt_tree.specs.declared.entry.Entry.{Entry}
 use Rattle.vt_tree.specs.declared.root.Root.{Root as TreeRoot}
-use Rattle.vt_tree.specs.Entries.{IsEntry, SpellsEntry}
+use Rattle.vt_tree.specs.Entries.{IsTreeEntry, SpellsEntry}
 use Rattle.vt_tree.specs.Content.{size_of, byte_of, AreGiven}
 use Rattle.vt_tree.specs.Maps.{BlockMap}
-use Rattle.vt_tree.specs.Roots.{IsRoot, spelled as root_bytes}
+use Rattle.vt_tree.specs.Roots.{IsRoot, root_bytes}
 use Rattle.vac_meta.specs.declared.record.Record.{Record}
 use Rattle.vac_meta.specs.declared.record.RecordKind.{RecordKind}
 use Rattle.vac_meta.specs.Records.{all_spelled}
 use Rattle.vac_model.specs.declared.TheConstants.{MIN_BLOCK_SIZE, MAX_BLOCK_SIZE}
 use Rattle.vac_model.specs.Trees.{entry_place, HasEntry, AreFolder}
 use Rattle.vac_read.specs.declared.directory.Directory.{Directory}
-use Rattle.vac_read.specs.declared.err.RootField.{RootField}
-use Rattle.vac_read.specs.declared.err.VacBad.{VacBad}
-use Rattle.vac_read.specs.declared.err.VacBad.TheVariants.{Root}
+use Rattle.vac_read.specs.declared.error.RootField.{RootField}
+use Rattle.vac_read.specs.declared.error.VacBad.{VacBad}
+use Rattle.vac_read.specs.declared.error.VacBad.TheVariants.{Root}
 use Rattle.vac_read.specs.declared.node.Node.{Node}
 use Rattle.vac_read.specs.declared.node.Stored.{Stored}
 use Rattle.vac_read.specs.declared.node.Stored.TheVariants as stored
-use Rattle.vac_read.specs.Broken.{IsUnread, IsNoEntry, LacksEntry, LacksEntries, LacksNode, LacksRecords, root_flaw}
-use Rattle.vac_read.specs.Nodes.{AreNodes, IsNode, IsStored, named}
-use Rattle.vac_read.specs.Reading.{Answers}
+use Rattle.vac_read.specs.Broken.{IsUnread, IsNoEntry, LacksDirectoryEntry, LacksEntries, LacksNode, LacksRecords, root_flaw}
+use Rattle.vac_read.specs.Nodes.{AreNodes, IsNode, IsStoredNode, named}
+use Rattle.vac_read.specs.Reading.{AnswersOrTells}
 
 -- ---- entries
 
@@ -31,8 +31,8 @@ pub record IsLeaf (map : BlockMap) (stream : Entry) (start : ℕ) (bytes : List 
   pub given : AreGiven (byte_of map stream) start bytes
 
 -- what is kept of a directory is a leaf of it, or nothing
-abbrev pub Keeps : BlockMap → Directory → Type 0
-Keeps map d = (d.leaf ≡ []) ⊎ IsLeaf map d.stream d.start d.leaf
+abbrev pub KeepsLeaf : BlockMap → Directory → Type 0
+KeepsLeaf map d = (d.leaf ≡ []) ⊎ IsLeaf map d.stream d.start d.leaf
 
 -- the place of an entry of a directory: its leaf begins at `start`, and the entry stands so far
 -- inside it
@@ -44,54 +44,54 @@ pub record IsPlace (stream : Entry) (i start inside : ℕ) : Type 0 where
   pub there : start + inside + 40 ≤ size_of stream
 
 -- the place of entry i, or none where the directory ends before
-abbrev pub IsPlaceOf : (stream : Entry) → (i : ℕ) → Option (ℕ × ℕ) → Type 0
-IsPlaceOf stream i (Some place) = IsPlace stream i place.0 place.1
-IsPlaceOf stream i None = size_of stream < entry_place stream i + 40
+abbrev pub IsEntryPlace : (stream : Entry) → (i : ℕ) → Option (ℕ × ℕ) → Type 0
+IsEntryPlace stream i (Some place) = IsPlace stream i place.0 place.1
+IsEntryPlace stream i None = size_of stream < entry_place stream i + 40
 
 -- the leaf that begins there is kept
 abbrev pub TellsLeaf : (old new : Directory) → (start : ℕ) → Result (Unit {0}) VacBad → BlockMap
     → Type 0
 TellsLeaf old new start result map =
-    Answers result (λ _. IsLeaf map old.stream start new.leaf)
+    AnswersOrTells result (λ _. IsLeaf map old.stream start new.leaf)
     (IsUnread map old.stream start (min old.stream.dsize (size_of old.stream - start)))
 
 -- forty bytes are this entry, or none of this kind
 abbrev pub TellsBytes : (bytes : List ℕ) → (is_dir : Bool) → (field : ℕ) → Result Entry VacBad
     → Type 0
-TellsBytes bytes is_dir field (Ok e) = IsEntry e × SpellsEntry e bytes × (e.is_dir ≡ is_dir)
+TellsBytes bytes is_dir field (Ok e) = IsTreeEntry e × SpellsEntry e bytes × (e.is_dir ≡ is_dir)
 TellsBytes bytes is_dir field (Err bad) = IsNoEntry bytes is_dir field bad
 
 -- the entry of this number
 abbrev pub TellsEntry : (stream : Entry) → (i : ℕ) → (is_dir : Bool) → (field : ℕ)
     → Result Entry VacBad → BlockMap → Type 0
 TellsEntry stream i is_dir field result map =
-    Answers result (λ e. HasEntry map stream i e × (e.is_dir ≡ is_dir))
-    (LacksEntry map stream i is_dir field)
+    AnswersOrTells result (λ e. HasEntry map stream i e × (e.is_dir ≡ is_dir))
+    (LacksDirectoryEntry map stream i is_dir field)
 
 -- the entries of a record
-abbrev pub TellsStored : (stream : Entry) → RecordKind → (i field : ℕ) → Result Stored VacBad
+abbrev pub TellsStoredEntries : (stream : Entry) → RecordKind → (i field : ℕ) → Result Stored VacBad
     → BlockMap → Type 0
-TellsStored stream kind i field result map =
-    Answers result (IsStored map stream kind i) (LacksEntries map stream kind i field)
+TellsStoredEntries stream kind i field result map =
+    AnswersOrTells result (IsStoredNode map stream kind i) (LacksEntries map stream kind i field)
 
 -- the item of a record
 abbrev pub TellsNode : (stream : Entry) → Record → (field : ℕ) → Result Node VacBad → BlockMap
     → Type 0
 TellsNode stream r field result map =
-    Answers result (IsNode map stream r) (LacksEntries map stream r.kind r.entry field)
+    AnswersOrTells result (IsNode map stream r) (LacksEntries map stream r.kind r.entry field)
 
 -- the items of records, in their order
 abbrev pub TellsNodes : (stream : Entry) → List Record → Result (List Node) VacBad → BlockMap
     → Type 0
 TellsNodes stream records result map =
-    Answers result (AreNodes map stream records) (LacksNode map stream records)
+    AnswersOrTells result (AreNodes map stream records) (LacksNode map stream records)
 
 -- ---- records
 
 abbrev pub TellsRecords : (entries metadata : Entry) → Result (List Record) VacBad → BlockMap
     → Type 0
 TellsRecords entries metadata result map =
-    Answers result (AreFolder map entries metadata) (LacksRecords map entries metadata)
+    AnswersOrTells result (AreFolder map entries metadata) (LacksRecords map entries metadata)
 
 -- a record is the first of this name, and its bytes stand at this place of the metadata
 pub record IsNamed (records : List Record) (name : List ℕ) (r : Record) (place : ℕ) : Type 0
@@ -117,10 +117,10 @@ abbrev pub IsNoRoot : (bytes : List ℕ) → VacBad → Type 0
 IsNoRoot bytes bad = (field : RootField) × (bad ≡ Root field) × (root_flaw bytes ≡ Some field)
 
 -- bytes begin with the two entries of a folder
-abbrev pub BeginsWith : (bytes : List ℕ) → Stored → Type 0
-BeginsWith bytes (stored.File e) = ⊥
-BeginsWith bytes (stored.Folder entries metadata) =
-    (80 ≤ length bytes) × IsEntry entries × SpellsEntry entries (take 40 bytes)
+abbrev pub BeginsWithFolder : (bytes : List ℕ) → Stored → Type 0
+BeginsWithFolder bytes (stored.File e) = ⊥
+BeginsWithFolder bytes (stored.Folder entries metadata) =
+    (80 ≤ length bytes) × IsTreeEntry entries × SpellsEntry entries (take 40 bytes)
     × (entries.is_dir ≡ true)
-    × IsEntry metadata × SpellsEntry metadata (take 40 (drop 40 bytes))
+    × IsTreeEntry metadata × SpellsEntry metadata (take 40 (drop 40 bytes))
     × (metadata.is_dir ≡ false)

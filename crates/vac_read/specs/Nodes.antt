@@ -1,13 +1,13 @@
 -- The items of an archive, as a reader hands them out (vacfs(4)).
 use Rattle.std.specs.Prelude.{ℕ, ◌≡◌, ◌+◌, ◌<◌, ◌≤◌, ◌^◌, ⊤, true, false, Option, Some, None, List, [], ◌∷◌, find, codes, length}
 use Rattle.std.specs.Str.{bytes_eq}
-use Rattle.vt_folder.specs.declared.item.Item.{Item}
-use Rattle.vt_folder.specs.declared.item.ItemKind.{ItemKind}
-use Rattle.vt_folder.specs.declared.item.ItemKind.TheVariants as kinds
-use Rattle.vt_folder.specs.Items.{item_of as listed_as}
+use Rattle.vt_out.specs.declared.folder_item.Item.{Item}
+use Rattle.vt_out.specs.declared.folder_item.ItemKind.{ItemKind}
+use Rattle.vt_out.specs.declared.folder_item.ItemKind.TheVariants as kinds
+use Rattle.vt_out.specs.FolderItems.{listed_item}
 use Rattle.vt_tree.specs.declared.entry.Entry.{Entry}
 use Rattle.vt_tree.specs.Content.{size_of}
-use Rattle.vt_tree.specs.Entries.{IsEntry}
+use Rattle.vt_tree.specs.Entries.{IsTreeEntry}
 use Rattle.vt_tree.specs.Maps.{BlockMap}
 use Rattle.vac_meta.specs.declared.TheConstants.{MAX_NAME}
 use Rattle.vac_meta.specs.declared.record.Record.{Record}
@@ -26,10 +26,10 @@ kind_of Folder = kinds.Folder
 
 -- what a record says of an item, with the low nine bits of its mode
 abbrev pub item_of : Record → Item
-item_of r = listed_as (described r).facts (kind_of r.kind)
+item_of r = listed_item (described r).facts (kind_of r.kind)
 
 -- what is told of an item: texts of at most 255 bytes, and nine bits of its mode
-pub record FitsItem (item : Item) : Type 0 where
+pub record FitsToldItem (item : Item) : Type 0 where
   pub name : length item.name ≤ MAX_NAME
   pub uid : length item.uid ≤ MAX_NAME
   pub gid : length item.gid ≤ MAX_NAME
@@ -37,21 +37,21 @@ pub record FitsItem (item : Item) : Type 0 where
 
 -- it may stand in a directory, and is a directory's itself, or not
 abbrev pub IsDirectory : Entry → Type 0
-IsDirectory e = IsEntry e × (e.is_dir ≡ true)
+IsDirectory e = IsTreeEntry e × (e.is_dir ≡ true)
 
-abbrev pub IsPlain : Entry → Type 0
-IsPlain e = IsEntry e × (e.is_dir ≡ false)
+abbrev pub IsFileEntry : Entry → Type 0
+IsFileEntry e = IsTreeEntry e × (e.is_dir ≡ false)
 
 -- the entries that a node keeps are those of a file or of a folder
-abbrev pub AreEntries : Stored → Type 0
-AreEntries (stored.File e) = IsPlain e
-AreEntries (stored.Folder entries metadata) = IsDirectory entries × IsPlain metadata
+abbrev pub AreNodeEntries : Stored → Type 0
+AreNodeEntries (stored.File e) = IsFileEntry e
+AreNodeEntries (stored.Folder entries metadata) = IsDirectory entries × IsFileEntry metadata
 
 -- the entries that a record of this kind names, from entry i on, are these
-abbrev pub IsStored : BlockMap → (stream : Entry) → RecordKind → (i : ℕ) → Stored → Type 0
-IsStored map stream kind i (stored.File e) =
+abbrev pub IsStoredNode : BlockMap → (stream : Entry) → RecordKind → (i : ℕ) → Stored → Type 0
+IsStoredNode map stream kind i (stored.File e) =
     (kind ≡ File) × HasEntry map stream i e × (e.is_dir ≡ false)
-IsStored map stream kind i (stored.Folder entries metadata) =
+IsStoredNode map stream kind i (stored.Folder entries metadata) =
     (kind ≡ Folder) × HasEntry map stream i entries × (entries.is_dir ≡ true)
     × HasEntry map stream (i + 1) metadata × (metadata.is_dir ≡ false)
 
@@ -65,7 +65,7 @@ pub record IsNode (map : BlockMap) (stream : Entry) (r : Record) (node : Node) :
   pub item : node.item ≡ item_of r
   pub qid : node.qid ≡ r.qid
   pub size : node.size ≡ len_of node.stored
-  pub is_stored : IsStored map stream r.kind r.entry node.stored
+  pub is_stored : IsStoredNode map stream r.kind r.entry node.stored
 
 -- ---- the items of a folder
 
@@ -93,25 +93,25 @@ abbrev pub named : (name : List ℕ) → List Record → Option Record
 named name records = find (λ r. bytes_eq r.name name) records
 
 -- the item of a folder that has this record, if there is one; the other items need not stand
-abbrev pub IsFound : BlockMap → (stream : Entry) → Option Record → Option Node → Type 0
-IsFound map stream (Some r) (Some node) = IsNode map stream r node
-IsFound map stream None None = ⊤
-IsFound map stream (Some r) None = ⊥
-IsFound map stream None (Some node) = ⊥
+abbrev pub IsFoundItem : BlockMap → (stream : Entry) → Option Record → Option Node → Type 0
+IsFoundItem map stream (Some r) (Some node) = IsNode map stream r node
+IsFoundItem map stream None None = ⊤
+IsFoundItem map stream (Some r) None = ⊥
+IsFoundItem map stream None (Some node) = ⊥
 
 -- the item of this name in what is stored so: None where it is absent, and below a file
-abbrev pub Finds : BlockMap → Stored → (name : List ℕ) → Option Node → Type 0
-Finds map (stored.File e) name found = found ≡ None
-Finds map (stored.Folder entries metadata) name found =
+abbrev pub FindsNode : BlockMap → Stored → (name : List ℕ) → Option Node → Type 0
+FindsNode map (stored.File e) name found = found ≡ None
+FindsNode map (stored.Folder entries metadata) name found =
     (records : List Record) × AreFolder map entries metadata records
-    × IsFound map entries (named name records) found
+    × IsFoundItem map entries (named name records) found
 
 -- where these names lead from a node, one after another
 abbrev pub Leads : BlockMap → Option Node → (names : List (List ℕ)) → Option Node → Type 0
 Leads map None names found = found ≡ None
 Leads map (Some node) [] found = found ≡ Some node
 Leads map (Some node) (name ∷ names) found =
-    (next : Option Node) × Finds map node.stored name next × Leads map next names found
+    (next : Option Node) × FindsNode map node.stored name next × Leads map next names found
 
 -- ---- the top folder
 

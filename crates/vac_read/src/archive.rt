@@ -2,16 +2,16 @@
 
 ghost use Rattle.std.specs.Prelude.{◌≡◌, IfOk, MatchResult};
 ghost use Rattle.vac_read.specs.Broken.{AreNoEntries};
-ghost use Rattle.vac_read.specs.Folders.{IsArchiveRoot, IsNoRoot, BeginsWith};
-ghost use Rattle.vac_read.specs.Nodes.{AreEntries, FitsItem, top_item};
-ghost use Rattle.vac_read.specs.Reading.{Reads, OpensArchive};
+ghost use Rattle.vac_read.specs.Folders.{IsArchiveRoot, IsNoRoot, BeginsWithFolder};
+ghost use Rattle.vac_read.specs.Nodes.{AreNodeEntries, FitsToldItem, top_item};
+ghost use Rattle.vac_read.specs.Reading.{ReadsArchive, OpensArchive};
 
 use crate::directory::entry_in;
 use crate::{Node, RootField, Stored, VacBad};
 use std::alloc::{AllocError, Global};
 use vac_model::{MAX_BLOCK_SIZE, MIN_BLOCK_SIZE};
 use vt_base::{Kind, Score, Text};
-use vt_folder::{Item, ItemKind};
+use vt_out::{Item, ItemKind};
 use vt_tree::{Blocks, Root};
 
 /// An archive.
@@ -26,10 +26,10 @@ impl Archive {
     /// block size of 512 to 53,248, tested in this order, that names a block of two entries or
     /// more. Of these the first is a directory's, and the second isn't.
     pub fn at<B: Blocks>(alloc: Global, blocks: &mut B, score: &Score) -> Result<Self, VacBad>
-        ensures opens { Reads B.does B.holds B.score_of blocks.old blocks.new result
+        ensures opens { ReadsArchive B.does B.holds B.score_of blocks.old blocks.new result
             (OpensArchive score.now.0 result) }
-        ensures entries { IfOk result (λ a. AreEntries a.top.stored) }
-        ensures item { IfOk result (λ a. FitsItem a.top.item) }
+        ensures entries { IfOk result (λ a. AreNodeEntries a.top.stored) }
+        ensures item { IfOk result (λ a. FitsToldItem a.top.item) }
     {
         let block = blocks.get(alloc, Kind::ROOT, score)?;
         let root = root_in(block.as_slice())?;
@@ -68,7 +68,7 @@ fn root_in(bytes: &[u8]) -> Result<Root, VacBad>
 
 /// The two entries of the top folder, which these bytes begin with.
 fn top_in(bytes: &[u8]) -> Result<Stored, VacBad>
-    ensures { MatchResult result (BeginsWith bytes.now) (AreNoEntries bytes.now) }
+    ensures { MatchResult result (BeginsWithFolder bytes.now) (AreNoEntries bytes.now) }
 {
     let Some((entries, rest)) = bytes.split_first_chunk() else {
         return Err(VacBad::Meta { at: 0 });

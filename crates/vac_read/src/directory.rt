@@ -3,10 +3,10 @@
 ghost use Rattle.std.specs.Prelude.{◌≡◌, ◌+◌, ◌<◌, ◌≤◌, ◌^◌, [], IfOk, MatchOption};
 ghost use Rattle.std.specs.Prelude.{length, take, drop};
 ghost use Rattle.vt_tree.specs.Content.{size_of};
-ghost use Rattle.vt_tree.specs.Entries.{IsEntry};
-ghost use Rattle.vac_read.specs.Folders.{Keeps, IsPlaceOf, TellsLeaf, TellsBytes, TellsEntry};
+ghost use Rattle.vt_tree.specs.Entries.{IsTreeEntry};
+ghost use Rattle.vac_read.specs.Folders.{KeepsLeaf, IsEntryPlace, TellsLeaf, TellsBytes, TellsEntry};
 ghost use Rattle.vac_read.specs.Nodes.{IsDirectory};
-ghost use Rattle.vac_read.specs.Reading.{Reads};
+ghost use Rattle.vac_read.specs.Reading.{ReadsArchive};
 
 use crate::VacBad;
 use std::alloc::Global;
@@ -49,9 +49,9 @@ impl Directory {
         requires stream { IsDirectory self.old.stream }
         requires number { number ≤ 2 ^ 32 }
         ensures stream { self.new.stream ≡ self.old.stream }
-        ensures entry { IfOk result (λ e. IsEntry e × (e.is_dir ≡ is_dir)) }
-        ensures reads { Reads B.does B.holds B.score_of blocks.old blocks.new result
-            (λ map. Keeps map self.old → Keeps map self.new
+        ensures entry { IfOk result (λ e. IsTreeEntry e × (e.is_dir ≡ is_dir)) }
+        ensures reads { ReadsArchive B.does B.holds B.score_of blocks.old blocks.new result
+            (λ map. KeepsLeaf map self.old → KeepsLeaf map self.new
             × TellsEntry self.old.stream number is_dir at result map) }
     {
         let Some((start, inside)) = place_of(&self.stream, number) else {
@@ -68,8 +68,8 @@ impl Directory {
     fn read_leaf<B: Blocks>(&mut self, blocks: &mut B, start: u64) -> Result<(), VacBad>
         requires { IsDirectory self.old.stream }
         ensures stream { self.new.stream ≡ self.old.stream }
-        ensures reads { Reads B.does B.holds B.score_of blocks.old blocks.new result
-            (λ map. Keeps map self.old → Keeps map self.new
+        ensures reads { ReadsArchive B.does B.holds B.score_of blocks.old blocks.new result
+            (λ map. KeepsLeaf map self.old → KeepsLeaf map self.new
             × TellsLeaf self.old self.new start result map) }
     {
         if !self.leaf.is_empty() && self.start == start {
@@ -94,7 +94,7 @@ pub(crate) fn size_of(stream: &Entry) -> u64
 fn place_of(stream: &Entry, number: u64) -> Option<(u64, usize)>
     requires stream { IsDirectory stream.now }
     requires number { number ≤ 2 ^ 32 }
-    ensures { IsPlaceOf stream.now number result }
+    ensures { IsEntryPlace stream.now number result }
 {
     let dsize = u64::from(stream.dsize);
     let each = dsize / ENTRY_LEN as u64;

@@ -2,8 +2,8 @@
 
 ghost use Rattle.std.specs.Prelude.{IfOk, IfSome};
 ghost use Rattle.std.specs.List.{All};
-ghost use Rattle.vac_read.specs.Nodes.{AreEntries, FitsItem};
-ghost use Rattle.vac_read.specs.Reading.{Reads, ListsFolder, FindsItem, WalksTo, ReadsNode};
+ghost use Rattle.vac_read.specs.Nodes.{AreNodeEntries, FitsToldItem};
+ghost use Rattle.vac_read.specs.Reading.{ReadsArchive, ListsFolder, FindsItem, WalksTo, ReadsNode};
 
 use crate::directory::Directory;
 use crate::items::{node_of, nodes_of};
@@ -16,11 +16,11 @@ use vt_tree::{Blocks, read_range};
 /// The items of a folder, in the order of their names. A file has none. The first record that
 /// can't stand in its metadata, or whose entry isn't there or is of another kind, is told.
 pub fn list<B: Blocks>(alloc: Global, blocks: &mut B, node: &Node) -> Result<Nodes, VacBad>
-    requires { AreEntries node.now.stored }
-    ensures lists { Reads B.does B.holds B.score_of blocks.old blocks.new result
+    requires { AreNodeEntries node.now.stored }
+    ensures lists { ReadsArchive B.does B.holds B.score_of blocks.old blocks.new result
         (ListsFolder node.now.stored result) }
-    ensures entries { IfOk result (All (λ n. AreEntries n.stored)) }
-    ensures items { IfOk result (All (λ n. FitsItem n.item)) }
+    ensures entries { IfOk result (All (λ n. AreNodeEntries n.stored)) }
+    ensures items { IfOk result (All (λ n. FitsToldItem n.item)) }
 {
     let Stored::Folder { entries, metadata } = node.stored else {
         return Ok(Nodes::from_vec(Vec::new(alloc)));
@@ -38,10 +38,10 @@ pub fn walk<B: Blocks>(
     node: &Node,
     names: &[Text],
 ) -> Result<Option<Node>, VacBad>
-    requires { AreEntries node.now.stored }
-    ensures walks { Reads B.does B.holds B.score_of blocks.old blocks.new result
+    requires { AreNodeEntries node.now.stored }
+    ensures walks { ReadsArchive B.does B.holds B.score_of blocks.old blocks.new result
         (WalksTo node.now names.now result) }
-    ensures entries { IfOk result (λ found. IfSome found (λ n. AreEntries n.stored)) }
+    ensures entries { IfOk result (λ found. IfSome found (λ n. AreNodeEntries n.stored)) }
 {
     let mut found = node.copied(alloc)?;
     for name in names {
@@ -61,11 +61,11 @@ pub fn find_item<B: Blocks>(
     node: &Node,
     name: &[u8],
 ) -> Result<Option<Node>, VacBad>
-    requires { AreEntries node.now.stored }
-    ensures finds { Reads B.does B.holds B.score_of blocks.old blocks.new result
+    requires { AreNodeEntries node.now.stored }
+    ensures finds { ReadsArchive B.does B.holds B.score_of blocks.old blocks.new result
         (FindsItem node.now.stored name.now result) }
-    ensures entries { IfOk result (λ found. IfSome found (λ n. AreEntries n.stored)) }
-    ensures item { IfOk result (λ found. IfSome found (λ n. FitsItem n.item)) }
+    ensures entries { IfOk result (λ found. IfSome found (λ n. AreNodeEntries n.stored)) }
+    ensures item { IfOk result (λ found. IfSome found (λ n. FitsToldItem n.item)) }
 {
     let Stored::Folder { entries, metadata } = node.stored else {
         return Ok(None);
@@ -87,7 +87,7 @@ pub fn read<B: Blocks>(
     at: u64,
     n: u32,
 ) -> Result<Bytes, VacBad>
-    requires { AreEntries node.now.stored }
+    requires { AreNodeEntries node.now.stored }
     ensures { ReadsNode B.does B.holds B.score_of blocks.old blocks.new node.now.stored at n
         result }
 {

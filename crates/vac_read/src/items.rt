@@ -2,17 +2,17 @@
 
 ghost use Rattle.std.specs.Prelude.{◌≡◌, ◌+◌, ◌<◌, ◌^◌, IfOk, length};
 ghost use Rattle.std.specs.List.{All, AllByRecursion};
-ghost use Rattle.vac_meta.specs.Records.{IsRecord, all_spelled, spelled, string};
-ghost use Rattle.vac_read.specs.Folders.{Keeps, TellsNode, TellsNodes, TellsStored};
-ghost use Rattle.vac_read.specs.Nodes.{AreEntries, FitsItem, IsDirectory, item_of};
-ghost use Rattle.vac_read.specs.Reading.{Reads};
+ghost use Rattle.vac_meta.specs.Records.{IsRecord, all_spelled, record_bytes, string};
+ghost use Rattle.vac_read.specs.Folders.{KeepsLeaf, TellsNode, TellsNodes, TellsStoredEntries};
+ghost use Rattle.vac_read.specs.Nodes.{AreNodeEntries, FitsToldItem, IsDirectory, item_of};
+ghost use Rattle.vac_read.specs.Reading.{ReadsArchive};
 
 use crate::directory::Directory;
 use crate::records::record_len;
 use crate::{Node, Nodes, Stored, VacBad};
 use std::alloc::Global;
 use vac_meta::{Record, RecordKind, Records};
-use vt_folder::{Item, ItemKind};
+use vt_out::{Item, ItemKind};
 use vt_tree::{Blocks, Entry};
 
 /// The nodes of a folder's records, of which the first stands at the front of its metadata.
@@ -25,9 +25,9 @@ pub(crate) fn nodes_of<B: Blocks>(
     requires stream { IsDirectory entries }
     requires each { AllByRecursion IsRecord records }
     requires short { length (all_spelled records) < 2 ^ 63 }
-    ensures entries { IfOk result (All (λ n. AreEntries n.stored)) }
-    ensures items { IfOk result (All (λ n. FitsItem n.item)) }
-    ensures reads { Reads B.does B.holds B.score_of blocks.old blocks.new result
+    ensures entries { IfOk result (All (λ n. AreNodeEntries n.stored)) }
+    ensures items { IfOk result (All (λ n. FitsToldItem n.item)) }
+    ensures reads { ReadsArchive B.does B.holds B.score_of blocks.old blocks.new result
         (TellsNodes entries records result) }
 {
     let mut directory = Directory::new(alloc, entries);
@@ -51,12 +51,12 @@ pub(crate) fn node_of<B: Blocks>(
 ) -> Result<Node, VacBad>
     requires stream { IsDirectory directory.old.stream }
     requires item { IsRecord item }
-    requires place { at + length (spelled item) < 2 ^ 63 }
+    requires place { at + length (record_bytes item) < 2 ^ 63 }
     ensures stream { directory.new.stream ≡ directory.old.stream }
-    ensures entries { IfOk result (λ n. AreEntries n.stored) }
-    ensures item { IfOk result (λ n. FitsItem n.item) }
-    ensures reads { Reads B.does B.holds B.score_of blocks.old blocks.new result
-        (λ map. Keeps map directory.old → Keeps map directory.new
+    ensures entries { IfOk result (λ n. AreNodeEntries n.stored) }
+    ensures item { IfOk result (λ n. FitsToldItem n.item) }
+    ensures reads { ReadsArchive B.does B.holds B.score_of blocks.old blocks.new result
+        (λ map. KeepsLeaf map directory.old → KeepsLeaf map directory.new
         × TellsNode directory.old.stream item (at + length (string item.name) + 1) result map) }
 {
     // Behind the name and the kind.
@@ -82,10 +82,10 @@ fn stored_of<B: Blocks>(
 ) -> Result<Stored, VacBad>
     requires { IsDirectory directory.old.stream }
     ensures stream { directory.new.stream ≡ directory.old.stream }
-    ensures entries { IfOk result AreEntries }
-    ensures reads { Reads B.does B.holds B.score_of blocks.old blocks.new result
-        (λ map. Keeps map directory.old → Keeps map directory.new
-        × TellsStored directory.old.stream kind number at result map) }
+    ensures entries { IfOk result AreNodeEntries }
+    ensures reads { ReadsArchive B.does B.holds B.score_of blocks.old blocks.new result
+        (λ map. KeepsLeaf map directory.old → KeepsLeaf map directory.new
+        × TellsStoredEntries directory.old.stream kind number at result map) }
 {
     let number = u64::from(number);
     match kind {

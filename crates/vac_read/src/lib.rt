@@ -4,7 +4,7 @@
 
 mod archive;
 mod directory;
-mod err;
+mod error;
 mod folders;
 mod items;
 pub mod laws;
@@ -12,6 +12,6 @@ mod node;
 mod records;
 
 pub use archive::Archive;
-pub use err::{RootField, VacBad};
+pub use error::{RootField, VacBad};
 pub use folders::{find_item, list, read, walk};
 pub use node::{Node, Nodes, Stored};

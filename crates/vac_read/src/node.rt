@@ -4,7 +4,7 @@ use crate::directory::size_of;
 use std::alloc::{AllocError, Global};
 use std::marker::Model;
 use vt_base::Text;
-use vt_folder::Item;
+use vt_out::Item;
 use vt_tree::Entry;
 
 /// Where an item's bytes or items stand.

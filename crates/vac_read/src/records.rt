@@ -2,10 +2,10 @@
 
 ghost use Rattle.std.specs.Prelude.{◌≡◌, ◌<◌, ◌^◌, None, IfOk, MatchOption, length};
 ghost use Rattle.std.specs.List.{AllByRecursion};
-ghost use Rattle.vac_meta.specs.Records.{FitsRecord, IsRecord, all_spelled, spelled};
+ghost use Rattle.vac_meta.specs.Records.{FitsRecord, IsRecord, all_spelled, record_bytes};
 ghost use Rattle.vac_read.specs.Folders.{IsNamed, TellsRecords};
-ghost use Rattle.vac_read.specs.Nodes.{AreEntries, named};
-ghost use Rattle.vac_read.specs.Reading.{Reads};
+ghost use Rattle.vac_read.specs.Nodes.{AreNodeEntries, named};
+ghost use Rattle.vac_read.specs.Reading.{ReadsArchive};
 ghost use Rattle.vac_read.specs.declared.node.Stored.{Stored};
 
 use crate::VacBad;
@@ -22,8 +22,8 @@ pub(crate) fn records_of<B: Blocks>(
     entries: &Entry,
     metadata: &Entry,
 ) -> Result<Records, VacBad>
-    requires { AreEntries (Stored.Folder entries.now metadata.now) }
-    ensures reads { Reads B.does B.holds B.score_of blocks.old blocks.new result
+    requires { AreNodeEntries (Stored.Folder entries.now metadata.now) }
+    ensures reads { ReadsArchive B.does B.holds B.score_of blocks.old blocks.new result
         (TellsRecords entries.now metadata.now result) }
     ensures each { IfOk result (AllByRecursion IsRecord) }
     ensures short { IfOk result (λ records. length (all_spelled records) < 2 ^ 63) }
@@ -60,7 +60,7 @@ pub(crate) fn find_named(records: Records, name: &[u8]) -> Option<(Record, usize
 /// How many bytes a record has.
 pub(crate) fn record_len(item: &Record) -> usize
     requires { FitsRecord item.now }
-    ensures { result ≡ length (spelled item.now) }
+    ensures { result ≡ length (record_bytes item.now) }
 {
     // 27: three lengths of 2, kind 1, entry 4, mode 4, mtime 4, qid 8.
     27 + item.name.len() + item.uid.len() + item.gid.len()

@@ -5,13 +5,13 @@ use Rattle.std.specs.List.{cons_option}
 use Rattle.vt_base.specs.Protocol.{TMessage, RMessage, t_ask, read, sync as sync_all, r_read, r_sync, r_write, r_error}
 use Rattle.vt_base.specs.declared.TheConstants.{MAX_BLOCK}
 use Rattle.vt_base.specs.declared.score.Score.{Score}
-use Rattle.vt_client.specs.declared.err.ClientErr.{ClientErr}
-use Rattle.vt_client.specs.Clients.{Asks, ClientState, block_of, committing, next_tag, taking_in}
-use Rattle.vt_client.specs.Exchanges.{Answers, Exchanges, Traffic, Wanted, told_score, traffic_of}
+use Rattle.vt_client.specs.declared.error.ClientErr.{ClientErr}
+use Rattle.vt_client.specs.Clients.{AsksRequest, ClientState, wanted_block, committing, next_tag, taking_in}
+use Rattle.vt_client.specs.Exchanges.{AnswersCall, Exchanges, Traffic, Wanted, told_score, traffic_of}
 use Rattle.vt_client.specs.Stores.{DoesAsClient, DoesOnce, refused_after, sent_after}
 use Rattle.vt_model.specs.History.{Block}
-use Rattle.vt_tree.specs.declared.err.BlockErr.{BlockErr}
-use Rattle.vt_tree.specs.Calls.{Call, get, put, sync, refusal_of, refusals_of, write_of}
+use Rattle.vt_tree.specs.declared.error.BlockErr.{BlockErr}
+use Rattle.vt_tree.specs.Calls.{Call, get, put, sync, refusal_of, refusals_of, write_of_block}
 use Rattle.vt_tree.specs.Making.{Makes}
 use Rattle.vt_remote.specs.Exchanged.{ExchangesEach}
 use Rattle.vt_remote.specs.Members.{LinkOf}
@@ -40,7 +40,7 @@ sent_behind (call ∷ calls) n = sent_behind calls (sent_after call n)
 abbrev pub said : (score_of : List ℕ → List ℕ) → Call → TMessage × RMessage
 said score_of (get kind s (Ok bytes)) = (t_ask (read s kind MAX_BLOCK), r_read bytes)
 said score_of (get kind s (Err err)) = (t_ask (read s kind MAX_BLOCK), r_error [])
-said score_of (put b answer) = (t_ask (write_of b), r_write (score_of b.bytes))
+said score_of (put b answer) = (t_ask (write_of_block b), r_write (score_of b.bytes))
 said score_of (sync answer) = (t_ask sync_all, r_sync)
 
 module _ {L : Type 0} (link : LinkOf L) (score_of : List ℕ → List ℕ) where
@@ -57,9 +57,9 @@ module _ {L : Type 0} (link : LinkOf L) (score_of : List ℕ → List ℕ) where
     pub sent : next.sent ≡ sent_after call c.sent
 
   asked_well : {T : Type 0} (w : Wanted T) (c next : ClientState L) (value : T)
-      (it : DoesOnce link score_of w c next (Ok value)) → Asks link score_of w c it.after (Ok value)
+      (it : DoesOnce link score_of w c next (Ok value)) → AsksRequest link score_of w c it.after (Ok value)
   asked_well {T} w c next value it =
-      subst (λ (r : Result T ClientErr). Asks link score_of w c it.after r) it.stands it.asked
+      subst (λ (r : Result T ClientErr). AsksRequest link score_of w c it.after r) it.stands it.asked
 
   goes_once : {T : Type 0} (w : Wanted T) (call : Call) (c next : ClientState L) (value : T)
       → c.spent ≡ false → DoesOnce link score_of w c next (Ok value)
@@ -78,7 +78,7 @@ module _ {L : Type 0} (link : LinkOf L) (score_of : List ℕ → List ℕ) where
   pub goes_on : (call : Call) (c next : ClientState L) → refusal_of call ≡ None
       → c.spent ≡ false → Does c call next → GoesOn call c next
   goes_on (get kind s (Ok bytes)) c next none unspent does =
-      goes_once (block_of s kind) (get kind s (Ok bytes)) c next bytes unspent does.asks does.sent
+      goes_once (wanted_block s kind) (get kind s (Ok bytes)) c next bytes unspent does.asks does.sent
   goes_on (put b (Ok given)) c next none unspent does =
       goes_once (taking_in score_of b.kind b.bytes) (put b (Ok given)) c next given unspent
       does.asks does.sent
@@ -131,7 +131,7 @@ module _ {L : Type 0} (link : LinkOf L) (score_of : List ℕ → List ℕ) where
 
     -- the score that a server told is that of the bytes
     own_score : (b : Block) (given : Score) (tag : ℕ) (before after : Traffic)
-        → Answers score_of tag (taking_in score_of b.kind b.bytes) before after (Ok given)
+        → AnswersCall score_of tag (taking_in score_of b.kind b.bytes) before after (Ok given)
         → given.0 ≡ score_of b.bytes
     own_score b given tag before after (inl (reply, exchanges, judged)) =
         let told_so : Some given.0 ≡ Some (score_of b.bytes) =
@@ -144,14 +144,14 @@ module _ {L : Type 0} (link : LinkOf L) (score_of : List ℕ → List ℕ) where
         → Exchanges (traffic_of link c.link) (traffic_of link next.link) c.tag
         (said score_of call).0 (said score_of call).1
     exchanges_once (get kind s (Ok bytes)) c next none unspent does =
-        once (block_of s kind) c next bytes unspent does.asks
+        once (wanted_block s kind) c next bytes unspent does.asks
     exchanges_once (put b (Ok given)) c next none unspent does =
         let w = taking_in score_of b.kind b.bytes in
         let own = own_score b given c.tag (traffic_of link c.link)
         (traffic_of link does.asks.after.link)
         ((asked_well w c next given does.asks).answers told unspent) in
         subst (λ (s : List ℕ). Exchanges (traffic_of link c.link) (traffic_of link next.link) c.tag
-        (t_ask (write_of b)) (r_write s)) own
+        (t_ask (write_of_block b)) (r_write s)) own
         (once w c next given unspent does.asks)
     exchanges_once (sync (Ok done)) c next none unspent does =
         once committing c next done unspent does.asks

@@ -2,24 +2,24 @@
 use Rattle.std.proofs.Common.{◌≡◌, ℕ, false, Option, Some, None, Result, Ok, Err, List, [], ◌∷◌, ◌++◌, refl, sym, ◌∙◌, ap, subst}
 use Rattle.std.specs.Prelude.{IfErr}
 use Rattle.std.specs.Option.{option_or}
-use Rattle.vt_client.specs.declared.err.ClientErr.{ClientErr}
-use Rattle.vt_client.specs.Clients.{Asks, ClientState, block_of, committing, spends, taking_in}
+use Rattle.vt_client.specs.declared.error.ClientErr.{ClientErr}
+use Rattle.vt_client.specs.Clients.{AsksRequest, ClientState, wanted_block, committing, spends, taking_in}
 use Rattle.vt_client.specs.Exchanges.{Wanted}
 use Rattle.vt_client.specs.Stores.{DoesAsClient, DoesOnce, refused_after}
-use Rattle.vt_folder.specs.declared.item.Facts.{Facts}
-use Rattle.vt_folder.specs.Items.{Items}
-use Rattle.vt_tree.specs.declared.err.BlockErr.{BlockErr}
-use Rattle.vt_tree.specs.declared.err.TreeErr.TheVariants as trees
+use Rattle.vt_out.specs.declared.folder_item.Facts.{Facts}
+use Rattle.vt_out.specs.FolderItems.{Items}
+use Rattle.vt_tree.specs.declared.error.BlockErr.{BlockErr}
+use Rattle.vt_tree.specs.declared.error.TreeErr.TheVariants as trees
 use Rattle.vt_tree.specs.Calls.{Call, get, put, sync, refusal_of}
 use Rattle.vt_tree.specs.Making.{Makes, IsRefusedLast}
-use Rattle.vt_remote.specs.declared.remote.RemoteBad.TheVariants.{Refused}
+use Rattle.vt_remote.specs.declared.remote.RemoteError.TheVariants.{Refused}
 use Rattle.vt_remote.specs.Members.{LinkOf}
 use Rattle.vt_remote.specs.Refused.{HasCauseOver}
-use Rattle.vt_remote.specs.Remote.{Talks}
+use Rattle.vt_remote.specs.Remote.{TalksToServer}
 use Rattle.vt_remote.proofs.Refusing.{behind, of_request, spent_behind}
 use Rattle.vac_write.specs.declared.archived.Archived.{Archived}
-use Rattle.vac_write.specs.declared.err.VacErr.{VacErr}
-use Rattle.vac_write.specs.declared.err.VacErr.TheVariants.{FolderFault, Tree, BadName, TooDeep, NoMemory}
+use Rattle.vac_write.specs.declared.error.VacErr.{VacErr}
+use Rattle.vac_write.specs.declared.error.VacErr.TheVariants.{FolderFault, Tree, BadName, TooDeep, NoMemory}
 use Rattle.vac_write.specs.Archiving.{GivesUpArchive}
 use Rattle.vac_remote.specs.Sending.{IsHeld, SendsFolder, as_asked, came_to}
 use Rattle.vac_remote.specs.Sent.{IsOfFolder, IsUnfitFor}
@@ -40,7 +40,7 @@ module _ {L : Type 0} (link : LinkOf L) (score_of : List ℕ → List ℕ) where
       → IsKept next
   kept_once {T} w c next err unspent first it =
       let why = it.stands.0 in
-      let asks = subst (λ (r : Result T ClientErr). Asks link score_of w c it.after r) it.stands.1
+      let asks = subst (λ (r : Result T ClientErr). AsksRequest link score_of w c it.after r) it.stands.1
       it.asked in
       record {
         why = why;
@@ -58,7 +58,7 @@ module _ {L : Type 0} (link : LinkOf L) (score_of : List ℕ → List ℕ) where
       → refusal_of call ≡ Some err → c.spent ≡ false → c.refused ≡ None
       → DoesAsClient link score_of c call next → IsKept next
   kept_so (get kind s (Err e)) err c next is unspent first does =
-      kept_once (block_of s kind) c next e unspent first does.asks
+      kept_once (wanted_block s kind) c next e unspent first does.asks
   kept_so (put b (Err e)) err c next is unspent first does =
       kept_once (taking_in score_of b.kind b.bytes) c next e unspent first does.asks
   kept_so (sync (Err e)) err c next is unspent first does =
@@ -132,7 +132,7 @@ module _ {L : Type 0} (link : LinkOf L) (score_of : List ℕ → List ℕ) where
     servers (Err NoMemory) refused n why c c' same gave is = let never : ⊥ = cc in absurd never
 
     pub server_so : (why : ClientErr) (back : L)
-        → Talks link score_of (SendsFolder link score_of bsize is_seen (Err why)) back
+        → TalksToServer link score_of (SendsFolder link score_of bsize is_seen (Err why)) back
         → HasCauseOver link why back
     server_so why back x =
         let does = x.does in
@@ -221,7 +221,7 @@ module _ {L : Type 0} (link : LinkOf L) (score_of : List ℕ → List ℕ) where
     own_so NoMemory c c' unspent first gave own = tt
 
     pub folder_so : (err : VacErr) (back : L)
-        → Talks link score_of (SendsFolder link score_of bsize is_seen (Ok (Err err))) back
+        → TalksToServer link score_of (SendsFolder link score_of bsize is_seen (Ok (Err err))) back
         → IsUnfitFor is_seen err
     folder_so err back x =
         let does = x.does in

@@ -19,7 +19,7 @@ use Rattle.vt_model.specs.declared.TheConstants.{BUCKET_ROOM}
 use Rattle.vt_model.proofs.Added.{added_held, adds_when}
 use Rattle.vt_model.proofs.Keys.{equal_bytes}
 use Rattle.vt_model.proofs.Numbers.{collides-free, held-by, held-longer, held-zero}
-use Rattle.vt_tree.specs.Calls.{write_of}
+use Rattle.vt_tree.specs.Calls.{write_of_block}
 use Rattle.vt_tree.specs.Maps.{Has, IsWriteOnce}
 use Rattle.vac_remote.specs.Sent.{all_taken_in}
 use Rattle.vac_remote.specs.Truthful.{AnswersTruly, GoesOnTo}
@@ -55,11 +55,11 @@ given (Some x) some = (x, refl)
 
 module _ (score : List ℕ → List ℕ) (c : Setup) where
   module _ (h : History) (b : Block) (s : List ℕ)
-      (is : (answer score c h (write_of b)).reply ≡ r_write s) where
+      (is : (answer score c h (write_of_block b)).reply ≡ r_write s) where
     abbrev IsThere : History → Type 0
     IsThere g = held score g (score b.bytes) b.kind ≡ Some b.bytes
 
-    there_before : (answer score c h (write_of b)).added ≡ None → IsThere h
+    there_before : (answer score c h (write_of_block b)).added ≡ None → IsThere h
     there_before none = elim (taken_as (is_kind b.kind) (nat_lt MAX_BLOCK (length b.bytes))
         (length b.bytes == 0) (collides score h b.bytes)
         (is_some (held score h (score b.bytes) b.kind))
@@ -83,19 +83,19 @@ module _ (score : List ℕ → List ℕ) (c : Setup) where
               }))
         ]
 
-    there_behind : (o : Option Accepted) → (answer score c h (write_of b)).added ≡ o
+    there_behind : (o : Option Accepted) → (answer score c h (write_of_block b)).added ≡ o
         → IsThere (with_added h o)
     there_behind None none = there_before none
     there_behind (Some e) added =
-        let written = (adds_when score c h (write_of b) e added).operation in
+        let written = (adds_when score c h (write_of_block b) e added).operation in
         let kinds : e.block.kind ≡ b.kind = cc in
         let bytes : e.block.bytes ≡ b.bytes = cc in
         let same : e.block ≡ b = λ i. record { kind = kinds i; bytes = bytes i } in
         subst (λ (x : Block). held score (h ++ e ∷ []) (score x.bytes) x.kind ≡ Some x.bytes) same
-        (added_held score c h (write_of b) e added)
+        (added_held score c h (write_of_block b) e added)
 
-    pub there : IsThere (with_added h (answer score c h (write_of b)).added)
-    there = there_behind (answer score c h (write_of b)).added refl
+    pub there : IsThere (with_added h (answer score c h (write_of_block b)).added)
+    there = there_behind (answer score c h (write_of_block b)).added refl
 
   -- ---- blocks stay
 
@@ -133,7 +133,7 @@ module _ (score : List ℕ → List ℕ) (c : Setup) where
   all_held [] before after truly = All-nil (Has score (held score after))
   all_held (b ∷ blocks) before after truly =
       let now = truly.0 in
-      let next = with_added now (answer score c now (write_of b)).added in
+      let next = with_added now (answer score c now (write_of_block b)).added in
       All-cons (Has score (held score after)) b blocks
       (stays next after (score b.bytes) b.kind b.bytes
       (goes (all_taken_in score blocks) next after truly.3)

@@ -4,33 +4,33 @@ use Rattle.std.specs.Prelude.{IfOk, IsTrue}
 use Rattle.std.proofs.Math.Nat.{mod-add-mod}
 use Rattle.std.proofs.lemmas.List.{length-map}
 use Rattle.vt_base.specs.Protocol.{TMessage, RMessage, t_ask, r_sync, r_write, sync as sync_all}
-use Rattle.vt_client.specs.declared.err.ClientErr.{ClientErr}
+use Rattle.vt_client.specs.declared.error.ClientErr.{ClientErr}
 use Rattle.vt_client.specs.Clients.{ClientState}
 use Rattle.vt_client.specs.Exchanges.{traffic_of}
 use Rattle.vt_client.specs.Stores.{DoesAsClient}
-use Rattle.vt_folder.specs.declared.item.Facts.{Facts}
-use Rattle.vt_folder.specs.Items.{Items}
+use Rattle.vt_out.specs.declared.folder_item.Facts.{Facts}
+use Rattle.vt_out.specs.FolderItems.{Items}
 use Rattle.vt_model.specs.History.{Block}
-use Rattle.vt_tree.specs.Calls.{Call, get, put, sync, asked_of, refusal_of, refusals_of, write_of}
+use Rattle.vt_tree.specs.Calls.{Call, get, put, sync, asked_of, refusal_of, refusals_of, write_of_block}
 use Rattle.vt_remote.specs.Exchanged.{ExchangesEach}
 use Rattle.vt_remote.specs.Members.{LinkOf}
-use Rattle.vt_remote.specs.Remote.{Talks}
+use Rattle.vt_remote.specs.Remote.{TalksToServer}
 use Rattle.vt_remote.proofs.Exchanging.{all_of, fresh_spent, fresh_tag}
 use Rattle.vac_model.specs.Archives.{archive_of}
 use Rattle.vac_write.specs.declared.archived.Archived.{Archived}
-use Rattle.vac_write.specs.declared.err.VacErr.{VacErr}
+use Rattle.vac_write.specs.declared.error.VacErr.{VacErr}
 use Rattle.vac_write.specs.Archiving.{WritesArchive}
 use Rattle.vac_remote.specs.declared.outcome.SentArchive.{SentArchive}
-use Rattle.vac_remote.specs.declared.outcome.SentBad.{SentBad}
-use Rattle.vac_remote.specs.declared.outcome.SentBad.TheVariants.{Server, Folder}
-use Rattle.vac_remote.specs.Sending.{IsHeld, SendsFolder, as_asked, came_to, told}
-use Rattle.vac_remote.specs.Sent.{IsSent, all_taken_in, as_messages, counted}
+use Rattle.vac_remote.specs.declared.outcome.SendError.{SendError}
+use Rattle.vac_remote.specs.declared.outcome.SendError.TheVariants.{Server, Folder}
+use Rattle.vac_remote.specs.Sending.{IsHeld, SendsFolder, as_asked, came_to, send_error}
+use Rattle.vac_remote.specs.Sent.{IsSent, all_taken_in, as_messages, counted_blocks}
 use Rattle.vac_remote.proofs.Calling.{AllGoOn, accepted_first, all_go_on, exchanges, said, sent_behind, tag_behind}
 
 -- ---- the calls of an archive
 
 -- a block that is written is known by its type and bytes
-same_block : (x b : Block) → write_of x ≡ write_of b → x ≡ b
+same_block : (x b : Block) → write_of_block x ≡ write_of_block b → x ≡ b
 same_block x b is =
     let kinds : x.kind ≡ b.kind = cc in
     let bytes : x.bytes ≡ b.bytes = cc in
@@ -44,10 +44,10 @@ module _ (score_of : List ℕ → List ℕ) where
   abbrev spoken : List Block → List (TMessage × RMessage)
   spoken blocks = as_messages (all_taken_in score_of blocks)
 
-  said_put : (call : Call) (b : Block) → asked_of call ≡ write_of b
-      → said score_of call ≡ (t_ask (write_of b), r_write (score_of b.bytes))
+  said_put : (call : Call) (b : Block) → asked_of call ≡ write_of_block b
+      → said score_of call ≡ (t_ask (write_of_block b), r_write (score_of b.bytes))
   said_put (put x answer) b is =
-      ap (λ (y : Block). (t_ask (write_of y), r_write (score_of y.bytes))) (same_block x b is)
+      ap (λ (y : Block). (t_ask (write_of_block y), r_write (score_of y.bytes))) (same_block x b is)
   said_put (get kind s answer) b is = let never : ⊥ = cc in absurd never
   said_put (sync answer) b is = let never : ⊥ = cc in absurd never
 
@@ -58,7 +58,7 @@ module _ (score_of : List ℕ → List ℕ) where
   said_sync (sync answer) is = refl
 
   said_are : (blocks : List Block) (calls : List Call)
-      → map asked_of calls ≡ map write_of blocks ++ sync_all ∷ []
+      → map asked_of calls ≡ map write_of_block blocks ++ sync_all ∷ []
       → map (said score_of) calls ≡ spoken blocks
   said_are [] [] asked = let never : ⊥ = cc in absurd never
   said_are [] (call ∷ calls) asked =
@@ -69,8 +69,8 @@ module _ (score_of : List ℕ → List ℕ) where
       λ i. one i ∷ map (said score_of) (end i)
   said_are (b ∷ blocks) [] asked = let never : ⊥ = cc in absurd never
   said_are (b ∷ blocks) (call ∷ calls) asked =
-      let first : asked_of call ≡ write_of b = cc in
-      let rest : map asked_of calls ≡ map write_of blocks ++ sync_all ∷ [] = cc in
+      let first : asked_of call ≡ write_of_block b = cc in
+      let rest : map asked_of calls ≡ map write_of_block blocks ++ sync_all ∷ [] = cc in
       let one = said_put call b first in
       let more = said_are blocks calls rest in
       λ i. one i ∷ more i
@@ -87,7 +87,7 @@ tags (call ∷ calls) k =
 
 -- each block that was taken in counts
 sent_are : (blocks : List Block) (calls : List Call) (n : ℕ) → refusals_of calls ≡ []
-    → map asked_of calls ≡ map write_of blocks ++ sync_all ∷ [] → n ≤ 2 ^ 64 - 1
+    → map asked_of calls ≡ map write_of_block blocks ++ sync_all ∷ [] → n ≤ 2 ^ 64 - 1
     → sent_behind calls n ≡ min (n + length blocks) (2 ^ 64 - 1)
 sent_are [] [] n accepted asked fits = let never : ⊥ = cc in absurd never
 sent_are [] (call ∷ calls) n accepted asked fits =
@@ -103,13 +103,13 @@ sent_are [] (call ∷ calls) n accepted asked fits =
         ap (λ (cs : List Call). sent_behind cs n) end ∙ omega (arith, fits)
 sent_are (b ∷ blocks) [] n accepted asked fits = let never : ⊥ = cc in absurd never
 sent_are (b ∷ blocks) (call ∷ calls) n accepted asked fits =
-    let first : asked_of call ≡ write_of b = cc in
-    let rest : map asked_of calls ≡ map write_of blocks ++ sync_all ∷ [] = cc in
+    let first : asked_of call ≡ write_of_block b = cc in
+    let rest : map asked_of calls ≡ map write_of_block blocks ++ sync_all ∷ [] = cc in
     let two = accepted_first call calls accepted in
     of call two.0 first
     (sent_are blocks calls (min (n + 1) (2 ^ 64 - 1)) two.1 rest (omega arith))
   where
-    of : (x : Call) → refusal_of x ≡ None → asked_of x ≡ write_of b
+    of : (x : Call) → refusal_of x ≡ None → asked_of x ≡ write_of_block b
         → sent_behind calls (min (n + 1) (2 ^ 64 - 1))
         ≡ min (min (n + 1) (2 ^ 64 - 1) + length blocks) (2 ^ 64 - 1)
         → sent_behind (x ∷ calls) n ≡ min (n + length (b ∷ blocks)) (2 ^ 64 - 1)
@@ -125,7 +125,7 @@ module _ {L : Type 0} (link : LinkOf L) (score_of : List ℕ → List ℕ) (bsiz
   abbrev Wrote : ClientState L → ClientState L → Archived → Type 0
   Wrote c c' = WritesArchive (DoesAsClient link score_of) IsHeld score_of c c' bsize is_seen
 
-  no_archive : (bad : SentBad) (sent : SentArchive) → Ok (Ok sent) ≡ as_asked (Err bad) → ⊥
+  no_archive : (bad : SendError) (sent : SentArchive) → Ok (Ok sent) ≡ as_asked (Err bad) → ⊥
   no_archive (Server bad) sent is = cc
   no_archive (Folder err) sent is = cc
 
@@ -138,10 +138,10 @@ module _ {L : Type 0} (link : LinkOf L) (score_of : List ℕ → List ℕ) (bsiz
       (sent : SentArchive) (c c' : ClientState L) → IfOk given (Wrote c c')
       → Ok (Ok sent) ≡ as_asked (came_to given refused n) → Told c c' n sent
   told_so (Ok a) refused n sent c c' wrote is = record { archived = a; wrote = wrote; is = cc }
-  told_so (Err err) refused n sent c c' wrote is = absurd (no_archive (told err refused) sent is)
+  told_so (Err err) refused n sent c c' wrote is = absurd (no_archive (send_error err refused) sent is)
 
   module _ (tells : IsTrue link.tells) (sent : SentArchive) (back : L)
-      (x : Talks link score_of (SendsFolder link score_of bsize is_seen (Ok (Ok sent))) back) where
+      (x : TalksToServer link score_of (SendsFolder link score_of bsize is_seen (Ok (Ok sent))) back) where
     abbrev kept : ClientState L
     kept = x.does.kept
 
@@ -202,7 +202,7 @@ module _ {L : Type 0} (link : LinkOf L) (score_of : List ℕ → List ℕ) (bsiz
         many = ap (λ (s : SentArchive). s.sent) is ∙ whole.sent
             ∙ ap (sent_behind w.calls) met_sent
             ∙ sent_are blocks w.calls 0 w.accepted w.asked (omega arith)
-            ∙ ap counted (omega arith);
+            ∙ ap counted_blocks (omega arith);
       }
 
     pub sent_so : IsSent score_of bsize is_seen sent (traffic_of link back)

@@ -1,46 +1,46 @@
 -- A folder that is archived at a Venti server (vac(1), venti(6)): what is asked of the server, and
 -- what is told of it.
 use Rattle.std.specs.Prelude.{ℕ, ◌≡◌, Bool, Option, Some, None, Result, Ok, Err, IfOk, IfErr, List}
-use Rattle.vt_folder.specs.declared.item.Facts.{Facts}
-use Rattle.vt_folder.specs.Items.{Items}
-use Rattle.vt_tree.specs.declared.err.TreeErr.TheVariants as trees
+use Rattle.vt_out.specs.declared.folder_item.Facts.{Facts}
+use Rattle.vt_out.specs.FolderItems.{Items}
+use Rattle.vt_tree.specs.declared.error.TreeErr.TheVariants as trees
 use Rattle.vt_tree.specs.Maps.{Maps}
-use Rattle.vt_client.specs.declared.err.ClientErr.{ClientErr}
+use Rattle.vt_client.specs.declared.error.ClientErr.{ClientErr}
 use Rattle.vt_client.specs.Clients.{ClientState}
 use Rattle.vt_client.specs.Stores.{DoesAsClient}
 use Rattle.vt_remote.specs.Members.{LinkOf}
 use Rattle.vt_remote.specs.Remote.{as_remote}
-use Rattle.vt_remote.specs.declared.remote.RemoteBad.{RemoteBad}
-use Rattle.vt_remote.specs.declared.remote.RemoteBad.TheVariants.{Refused}
+use Rattle.vt_remote.specs.declared.remote.RemoteError.{RemoteError}
+use Rattle.vt_remote.specs.declared.remote.RemoteError.TheVariants.{Refused}
 use Rattle.vac_write.specs.declared.archived.Archived.{Archived}
-use Rattle.vac_write.specs.declared.err.VacErr.{VacErr}
-use Rattle.vac_write.specs.declared.err.VacErr.TheVariants.{FolderFault, Tree}
+use Rattle.vac_write.specs.declared.error.VacErr.{VacErr}
+use Rattle.vac_write.specs.declared.error.VacErr.TheVariants.{FolderFault, Tree}
 use Rattle.vac_write.specs.Archiving.{WritesArchive, GivesUpArchive}
 use Rattle.vac_remote.specs.declared.outcome.SentArchive.{SentArchive}
-use Rattle.vac_remote.specs.declared.outcome.SentBad.{SentBad}
-use Rattle.vac_remote.specs.declared.outcome.SentBad.TheVariants.{Server, Folder}
+use Rattle.vac_remote.specs.declared.outcome.SendError.{SendError}
+use Rattle.vac_remote.specs.declared.outcome.SendError.TheVariants.{Server, Folder}
 
 -- ---- what is told
 
 -- A server may say no, or not be reached; that a folder can't be archived is no refusal of the
 -- server's.
-abbrev pub as_asked : Result SentArchive SentBad → Result (Result SentArchive VacErr) RemoteBad
+abbrev pub as_asked : Result SentArchive SendError → Result (Result SentArchive VacErr) RemoteError
 as_asked (Ok sent) = Ok (Ok sent)
 as_asked (Err (Folder err)) = Ok (Err err)
 as_asked (Err (Server bad)) = Err bad
 
 -- why no folder was archived, at a server that said no first for this reason, if it did
-abbrev pub told : VacErr → (refused : Option ClientErr) → SentBad
-told (Tree (trees.Block err)) (Some why) = Server (Refused why)
-told err refused = Folder err
+abbrev pub send_error : VacErr → (refused : Option ClientErr) → SendError
+send_error (Tree (trees.Block err)) (Some why) = Server (Refused why)
+send_error err refused = Folder err
 
 -- what an archiving comes to, at such a server, which took in so many blocks
 abbrev pub came_to : Result Archived VacErr → (refused : Option ClientErr) → (sent : ℕ)
-    → Result SentArchive SentBad
+    → Result SentArchive SendError
 came_to (Ok a) refused sent = Ok (record { archived = a; sent = sent })
-came_to (Err err) refused sent = Err (told err refused)
+came_to (Err err) refused sent = Err (send_error err refused)
 
-abbrev pub is_folder_fault : SentBad → Bool
+abbrev pub is_folder_fault : SendError → Bool
 is_folder_fault (Folder FolderFault) = Bool.true
 is_folder_fault bad = Bool.false
 

@@ -3,17 +3,17 @@
 use Rattle.std.specs.Prelude.{ℕ, ◌≡◌, ◌-◌, ◌<◌, ◌^◌, ⊤, min, None, List, [], ◌∷◌, ◌++◌, length, map}
 use Rattle.vt_base.specs.Protocol.{Operation, RMessage, TMessage, r_sync, r_write, sync, t_ask}
 use Rattle.vt_client.specs.Exchanges.{Traffic}
-use Rattle.vt_folder.specs.declared.item.Facts.{Facts}
-use Rattle.vt_folder.specs.Items.{Items}
+use Rattle.vt_out.specs.declared.folder_item.Facts.{Facts}
+use Rattle.vt_out.specs.FolderItems.{Items}
 use Rattle.vt_model.specs.History.{Block}
 use Rattle.vt_remote.specs.Exchanged.{Exchanged}
-use Rattle.vt_tree.specs.declared.err.TreeErr.TheVariants as trees
-use Rattle.vt_tree.specs.Calls.{write_of}
+use Rattle.vt_tree.specs.declared.error.TreeErr.TheVariants as trees
+use Rattle.vt_tree.specs.Calls.{write_of_block}
 use Rattle.vac_model.specs.Archives.{archive_of}
 use Rattle.vac_model.specs.Kept.{archived, count, skipped}
 use Rattle.vac_model.specs.Limits.{HaveTimes, first_unfit}
-use Rattle.vac_write.specs.declared.err.VacErr.{VacErr}
-use Rattle.vac_write.specs.declared.err.VacErr.TheVariants.{FolderFault, Tree, BadName, TooDeep, NoMemory}
+use Rattle.vac_write.specs.declared.error.VacErr.{VacErr}
+use Rattle.vac_write.specs.declared.error.VacErr.TheVariants.{FolderFault, Tree, BadName, TooDeep, NoMemory}
 use Rattle.vac_write.specs.Archiving.{IsGivenUpAs}
 use Rattle.vac_remote.specs.declared.outcome.SentArchive.{SentArchive}
 
@@ -21,7 +21,7 @@ use Rattle.vac_remote.specs.declared.outcome.SentArchive.{SentArchive}
 
 -- a block is written, and taken in with its own score
 abbrev pub taken_in : (score_of : List ℕ → List ℕ) → Block → Operation × RMessage
-taken_in score_of b = (write_of b, r_write (score_of b.bytes))
+taken_in score_of b = (write_of_block b, r_write (score_of b.bytes))
 
 -- these blocks are, in order, and behind them the server has committed
 abbrev pub all_taken_in : (score_of : List ℕ → List ℕ) → List Block → List (Operation × RMessage)
@@ -32,8 +32,8 @@ abbrev pub as_messages : List (Operation × RMessage) → List (TMessage × RMes
 as_messages calls = map (λ call. (t_ask call.0, call.1)) calls
 
 -- A count of blocks stands still at the end of its type.
-abbrev pub counted : ℕ → ℕ
-counted n = min n (2 ^ 64 - 1)
+abbrev pub counted_blocks : ℕ → ℕ
+counted_blocks n = min n (2 ^ 64 - 1)
 
 -- An archive that was told was sent: its score is that of the archive of a folder that was seen, of
 -- which it tells what was left out; each of its blocks was written, in order, and taken in with its
@@ -50,7 +50,7 @@ pub record IsSent (score_of : List ℕ → List ℕ) (bsize : ℕ) (is_seen : It
   pub left_out : sent.archived.skipped ≡ skipped seen
   pub exchanged : Exchanged
       (as_messages (all_taken_in score_of (archive_of score_of bsize seen).blocks)) back
-  pub many : sent.sent ≡ counted (length (archive_of score_of bsize seen).blocks)
+  pub many : sent.sent ≡ counted_blocks (length (archive_of score_of bsize seen).blocks)
 
 -- ---- one that wasn't
 

@@ -2,8 +2,8 @@
 use Rattle.std.specs.Prelude.{ℕ, ◌≡◌, ◌++◌, List, [], ◌∷◌}
 use Rattle.std.specs.List.{All}
 use Rattle.vt_base.specs.Protocol.{Operation, RMessage}
-use Rattle.vt_folder.specs.declared.item.Facts.{Facts}
-use Rattle.vt_folder.specs.Items.{Items}
+use Rattle.vt_out.specs.declared.folder_item.Facts.{Facts}
+use Rattle.vt_out.specs.FolderItems.{Items}
 use Rattle.vt_model.specs.Answer.{answer, with_added}
 use Rattle.vt_model.specs.History.{History, held}
 use Rattle.vt_model.specs.Places.{Setup}

@@ -2,18 +2,18 @@
 //! leaves.
 
 ghost use Rattle.std.specs.Prelude.{◌≡◌, ◌≤◌, ℕ, Bool, IsTrue, List, Ok, Err, length};
-ghost use Rattle.vt_client.specs.declared.err.ClientErr.{ClientErr};
+ghost use Rattle.vt_client.specs.declared.error.ClientErr.{ClientErr};
 ghost use Rattle.vt_client.specs.Exchanges.{Traffic, traffic_of};
-ghost use Rattle.vt_folder.specs.declared.item.Facts.{Facts};
-ghost use Rattle.vt_folder.specs.Items.{Items};
+ghost use Rattle.vt_out.specs.declared.folder_item.Facts.{Facts};
+ghost use Rattle.vt_out.specs.FolderItems.{Items};
 ghost use Rattle.vt_model.specs.History.{History};
 ghost use Rattle.vt_model.specs.Legal.{IsLegal};
 ghost use Rattle.vt_model.specs.Places.{Setup};
 ghost use Rattle.vt_remote.specs.Refused.{HasCauseOver};
-ghost use Rattle.vt_remote.specs.Remote.{Talks};
+ghost use Rattle.vt_remote.specs.Remote.{TalksToServer};
 ghost use Rattle.vac_model.specs.Archives.{archive_of};
 ghost use Rattle.vac_model.specs.declared.TheConstants.{MIN_BLOCK_SIZE, MAX_BLOCK_SIZE};
-ghost use Rattle.vac_write.specs.declared.err.VacErr.{VacErr};
+ghost use Rattle.vac_write.specs.declared.error.VacErr.{VacErr};
 ghost use Rattle.vac_write.specs.Archiving.{IsSeen};
 ghost use Rattle.vac_remote.specs.declared.outcome.SentArchive.{SentArchive};
 ghost use Rattle.vac_remote.specs.Sending.{SendsFolder};
@@ -28,7 +28,7 @@ use vt_out::Link;
 pub fn sent_archives_are_exchanged<L: Link>()
     ensures { (score_of : List ℕ → List ℕ) (bsize : ℕ) (tells : Bool) (held : Items Facts)
         (sent : SentArchive) (back : L) → IsTrue L.tells
-        → Talks L.Link score_of (SendsFolder L.Link score_of bsize (IsSeen tells held)
+        → TalksToServer L.Link score_of (SendsFolder L.Link score_of bsize (IsSeen tells held)
         (Ok (Ok sent))) back
         → IsSent score_of bsize (IsSeen tells held) sent (traffic_of L.Link back) }
 {}
@@ -39,11 +39,12 @@ pub fn sent_archives_are_exchanged<L: Link>()
 pub fn refusals_have_causes<L: Link>()
     ensures server { (score_of : List ℕ → List ℕ) (bsize : ℕ) (tells : Bool)
         (held : Items Facts) (why : ClientErr) (back : L)
-        → Talks L.Link score_of (SendsFolder L.Link score_of bsize (IsSeen tells held) (Err why))
+        → TalksToServer L.Link score_of
+        (SendsFolder L.Link score_of bsize (IsSeen tells held) (Err why))
         back → HasCauseOver L.Link why back }
     ensures folder { (score_of : List ℕ → List ℕ) (bsize : ℕ) (tells : Bool)
         (held : Items Facts) (err : VacErr) (back : L)
-        → Talks L.Link score_of (SendsFolder L.Link score_of bsize (IsSeen tells held)
+        → TalksToServer L.Link score_of (SendsFolder L.Link score_of bsize (IsSeen tells held)
         (Ok (Err err))) back → IsUnfitFor (IsSeen tells held) err }
 {}
 

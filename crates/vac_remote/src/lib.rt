@@ -7,5 +7,5 @@ mod outcome;
 mod remote;
 
 pub use laws::{refusals_have_causes, sent_archives_are_exchanged, truthful_servers_keep_archives};
-pub use outcome::{SentArchive, SentBad};
+pub use outcome::{SendError, SentArchive};
 pub use remote::archive_remote;

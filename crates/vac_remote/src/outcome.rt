@@ -1,7 +1,7 @@
 //! What comes of archiving a folder at a server.
 
 use vac_write::{Archived, VacErr};
-use vt_remote::RemoteBad;
+use vt_remote::RemoteError;
 
 /// What was archived at a server.
 #[derive(Drop)]
@@ -13,21 +13,21 @@ pub struct SentArchive {
 
 /// Why a folder isn't archived at a server.
 #[derive(Drop)]
-pub enum SentBad {
+pub enum SendError {
     /// No server was reached, it said no, or something other than what was asked, or the link to it
     /// failed.
-    Server(RemoteBad),
+    Server(RemoteError),
     /// A call of the folder has failed, it has something that can't be archived, or memory ran out.
     Folder(VacErr),
 }
 
-impl From<RemoteBad> for SentBad {
+impl From<RemoteError> for SendError {
     ghost use Rattle.std.specs.Prelude.{◌≡◌};
-    ghost use Rattle.vac_remote.specs.declared.outcome.SentBad.TheVariants.{Server};
+    ghost use Rattle.vac_remote.specs.declared.outcome.SendError.TheVariants.{Server};
 
     ghost from_gives = { λ bad sent_bad. sent_bad ≡ Server bad };
 
-    fn from(bad: RemoteBad) -> Self {
-        SentBad::Server(bad)
+    fn from(bad: RemoteError) -> Self {
+        SendError::Server(bad)
     }
 }

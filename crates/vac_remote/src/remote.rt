@@ -5,17 +5,17 @@ ghost use Rattle.vt_base.specs.Faults.{CountsFault};
 ghost use Rattle.vt_remote.specs.Remote.{AsksServer};
 ghost use Rattle.vac_model.specs.declared.TheConstants.{MIN_BLOCK_SIZE, MAX_BLOCK_SIZE};
 ghost use Rattle.vac_write.specs.Archiving.{IsSeen};
-ghost use Rattle.vac_remote.specs.Sending.{SendsFolder, as_asked, came_to, is_folder_fault, told};
+ghost use Rattle.vac_remote.specs.Sending.{SendsFolder, as_asked, came_to, is_folder_fault, send_error};
 
-use crate::{SentArchive, SentBad};
+use crate::{SendError, SentArchive};
 use std::alloc::Global;
 use vac_write::{Archived, VacErr, archive};
 use vt_base::Scorer;
 use vt_client::ClientErr;
 use vt_conf::Address;
 use vt_dial::Dialer;
-use vt_folder::Folder;
-use vt_remote::{RemoteBad, meet, part};
+use vt_out::Folder;
+use vt_remote::{RemoteError, meet, part};
 use vt_tree::TreeErr;
 
 /// Dials a server, greets it, archives a folder (vac(1)) at it in blocks of at most so many bytes,
@@ -28,7 +28,7 @@ pub fn archive_remote<D: Dialer, S: Scorer + Drop, F: Folder>(
     scorer: S,
     folder: &mut F,
     bsize: u16,
-) -> Result<SentArchive, SentBad>
+) -> Result<SentArchive, SendError>
     requires least { MIN_BLOCK_SIZE ≤ bsize }
     requires most { bsize ≤ MAX_BLOCK_SIZE }
     ensures asks { AsksServer D.Link.Link S.score_of
@@ -53,21 +53,23 @@ fn came_to(
     answer: Result<Archived, VacErr>,
     refused: Option<ClientErr>,
     sent: u64,
-) -> Result<SentArchive, SentBad>
+) -> Result<SentArchive, SendError>
     ensures { result ≡ came_to answer refused sent }
 {
     match answer {
         Ok(archived) => Ok(SentArchive { archived, sent }),
-        Err(err) => Err(told(err, refused)),
+        Err(err) => Err(send_error(err, refused)),
     }
 }
 
 /// Why no folder was archived, at a server that said no first for this reason, if it did.
-fn told(err: VacErr, refused: Option<ClientErr>) -> SentBad
-    ensures { result ≡ told err refused }
+fn send_error(err: VacErr, refused: Option<ClientErr>) -> SendError
+    ensures { result ≡ send_error err refused }
 {
     match (err, refused) {
-        (VacErr::Tree(TreeErr::Block(_)), Some(why)) => SentBad::Server(RemoteBad::Refused(why)),
-        (err, _) => SentBad::Folder(err),
+        (VacErr::Tree(TreeErr::Block(_)), Some(why)) => SendError::Server(RemoteError::Refused(
+            why,
+        )),
+        (err, _) => SendError::Folder(err),
     }
 }

@@ -2,14 +2,14 @@
 use Rattle.std.proofs.Common.{◌≡◌, ℕ, List, true, false, Result, Ok, Err, subst}
 use Rattle.std.specs.Prelude.{IfErr, IfOk}
 use Rattle.vt_disk.specs.Members.{DiskOf}
-use Rattle.vt_folder.specs.declared.item.Facts.{Facts}
-use Rattle.vt_folder.specs.Items.{Items}
+use Rattle.vt_out.specs.declared.folder_item.Facts.{Facts}
+use Rattle.vt_out.specs.FolderItems.{Items}
 use Rattle.vt_tree.specs.Calls.{Call}
 use Rattle.vt_tree.specs.Making.{Makes}
-use Rattle.vt_answer.specs.Taking.{DoesCalls}
+use Rattle.vt_handler.specs.Taking.{DoesCalls}
 use Rattle.vt_core.specs.Core.{CoreState}
-use Rattle.vt_drive.specs.Answers.{KeepsAll}
-use Rattle.vt_drive.specs.Driven.{DrivenState}
+use Rattle.vt_requests.specs.Answers.{KeepsAll}
+use Rattle.vt_requests.specs.Driven.{DrivenState}
 use Rattle.vt_local.specs.Local.{DoesLocal, HoldsLocal}
 use Rattle.vt_use.specs.LocalJobs.{exchanges_of, new_local}
 use Rattle.vt_use.specs.Stores.{Exchange, MakesRun, at_time, store_on}
@@ -17,14 +17,14 @@ use Rattle.vt_use.specs.Uses.{Asks}
 use Rattle.vt_use.proofs.Calls.{asked_so}
 use Rattle.vt_use.proofs.Uses.{there, use_keeps, use_runs}
 use Rattle.vac_write.specs.declared.archived.Archived.{Archived}
-use Rattle.vac_write.specs.declared.err.VacErr.{VacErr}
+use Rattle.vac_write.specs.declared.error.VacErr.{VacErr}
 use Rattle.vac_write.specs.Archiving.{WritesArchive, GivesUpArchive}
-use Rattle.vac_store.specs.declared.outcome.ArchiveBad.{ArchiveBad}
+use Rattle.vac_store.specs.declared.outcome.ArchiveError.{ArchiveError}
 use Rattle.vac_store.specs.declared.outcome.StoredArchive.{StoredArchive}
 use Rattle.vac_store.specs.Storing.{ArchivesInto}
 
 module _ {D : Type 0} (score : List ℕ → List ℕ) (disk : DiskOf D) (now bsize : ℕ)
-    (is_seen : Items Facts → Type 0) (result : Result StoredArchive ArchiveBad)
+    (is_seen : Items Facts → Type 0) (result : Result StoredArchive ArchiveError)
     (old new : CoreState D) (it : ArchivesInto score disk now bsize is_seen result old new) where
   abbrev Made : List Call → Type 0
   Made calls = Makes (DoesLocal (store_on score disk)) (new_local (at_time now old)) calls it.kept

@@ -6,15 +6,15 @@ use Rattle.std.specs.Prelude.{IfErr, IfSome}
 use Rattle.vt_base.specs.Protocol.{RMessage}
 use Rattle.vt_base.specs.declared.why.Why.{Why}
 use Rattle.vt_disk.specs.Members.{DiskOf}
-use Rattle.vt_folder.specs.declared.item.Facts.{Facts}
-use Rattle.vt_folder.specs.Items.{Items}
-use Rattle.vt_tree.specs.declared.err.BlockErr.{BlockErr}
-use Rattle.vt_tree.specs.declared.err.TreeErr.TheVariants as trees
+use Rattle.vt_out.specs.declared.folder_item.Facts.{Facts}
+use Rattle.vt_out.specs.FolderItems.{Items}
+use Rattle.vt_tree.specs.declared.error.BlockErr.{BlockErr}
+use Rattle.vt_tree.specs.declared.error.TreeErr.TheVariants as trees
 use Rattle.vt_tree.specs.Calls.{Call, get, put, sync, refusal_of}
 use Rattle.vt_tree.specs.Making.{Makes, EndsBy}
 use Rattle.vt_local.specs.Members.{StoreOf}
-use Rattle.vt_answer.specs.Serving.{failure_of, tells_failure}
-use Rattle.vt_answer.specs.Taking.{first_told}
+use Rattle.vt_handler.specs.Serving.{failure_of, tells_failure}
+use Rattle.vt_handler.specs.Taking.{first_told}
 use Rattle.vt_core.specs.Core.{CoreState, history_len, stops_of}
 use Rattle.vt_use.specs.Causes.{FailsFor}
 use Rattle.vt_use.specs.LocalJobs.{exchanges_of, new_local}
@@ -22,10 +22,10 @@ use Rattle.vt_use.specs.Stores.{at_time, store_on}
 use Rattle.vt_use.proofs.Uses.{end_cause, first_cause}
 use Rattle.vt_local.specs.Local.{DoesLocal, HoldsLocal, LocalState, StandsFor, refused_after}
 use Rattle.vac_write.specs.declared.archived.Archived.{Archived}
-use Rattle.vac_write.specs.declared.err.VacErr.{VacErr}
-use Rattle.vac_write.specs.declared.err.VacErr.TheVariants.{FolderFault, Tree, BadName, TooDeep, NoMemory}
+use Rattle.vac_write.specs.declared.error.VacErr.{VacErr}
+use Rattle.vac_write.specs.declared.error.VacErr.TheVariants.{FolderFault, Tree, BadName, TooDeep, NoMemory}
 use Rattle.vac_write.specs.Archiving.{GivesUpArchive}
-use Rattle.vac_store.specs.declared.outcome.ArchiveBad.{ArchiveBad}
+use Rattle.vac_store.specs.declared.outcome.ArchiveError.{ArchiveError}
 use Rattle.vac_store.specs.declared.outcome.StoredArchive.{StoredArchive}
 use Rattle.vac_store.specs.Storing.{ArchivesInto, FailsAs, came_to, told}
 use Rattle.vac_store.proofs.Asks.{asked, asks, asks_of}
@@ -93,7 +93,7 @@ module _ {S : Type 0} (T : StoreOf S) where
 module _ {D : Type 0} (score : List ℕ → List ℕ) (disk : DiskOf D)
     (fits : (device : D) → disk.faults device < 2 ^ 64) (old : CoreState D)
     (none : All (λ stop. stop ≡ None) (stops_of old)) (now bsize : ℕ)
-    (is_seen : Items Facts → Type 0) (result : Result StoredArchive ArchiveBad) (new : CoreState D)
+    (is_seen : Items Facts → Type 0) (result : Result StoredArchive ArchiveError) (new : CoreState D)
     (it : ArchivesInto score disk now bsize is_seen result old new) where
   refused_fails : (err : BlockErr) (why : Why)
       → GivesUpArchive (DoesLocal (store_on score disk)) (HoldsLocal (store_on score disk) score)
@@ -113,7 +113,7 @@ module _ {D : Type 0} (score : List ℕ → List ℕ) (disk : DiskOf D)
       it.kept.store.core new (asks score disk now bsize is_seen result old new it) fits none
 
   pub archive_fails : IfErr result (λ bad. FailsAs disk bad old new)
-  archive_fails = subst (λ (r : Result StoredArchive ArchiveBad).
+  archive_fails = subst (λ (r : Result StoredArchive ArchiveError).
       IfErr r (λ bad. FailsAs disk bad old new)) (sym it.result_is)
       (of it.answer (history_len new - history_len old) it.gives_up it.closed closed_fails)
     where

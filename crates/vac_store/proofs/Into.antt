@@ -4,11 +4,11 @@ use Rattle.std.specs.Prelude.{IfErr, IfOk}
 use Rattle.vt_base.specs.Faults.{CountsFault}
 use Rattle.vt_base.specs.declared.why.Why.{Why}
 use Rattle.vt_disk.specs.Members.{DiskOf}
-use Rattle.vt_folder.specs.declared.item.Facts.{Facts}
-use Rattle.vt_folder.specs.Items.{Items}
+use Rattle.vt_out.specs.declared.folder_item.Facts.{Facts}
+use Rattle.vt_out.specs.FolderItems.{Items}
 use Rattle.vt_core.specs.Core.{CoreState, history_len}
-use Rattle.vt_drive.specs.Driven.{DrivenState}
-use Rattle.vt_drive.specs.Ending.{Ends}
+use Rattle.vt_requests.specs.Driven.{DrivenState}
+use Rattle.vt_requests.specs.Ending.{Ends}
 use Rattle.vt_local.specs.Local.{DoesLocal, HoldsLocal, LocalState}
 use Rattle.vt_tree.specs.Calls.{Call}
 use Rattle.vt_tree.specs.Making.{Makes}
@@ -17,11 +17,11 @@ use Rattle.vt_use.specs.LocalJobs.{DoesOnStore, new_local}
 use Rattle.vt_use.specs.Stores.{at_time, store_on}
 use Rattle.vt_use.specs.Uses.{UsesCore}
 use Rattle.vac_write.specs.declared.archived.Archived.{Archived}
-use Rattle.vac_write.specs.declared.err.VacErr.{VacErr}
-use Rattle.vac_write.specs.declared.err.VacErr.TheVariants.{FolderFault, Tree, BadName, TooDeep, NoMemory}
+use Rattle.vac_write.specs.declared.error.VacErr.{VacErr}
+use Rattle.vac_write.specs.declared.error.VacErr.TheVariants.{FolderFault, Tree, BadName, TooDeep, NoMemory}
 use Rattle.vac_write.specs.Archiving.{WritesArchive, GivesUpArchive, is_folder_fault as of_folder}
-use Rattle.vt_tree.specs.declared.err.TreeErr.TheVariants as trees
-use Rattle.vac_store.specs.declared.outcome.ArchiveBad.{ArchiveBad}
+use Rattle.vt_tree.specs.declared.error.TreeErr.TheVariants as trees
+use Rattle.vac_store.specs.declared.outcome.ArchiveError.{ArchiveError}
 use Rattle.vac_store.specs.declared.outcome.StoredArchive.{StoredArchive}
 use Rattle.vac_store.specs.Storing.{ArchivesOrGivesUp, ArchivesInto, came_to, is_folder_fault, told}
 
@@ -50,7 +50,7 @@ module _ {D : Type 0} (score : List ℕ → List ℕ) (disk : DiskOf D) (now bsi
   pub into : (answer : Result Archived VacErr) (Does : List Call → State → State → Type 0)
       → ((calls : List Call) (l l' : State) → Does calls l l' → By answer calls l l')
       → (refused : Option Why) (added : ℕ) (closed : Result (Unit {0}) Why)
-      (result : Result StoredArchive ArchiveBad)
+      (result : Result StoredArchive ArchiveError)
       → UsesCore score disk now true (DoesOnStore (store_on score disk) Does refused) added closed
       old new
       → result ≡ came_to answer refused added closed
@@ -98,11 +98,11 @@ module _ (before after : ℕ) where
   came_fault (Err err) refused added closed counts = told_fault err refused counts
 
   pub counts_fault : (answer : Result Archived VacErr) (refused : Option Why) (added : ℕ)
-      (closed : Result (Unit {0}) Why) (result : Result StoredArchive ArchiveBad)
+      (closed : Result (Unit {0}) Why) (result : Result StoredArchive ArchiveError)
       → result ≡ came_to answer refused added closed → CountsFault of_folder answer before after
       → CountsFault is_folder_fault result before after
   counts_fault answer refused added closed result is counts =
-      subst (λ (r : Result StoredArchive ArchiveBad). CountsFault is_folder_fault r before after)
+      subst (λ (r : Result StoredArchive ArchiveError). CountsFault is_folder_fault r before after)
       (sym is) (came_fault answer refused added closed counts)
 
 -- ---- of any store of blocks

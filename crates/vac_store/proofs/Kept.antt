@@ -5,22 +5,22 @@ use Rattle.vt_base.specs.Protocol.{Operation}
 use Rattle.vt_base.specs.declared.why.Why.{Why}
 use Rattle.vt_base.specs.declared.why.Why.TheVariants as whys
 use Rattle.vt_disk.specs.Members.{DiskOf}
-use Rattle.vt_folder.specs.declared.item.Facts.{Facts}
-use Rattle.vt_folder.specs.Items.{Items}
+use Rattle.vt_out.specs.declared.folder_item.Facts.{Facts}
+use Rattle.vt_out.specs.FolderItems.{Items}
 use Rattle.vt_model.specs.History.{Block, History, held}
 use Rattle.vt_model.specs.Places.{Setup}
-use Rattle.vt_tree.specs.declared.err.TreeErr.TheVariants as trees
-use Rattle.vt_answer.specs.Serving.{tells_failure}
-use Rattle.vt_tree.specs.declared.err.BlockErr.{BlockErr}
+use Rattle.vt_tree.specs.declared.error.TreeErr.TheVariants as trees
+use Rattle.vt_handler.specs.Serving.{tells_failure}
+use Rattle.vt_tree.specs.declared.error.BlockErr.{BlockErr}
 use Rattle.vt_tree.specs.Calls.{Call, asked_of}
 use Rattle.vt_tree.specs.Maps.{BlockMap, Maps, with_blocks}
 use Rattle.vt_core.specs.Core.{CoreState, devices_of, history_len, setup_of}
 use Rattle.vt_core.specs.Causes.{IsUndamagedWhy}
 use Rattle.vt_core.specs.Mounting.{AllStandFor, EachStands}
 use Rattle.vt_core.specs.Sound.{IsSound}
-use Rattle.vt_drive.specs.Answers.{KeepsAll}
-use Rattle.vt_drive.specs.Driven.{DrivenState}
-use Rattle.vt_drive.specs.Ending.{EndsFor}
+use Rattle.vt_requests.specs.Answers.{KeepsAll}
+use Rattle.vt_requests.specs.Driven.{DrivenState}
+use Rattle.vt_requests.specs.Ending.{EndsFor}
 use Rattle.vt_use.specs.LocalJobs.{new_local}
 use Rattle.vt_use.specs.Stores.{at_time, store_on}
 use Rattle.vt_use.specs.Uses.{LeftByUse}
@@ -29,11 +29,11 @@ use Rattle.vac_model.specs.Archives.{archive_of}
 use Rattle.vac_model.specs.Kept.{archived}
 use Rattle.vac_model.specs.Trees.{IsTreeOf}
 use Rattle.vac_write.specs.declared.archived.Archived.{Archived}
-use Rattle.vac_write.specs.declared.err.VacErr.{VacErr}
-use Rattle.vac_write.specs.declared.err.VacErr.TheVariants.{FolderFault, Tree, BadName, TooDeep, NoMemory}
+use Rattle.vac_write.specs.declared.error.VacErr.{VacErr}
+use Rattle.vac_write.specs.declared.error.VacErr.TheVariants.{FolderFault, Tree, BadName, TooDeep, NoMemory}
 use Rattle.vac_write.specs.Archiving.{KeepsArchive, WritesArchive, GivesUpArchive, IsGivenUpAs, refusal_of}
 use Rattle.vac_model.specs.Limits.{first_unfit}
-use Rattle.vac_store.specs.declared.outcome.ArchiveBad.{ArchiveBad}
+use Rattle.vac_store.specs.declared.outcome.ArchiveError.{ArchiveError}
 use Rattle.vac_store.specs.declared.outcome.StoredArchive.{StoredArchive}
 use Rattle.vac_store.specs.Storing.{ArchivesInto, IsBecause, IsRefusedFor, KeepsFolder, StandsIn, all_written, came_to, told}
 use Rattle.vac_store.proofs.Written.{Holds, IsLastRefusal, puts_so}
@@ -107,7 +107,7 @@ module _ {D : Type 0} (score : List ℕ → List ℕ) (disk : DiskOf D)
     synced = λ s kind. refl;
   }
 
-  module _ (result : Result StoredArchive ArchiveBad)
+  module _ (result : Result StoredArchive ArchiveError)
       (it : ArchivesInto score disk now bsize is_seen result old new)
       (leave : (last : History) → IsSound score disk it.kept.store.core last
       → LeftByUse score disk true it.closed last old it.kept.store.core new) where
@@ -214,10 +214,10 @@ module _ {D : Type 0} (score : List ℕ → List ℕ) (disk : DiskOf D)
       wrote_so : result ≡ came_to (Ok a) it.kept.refused added it.closed
           → KeepsFolder score disk bsize is_seen result h old new
       wrote_so is = keeps_so w.seen all_asked None so w.is
-          (subst (λ (r : Result StoredArchive ArchiveBad). IfErr r
+          (subst (λ (r : Result StoredArchive ArchiveError). IfErr r
           (IsBecause score (setup_of old) whole so.rest w.seen)) (sym is)
           (because it.closed refl))
-          (subst (λ (r : Result StoredArchive ArchiveBad). IfOk r
+          (subst (λ (r : Result StoredArchive ArchiveError). IfOk r
           (Stored w.seen all_asked None so)) (sym is) (done it.closed refl))
 
     -- it was given up
@@ -226,11 +226,11 @@ module _ {D : Type 0} (score : List ℕ → List ℕ) (disk : DiskOf D)
         → result ≡ Err (told err it.kept.refused)
         → KeepsFolder score disk bsize is_seen result h old new
     gave_so err gave is = keeps_so gave.seen (gave.rest ≡ []) (refusal_of err) so gave.is
-        (subst (λ (r : Result StoredArchive ArchiveBad). IfErr r (IsBecause score (setup_of old)
+        (subst (λ (r : Result StoredArchive ArchiveError). IfErr r (IsBecause score (setup_of old)
         (all_written score (setup_of old) h so.put) so.rest gave.seen)) (sym is)
         (told_because score (setup_of old) (all_written score (setup_of old) h so.put) so.rest
         gave.seen err it.kept.refused gave.cause so.because))
-        (subst (λ (r : Result StoredArchive ArchiveBad). IfOk r
+        (subst (λ (r : Result StoredArchive ArchiveError). IfOk r
         (Stored gave.seen (gave.rest ≡ []) (refusal_of err) so)) (sym is) tt)
       where
         so : Holds score disk tells (archive_of score bsize gave.seen).blocks (gave.rest ≡ [])

@@ -1,7 +1,7 @@
 -- Of the calls of an archiving the last alone may be refused.
 use Rattle.std.proofs.Common.{◌≡◌, ◌⊎◌, inl, inr, Option, Some, None, List, [], ◌∷◌, ◌++◌, refl, ◌∙◌, ap}
 use Rattle.std.specs.List.{cons_option}
-use Rattle.vt_tree.specs.declared.err.BlockErr.{BlockErr}
+use Rattle.vt_tree.specs.declared.error.BlockErr.{BlockErr}
 use Rattle.vt_tree.specs.Calls.{Call, refusal_of, refusals_of}
 use Rattle.vt_tree.specs.Making.{EndsBy}
 

@@ -1,7 +1,7 @@
 -- What a store holds behind the calls of an archiving.
 use Rattle.std.proofs.Common.{◌≡◌, ⊎_elim, inl, inr, ℕ, Option, Some, None, Result, Ok, Err, IsTrue, List, [], ◌∷◌, ◌++◌, map, refl, sym, ◌∙◌, ap, subst}
 use Rattle.std.specs.Prelude.{IfSome}
-use Rattle.vt_base.specs.Protocol.{Operation, RMessage, write, sync as sync_all, r_sync, r_write, r_refused, text_of}
+use Rattle.vt_base.specs.Protocol.{Operation, RMessage, write, sync as sync_all, r_sync, r_write, r_refused, why_words}
 use Rattle.vt_base.specs.declared.score.Score.{Score}
 use Rattle.vt_base.specs.declared.why.Why.{Why}
 use Rattle.vt_disk.specs.Members.{DiskOf}
@@ -9,15 +9,15 @@ use Rattle.vt_model.specs.Answer.{answer, with_added}
 use Rattle.vt_model.specs.History.{Accepted, Block, History, held}
 use Rattle.vt_model.specs.Places.{Setup}
 use Rattle.vt_model.proofs.Added.{added-refused}
-use Rattle.vt_tree.specs.declared.err.BlockErr.{BlockErr}
-use Rattle.vt_tree.specs.Calls.{Call, get, put, sync, asked_of, write_of}
+use Rattle.vt_tree.specs.declared.error.BlockErr.{BlockErr}
+use Rattle.vt_tree.specs.Calls.{Call, get, put, sync, asked_of, write_of_block}
 use Rattle.vt_tree.specs.Making.{Makes, EndsBy}
 use Rattle.vt_tree.specs.MapLaws.{Same, block_same}
 use Rattle.vt_tree.specs.Maps.{with_block, with_blocks}
-use Rattle.vt_answer.specs.Serving.{asked_for, reply_in}
+use Rattle.vt_handler.specs.Serving.{asked_of_store, reply_in}
 use Rattle.vt_core.specs.Core.{setup_of}
 use Rattle.vt_core.specs.Sound.{IsSound}
-use Rattle.vt_drive.specs.Driven.{DrivenState, DoesRequest}
+use Rattle.vt_requests.specs.Driven.{DrivenState, DoesRequest}
 use Rattle.vt_use.specs.Answers.{HasFailed}
 use Rattle.vt_use.specs.Stores.{store_on}
 use Rattle.vt_single.specs.Single.{written_to}
@@ -78,8 +78,8 @@ module _ {D : Type 0} (score : List ℕ → List ℕ) (disk : DiskOf D) (tells :
   -- a call that adds nothing: a sync, or one that is refused
   stay : (m : Operation) (reply : Result RMessage Why) (h : History) (l l' : State)
       → IsSound score disk l.store.core h → DoesRequest score disk m reply l.store l'.store
-      → ((reply_in reply ≡ (answer score (setup_of l.store.core) h (asked_for m)).reply)
-      → (answer score (setup_of l.store.core) h (asked_for m)).added ≡ None)
+      → ((reply_in reply ≡ (answer score (setup_of l.store.core) h (asked_of_store m)).reply)
+      → (answer score (setup_of l.store.core) h (asked_of_store m)).added ≡ None)
       → Goes score disk (setup_of l.store.core) (m, reply) h l'.store.core
       → IsSound score disk l'.store.core h
   stay m reply h l l' sound request none went =
@@ -103,7 +103,7 @@ module _ {D : Type 0} (score : List ℕ → List ℕ) (disk : DiskOf D) (tells :
       let went = request_goes score disk tells m (Err why) l.store l'.store h sound request in
       record {
         sound = stay m (Err why) h l l' sound request
-            (λ is. added-refused score (setup_of l.store.core) h m (text_of why) (sym is)) went;
+            (λ is. added-refused score (setup_of l.store.core) h m (why_words why) (sym is)) went;
         because = subst (IsLastRefusal score (setup_of l.store.core) h (b ∷ more))
             (sym (it.refused
             ∙ ap (λ (r : Result RMessage Why). refused_after r l.refused) it.stands.1))
@@ -208,7 +208,7 @@ module _ {D : Type 0} (score : List ℕ → List ℕ) (disk : DiskOf D) (tells :
   none_asked [] rest asked = (refl, asked)
   none_asked (call ∷ calls) rest asked = let never : ⊥ = cc in absurd never
 
-  not_none : (blocks : List Block) → map write_of blocks ++ sync_all ∷ [] ≡ [] → ⊥
+  not_none : (blocks : List Block) → map write_of_block blocks ++ sync_all ∷ [] ≡ [] → ⊥
   not_none [] is = cc
   not_none (b ∷ blocks) is = cc
 
@@ -229,7 +229,7 @@ module _ {D : Type 0} (score : List ℕ → List ℕ) (disk : DiskOf D) (tells :
   pub puts_so : (err : Option BlockErr) (rest : List Operation) (blocks : List Block)
       (calls : List Call) (h : History) (l l' : State) → IsSound score disk l.store.core h
       → Makes (DoesLocal (store_on score disk)) l calls l' → EndsBy err calls
-      → map asked_of calls ++ rest ≡ map write_of blocks ++ sync_all ∷ []
+      → map asked_of calls ++ rest ≡ map write_of_block blocks ++ sync_all ∷ []
       → Holds blocks (rest ≡ []) err h l l'
   puts_so err rest blocks [] h l l' sound made ends asked =
       holds_none blocks (rest ≡ []) err h l l'
@@ -270,7 +270,7 @@ module _ {D : Type 0} (score : List ℕ → List ℕ) (disk : DiskOf D) (tells :
           some_refused err (IsLastRefusal score (setup_of l.store.core) h [] made.0.refused)
           (refused_sync e h l made.0 sound does)
   puts_so err rest (b ∷ blocks) (call ∷ calls) h l l' sound made ends asked =
-      let two = asks_first call calls (write_of b) (map write_of blocks ++ sync_all ∷ []) rest asked
+      let two = asks_first call calls (write_of_block b) (map write_of_block blocks ++ sync_all ∷ []) rest asked
       in of call made.1 two.0 (ends_so err call calls ends) two.1
       (puts_so err rest blocks calls
       (written_to score (setup_of l.store.core) h b.kind b.bytes) made.0 l')
@@ -281,7 +281,7 @@ module _ {D : Type 0} (score : List ℕ → List ℕ) (disk : DiskOf D) (tells :
       taken given x does is = subst (λ (y : Block). TakesIn y h l made.0) is
           (take_in x given h l made.0 sound does)
 
-      same_block : (x : Block) → write_of x ≡ write_of b → x ≡ b
+      same_block : (x : Block) → write_of_block x ≡ write_of_block b → x ≡ b
       same_block x is =
           let kinds : x.kind ≡ b.kind = cc in
           let bytes : x.bytes ≡ b.bytes = cc in
@@ -298,18 +298,18 @@ module _ {D : Type 0} (score : List ℕ → List ℕ) (disk : DiskOf D) (tells :
       ended end = sym (subst (λ (cs : List Call). Makes (DoesLocal (store_on score disk)) made.0 cs
           l') end made.2)
 
-      some_left : calls ≡ [] → map asked_of calls ++ rest ≡ map write_of blocks ++ sync_all ∷ []
+      some_left : calls ≡ [] → map asked_of calls ++ rest ≡ map write_of_block blocks ++ sync_all ∷ []
           → rest ≡ [] → ⊥
       some_left end left none = not_none blocks (sym left
           ∙ subst (λ (cs : List Call). map asked_of cs ++ rest ≡ []) (sym end) none)
 
-      of : (x : Call) → DoesLocal (store_on score disk) l x made.0 → asked_of x ≡ write_of b
+      of : (x : Call) → DoesLocal (store_on score disk) l x made.0 → asked_of x ≡ write_of_block b
           → IsLastOr err x calls
-          → map asked_of calls ++ rest ≡ map write_of blocks ++ sync_all ∷ []
+          → map asked_of calls ++ rest ≡ map write_of_block blocks ++ sync_all ∷ []
           → (then : IsSound score disk made.0.store.core
           (written_to score (setup_of l.store.core) h b.kind b.bytes)
           → Makes (DoesLocal (store_on score disk)) made.0 calls l' → EndsBy err calls
-          → map asked_of calls ++ rest ≡ map write_of blocks ++ sync_all ∷ []
+          → map asked_of calls ++ rest ≡ map write_of_block blocks ++ sync_all ∷ []
           → Holds blocks (rest ≡ []) err
           (written_to score (setup_of l.store.core) h b.kind b.bytes) made.0 l')
           → Holds (b ∷ blocks) (rest ≡ []) err h l l'

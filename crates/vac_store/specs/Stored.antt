@@ -3,26 +3,26 @@
 use Rattle.std.specs.Prelude.{ℕ, ◌≡◌, ◌+◌, ◌≤◌, Result, Err, IfErr, IfOk, List, [], ◌++◌, length}
 use Rattle.vt_conf.specs.declared.conf.Conf.{Conf}
 use Rattle.vt_disk.specs.Members.{DiskOf}
-use Rattle.vt_folder.specs.declared.item.Facts.{Facts}
-use Rattle.vt_folder.specs.Items.{Items}
+use Rattle.vt_out.specs.declared.folder_item.Facts.{Facts}
+use Rattle.vt_out.specs.FolderItems.{Items}
 use Rattle.vt_model.specs.History.{Block, History}
 use Rattle.vt_model.specs.Places.{Setup}
 use Rattle.vt_part.specs.Table.{Table}
-use Rattle.vt_parts.specs.Parts.{Standing}
+use Rattle.vt_partitions.specs.Parts.{Standing}
 use Rattle.vt_core.specs.Files.{PerDevice}
 use Rattle.vt_core.specs.Mounting.{AllStandFor, EachStands}
 use Rattle.vt_open.specs.Names.{AreUnder}
 use Rattle.vt_open.specs.Opening.{NamesCause, RefusesStore}
 use Rattle.vt_single.specs.Stored.{Uses}
 use Rattle.vac_model.specs.Archives.{archive_of}
-use Rattle.vac_store.specs.declared.outcome.ArchiveBad.{ArchiveBad}
-use Rattle.vac_store.specs.declared.outcome.ArchiveBad.TheVariants.{Unopened}
+use Rattle.vac_store.specs.declared.outcome.ArchiveError.{ArchiveError}
+use Rattle.vac_store.specs.declared.outcome.ArchiveError.TheVariants.{Unopened}
 use Rattle.vac_store.specs.declared.outcome.StoredArchive.{StoredArchive}
 use Rattle.vac_store.specs.Storing.{ArchivesInto, IsBecause, StandsIn, all_written}
 
 -- the store was opened, a folder was archived into it, with this result, and it was closed
 abbrev pub UsesFor : {D : Type 0} → (List ℕ → List ℕ) → DiskOf D → (told : Type 0) → Conf
-    → (now bsize : ℕ) → (is_seen : Items Facts → Type 0) → Result StoredArchive ArchiveBad
+    → (now bsize : ℕ) → (is_seen : Items Facts → Type 0) → Result StoredArchive ArchiveError
     → (old new : List ℕ → Standing D) → Type 0
 UsesFor score disk told conf now bsize is_seen result old new =
     Uses score disk told conf (ArchivesInto score disk now bsize is_seen result) old new
@@ -30,7 +30,7 @@ UsesFor score disk told conf now bsize is_seen result old new =
 -- That was done, with this result; or the store wasn't opened, for its cause.
 abbrev pub ArchivesStored : {D : Type 0} → (List ℕ → List ℕ) → DiskOf D → (told : Type 0) → Conf
     → (now bsize : ℕ) → (is_seen : Items Facts → Type 0) → (old new : List ℕ → Standing D)
-    → (faults faults' : ℕ) → Result StoredArchive ArchiveBad → Type 0
+    → (faults faults' : ℕ) → Result StoredArchive ArchiveError → Type 0
 ArchivesStored score disk told conf now bsize is_seen old new faults faults' (Err (Unopened bad)) =
     RefusesStore score disk told conf old new faults faults' bad × NamesCause bad
 ArchivesStored score disk told conf now bsize is_seen old new faults faults' result =
@@ -41,7 +41,7 @@ ArchivesStored score disk told conf now bsize is_seen old new faults faults' res
 -- each if the model adds it. Where a score is told, they stand for all its blocks, and it is told
 -- how many are new.
 pub record KeepsStored {D : Type 0} (score : List ℕ → List ℕ) (disk : DiskOf D) (conf : Conf)
-    (bsize : ℕ) (is_seen : Items Facts → Type 0) (result : Result StoredArchive ArchiveBad)
+    (bsize : ℕ) (is_seen : Items Facts → Type 0) (result : Result StoredArchive ArchiveError)
     (new : List ℕ → Standing D) (tables : List Table) (c : Setup) (g : History) : Type 0 where
   pub seen : Items Facts
   pub is : is_seen seen

@@ -3,20 +3,20 @@ use Rattle.std.specs.Prelude.{ℕ, ◌≡◌, ◌+◌, ◌-◌, ⊤, Bool, Optio
 use Rattle.vt_base.specs.Protocol.{write}
 use Rattle.vt_base.specs.declared.why.Why.{Why}
 use Rattle.vt_disk.specs.Members.{DiskOf}
-use Rattle.vt_folder.specs.declared.item.Facts.{Facts}
-use Rattle.vt_folder.specs.Items.{Items}
+use Rattle.vt_out.specs.declared.folder_item.Facts.{Facts}
+use Rattle.vt_out.specs.FolderItems.{Items}
 use Rattle.vt_model.specs.History.{Block, History, held}
 use Rattle.vt_model.specs.Places.{Setup}
-use Rattle.vt_tree.specs.declared.err.TreeErr.TheVariants as trees
+use Rattle.vt_tree.specs.declared.error.TreeErr.TheVariants as trees
 use Rattle.vt_tree.specs.Calls.{Call}
 use Rattle.vt_tree.specs.Maps.{Maps}
-use Rattle.vt_answer.specs.Serving.{tells_failure}
+use Rattle.vt_handler.specs.Serving.{tells_failure}
 use Rattle.vt_core.specs.Core.{CoreState, devices_of, history_len, setup_of}
 use Rattle.vt_core.specs.Mounting.{AllStandFor, EachStands}
 use Rattle.vt_core.specs.Sound.{IsSound}
-use Rattle.vt_drive.specs.Answers.{KeepsAll}
-use Rattle.vt_drive.specs.Driven.{DrivenState}
-use Rattle.vt_drive.specs.Ending.{Ends}
+use Rattle.vt_requests.specs.Answers.{KeepsAll}
+use Rattle.vt_requests.specs.Driven.{DrivenState}
+use Rattle.vt_requests.specs.Ending.{Ends}
 use Rattle.vt_use.specs.Answers.{HasFailed, IsAnswer}
 use Rattle.vt_use.specs.Causes.{FailsFor}
 use Rattle.vt_use.specs.LocalJobs.{new_local}
@@ -28,29 +28,29 @@ use Rattle.vac_model.specs.Kept.{archived, skipped}
 use Rattle.vac_model.specs.Limits.{Unfit, first_unfit}
 use Rattle.vac_model.specs.Trees.{IsTreeOf}
 use Rattle.vac_write.specs.declared.archived.Archived.{Archived}
-use Rattle.vac_write.specs.declared.err.VacErr.{VacErr}
-use Rattle.vac_write.specs.declared.err.VacErr.TheVariants.{FolderFault, Tree}
+use Rattle.vac_write.specs.declared.error.VacErr.{VacErr}
+use Rattle.vac_write.specs.declared.error.VacErr.TheVariants.{FolderFault, Tree}
 use Rattle.vac_write.specs.Archiving.{WritesArchive, GivesUpArchive, IsGivenUpAs}
-use Rattle.vac_store.specs.declared.outcome.ArchiveBad.{ArchiveBad}
-use Rattle.vac_store.specs.declared.outcome.ArchiveBad.TheVariants.{Unopened, Folder, Refused}
+use Rattle.vac_store.specs.declared.outcome.ArchiveError.{ArchiveError}
+use Rattle.vac_store.specs.declared.outcome.ArchiveError.TheVariants.{Unopened, Folder, Refused}
 use Rattle.vac_store.specs.declared.outcome.StoredArchive.{StoredArchive}
 
 -- ---- what is told
 
 -- why no folder was archived, of a store that said no last for this reason, if it did
-abbrev pub told : VacErr → Option Why → ArchiveBad
+abbrev pub told : VacErr → Option Why → ArchiveError
 told (Tree (trees.Block err)) (Some why) = Refused why
 told err refused = Folder err
 
 -- what it comes to, where so many blocks are new and the store's use ended so: what failed first is
 -- told
 abbrev pub came_to : Result Archived VacErr → (refused : Option Why) → (added : ℕ)
-    → (closed : Result (Unit {0}) Why) → Result StoredArchive ArchiveBad
+    → (closed : Result (Unit {0}) Why) → Result StoredArchive ArchiveError
 came_to (Ok a) refused added (Ok done) = Ok (record { archived = a; added = added })
 came_to (Ok a) refused added (Err why) = Err (Refused why)
 came_to (Err err) refused added closed = Err (told err refused)
 
-abbrev pub is_folder_fault : ArchiveBad → Bool
+abbrev pub is_folder_fault : ArchiveError → Bool
 is_folder_fault (Folder FolderFault) = Bool.true
 is_folder_fault bad = Bool.false
 
@@ -68,7 +68,7 @@ pub record ArchivesOrGivesUp {S : Type 0} (does : S → Call → S → Type 0) (
 -- A folder was archived into a store, or that was given up, and the store's use was then ended.
 pub record ArchivesInto {D : Type 0} (score : List ℕ → List ℕ) (disk : DiskOf D)
     (now bsize : ℕ) (is_seen : Items Facts → Type 0)
-    (result : Result StoredArchive ArchiveBad) (old new : CoreState D) : Type 0 where
+    (result : Result StoredArchive ArchiveError) (old new : CoreState D) : Type 0 where
   pub answer : Result Archived VacErr
   pub kept : LocalState (DrivenState D)
   pub archives : IfOk answer (WritesArchive (DoesLocal (store_on score disk))
@@ -83,7 +83,7 @@ pub record ArchivesInto {D : Type 0} (score : List ℕ → List ℕ) (disk : Dis
 -- ---- what follows
 
 -- why a store failed in it before which no part had stopped
-abbrev pub FailsAs : {D : Type 0} → DiskOf D → ArchiveBad → (old new : CoreState D) → Type 0
+abbrev pub FailsAs : {D : Type 0} → DiskOf D → ArchiveError → (old new : CoreState D) → Type 0
 FailsAs disk (Refused why) old new = tells_failure why ≡ Bool.true → FailsFor disk why old new
 FailsAs disk bad old new = ⊤
 
@@ -115,7 +115,7 @@ IsRefusedFor score c last (b ∷ rest) why =
 
 -- why there is no archive, of which these blocks aren't in the history
 abbrev pub IsBecause : (List ℕ → List ℕ) → Setup → History → (rest : List Block)
-    → (seen : Items Facts) → ArchiveBad → Type 0
+    → (seen : Items Facts) → ArchiveError → Type 0
 IsBecause score c last rest seen (Unopened bad) = ⊥
 IsBecause score c last rest seen (Folder err) = IsUnfitAs err (first_unfit seen)
 IsBecause score c last rest seen (Refused why) = IsRefusedFor score c last rest why
@@ -124,7 +124,7 @@ IsBecause score c last rest seen (Refused why) = IsRefusedFor score c last rest 
 -- if the model adds it. A crash leaves a prefix of that with all that is durable. Where a score is
 -- told, these are all its blocks, it is told how many are new, and no crash takes one away.
 pub record KeepsFolder {D : Type 0} (score : List ℕ → List ℕ) (disk : DiskOf D) (bsize : ℕ)
-    (is_seen : Items Facts → Type 0) (result : Result StoredArchive ArchiveBad) (h : History)
+    (is_seen : Items Facts → Type 0) (result : Result StoredArchive ArchiveError) (h : History)
     (old new : CoreState D) : Type 0 where
   pub seen : Items Facts
   pub is : is_seen seen

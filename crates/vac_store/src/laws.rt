@@ -7,17 +7,17 @@ ghost use Rattle.vt_core.specs.Core.{CoreState, stops_of};
 ghost use Rattle.vt_core.specs.Files.{PerDevice};
 ghost use Rattle.vt_core.specs.Mounting.{IsLogOf};
 ghost use Rattle.vt_core.specs.Sound.{IsSound};
-ghost use Rattle.vt_drive.specs.Answers.{KeepsAll};
-ghost use Rattle.vt_folder.specs.declared.item.Facts.{Facts};
-ghost use Rattle.vt_folder.specs.Items.{Items};
+ghost use Rattle.vt_requests.specs.Answers.{KeepsAll};
+ghost use Rattle.vt_out.specs.declared.folder_item.Facts.{Facts};
+ghost use Rattle.vt_out.specs.FolderItems.{Items};
 ghost use Rattle.vt_model.specs.History.{History};
 ghost use Rattle.vt_model.specs.Places.{Setup};
 ghost use Rattle.vt_open.specs.Names.{AreUnder};
 ghost use Rattle.vt_part.specs.Table.{Table};
-ghost use Rattle.vt_parts.specs.Parts.{Standing};
+ghost use Rattle.vt_partitions.specs.Parts.{Standing};
 ghost use Rattle.vt_use.specs.Stores.{MakesRun};
 ghost use Rattle.vac_write.specs.Archiving.{IsSeen};
-ghost use Rattle.vac_store.specs.declared.outcome.ArchiveBad.{ArchiveBad};
+ghost use Rattle.vac_store.specs.declared.outcome.ArchiveError.{ArchiveError};
 ghost use Rattle.vac_store.specs.declared.outcome.StoredArchive.{StoredArchive};
 ghost use Rattle.vac_store.specs.Storing.{ArchivesInto, FailsAs, KeepsFolder};
 ghost use Rattle.vac_store.specs.Stored.{KeepsStored, UsesFor};
@@ -31,7 +31,7 @@ use vt_use::uses_leave;
 /// stays.
 pub fn archives_are_runs<D: Disk>()
     ensures { (score : List ℕ → List ℕ) (now bsize : ℕ) (tells : Bool) (held : Items Facts)
-        (result : Result StoredArchive ArchiveBad) (old new : CoreState D)
+        (result : Result StoredArchive ArchiveError) (old new : CoreState D)
         → ArchivesInto score D.Disk now bsize (IsSeen tells held) result old new
         → MakesRun score D.Disk old new × KeepsAll D.Disk old new }
 {}
@@ -40,7 +40,7 @@ pub fn archives_are_runs<D: Disk>()
 /// devices hold: a device counted a failed call, two values differ, or memory was wanting.
 pub fn failures_have_causes<D: Disk>()
     ensures { (score : List ℕ → List ℕ) (now bsize : ℕ) (tells : Bool) (held : Items Facts)
-        (result : Result StoredArchive ArchiveBad) (old new : CoreState D)
+        (result : Result StoredArchive ArchiveError) (old new : CoreState D)
         → ArchivesInto score D.Disk now bsize (IsSeen tells held) result old new
         → All (λ stop. stop ≡ None) (stops_of old)
         → IfErr result (λ bad. FailsAs D.Disk bad old new) }
@@ -50,7 +50,7 @@ pub fn failures_have_causes<D: Disk>()
 /// failed.
 pub fn archives_are_kept<D: Disk>()
     ensures { (score : List ℕ → List ℕ) (now bsize : ℕ) (tells : Bool) (held : Items Facts)
-        (result : Result StoredArchive ArchiveBad) (h : History) (old new : CoreState D)
+        (result : Result StoredArchive ArchiveError) (h : History) (old new : CoreState D)
         → IsTrue D.tells → IsSound score D.Disk old h
         → ArchivesInto score D.Disk now bsize (IsSeen tells held) result old new
         → KeepsFolder score D.Disk bsize (IsSeen tells held) result h old new }
@@ -62,7 +62,7 @@ pub fn archives_are_kept<D: Disk>()
 /// stands for a prefix of one legal history.
 pub fn stores_keep_archives<D: Disk>()
     ensures { (score : List ℕ → List ℕ) (told : Bool) (conf : Conf) (now bsize : ℕ) (tells : Bool)
-        (held : Items Facts) (result : Result StoredArchive ArchiveBad)
+        (held : Items Facts) (result : Result StoredArchive ArchiveError)
         (old new : List ℕ → Standing D) (tables : List Table) (devices : PerDevice D) (c : Setup)
         (h g : History) (base : ℕ) → IsTrue told → IsTrue D.tells
         → UsesFor score D.Disk (IsTrue told) conf now bsize (IsSeen tells held) result old new

@@ -8,6 +8,6 @@ mod stored;
 mod storing;
 
 pub use laws::{archives_are_kept, archives_are_runs, failures_have_causes, stores_keep_archives};
-pub use outcome::{ArchiveBad, StoredArchive};
+pub use outcome::{ArchiveError, StoredArchive};
 pub use stored::archive_stored;
 pub use storing::ArchiveFolder;

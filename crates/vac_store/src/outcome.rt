@@ -2,7 +2,7 @@
 
 use vac_write::{Archived, VacErr};
 use vt_base::Why;
-use vt_open::OpenBad;
+use vt_open::OpenError;
 
 /// What was archived in a store.
 #[derive(Drop)]
@@ -14,9 +14,9 @@ pub struct StoredArchive {
 
 /// Why a folder isn't archived in a store.
 #[derive(Drop)]
-pub enum ArchiveBad {
+pub enum ArchiveError {
     /// The store isn't opened.
-    Unopened(OpenBad),
+    Unopened(OpenError),
     /// A call of the folder has failed, it has something that can't be archived, or memory ran out.
     Folder(VacErr),
     /// The store said no, or failed.

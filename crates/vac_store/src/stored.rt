@@ -8,12 +8,12 @@ ghost use Rattle.vac_store.specs.Stored.{ArchivesStored};
 ghost use Rattle.vac_store.specs.Storing.{is_folder_fault};
 
 use crate::storing::{ArchiveFolder, came_to};
-use crate::{ArchiveBad, StoredArchive};
+use crate::{ArchiveError, StoredArchive};
 use std::alloc::Global;
 use vt_base::Scorer;
 use vt_conf::Conf;
-use vt_folder::Folder;
-use vt_parts::Parts;
+use vt_out::Folder;
+use vt_partitions::Parts;
 use vt_use::{LocalJob, use_store};
 
 /// Opens the store of a configuration, archives a folder into it (vac(1)) in blocks of at most so
@@ -27,7 +27,7 @@ pub fn archive_stored<P: Parts, S: Scorer, F: Folder>(
     now: u32,
     folder: &mut F,
     bsize: u16,
-) -> Result<StoredArchive, ArchiveBad>
+) -> Result<StoredArchive, ArchiveError>
     requires few { length conf.now.arenas.items + length conf.now.sections.items + 1 < 2 ^ 32 }
     requires some_arenas { 0 < length conf.now.arenas.items }
     requires some_section { 0 < length conf.now.sections.items }
@@ -49,6 +49,6 @@ pub fn archive_stored<P: Parts, S: Scorer, F: Folder>(
             let (answer, last_refusal) = used.output;
             came_to(answer, last_refusal, used.added, used.closed)
         }
-        Err(bad) => Err(ArchiveBad::Unopened(bad)),
+        Err(bad) => Err(ArchiveError::Unopened(bad)),
     }
 }

@@ -6,11 +6,11 @@ ghost use Rattle.vac_model.specs.declared.TheConstants.{MIN_BLOCK_SIZE, MAX_BLOC
 ghost use Rattle.vac_write.specs.Archiving.{IsSeen};
 ghost use Rattle.vac_store.specs.Storing.{came_to, told};
 
-use crate::{ArchiveBad, StoredArchive};
+use crate::{ArchiveError, StoredArchive};
 use std::alloc::Global;
 use vac_write::{Archived, VacErr, archive};
 use vt_base::Why;
-use vt_folder::Folder;
+use vt_out::Folder;
 use vt_tree::{Blocks, TreeErr};
 use vt_use::BlockJob;
 
@@ -57,24 +57,24 @@ pub(crate) fn came_to(
     refused: Option<Why>,
     added: u64,
     closed: Result<(), Why>,
-) -> Result<StoredArchive, ArchiveBad>
+) -> Result<StoredArchive, ArchiveError>
     ensures { result ≡ came_to answer refused added closed }
 {
     match answer {
         Ok(archived) => match closed {
             Ok(()) => Ok(StoredArchive { archived, added }),
-            Err(why) => Err(ArchiveBad::Refused(why)),
+            Err(why) => Err(ArchiveError::Refused(why)),
         },
         Err(err) => Err(told(err, refused)),
     }
 }
 
 /// Why no folder was archived, of a store that said no last for this reason, if it did.
-fn told(err: VacErr, refused: Option<Why>) -> ArchiveBad
+fn told(err: VacErr, refused: Option<Why>) -> ArchiveError
     ensures { result ≡ told err refused }
 {
     match (err, refused) {
-        (VacErr::Tree(TreeErr::Block(_)), Some(why)) => ArchiveBad::Refused(why),
-        (err, _) => ArchiveBad::Folder(err),
+        (VacErr::Tree(TreeErr::Block(_)), Some(why)) => ArchiveError::Refused(why),
+        (err, _) => ArchiveError::Folder(err),
     }
 }

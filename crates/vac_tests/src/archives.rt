@@ -5,8 +5,7 @@ use std::alloc::{AllocError, Global};
 use std::test::Fail;
 use vac_write::{Archived, Paths, VacErr, archive};
 use vt_base::{Failed, Score, Sha1Scorer, Text, parse_score};
-use vt_folder::{Folder, Item, ItemKind, Listing, MemContent, MemFolder, MemItem};
-use vt_out::OutErr;
+use vt_out::{Folder, Item, ItemKind, Listing, MemContent, MemFolder, MemItem, OutErr};
 use vt_rows::Rows;
 use vt_tree::{BlockErr, Blocks, MemBlocks, TreeErr};
 
@@ -410,7 +409,7 @@ struct Growing {
 impl Folder for Growing {
     ghost use Rattle.std.specs.Prelude.{false};
     ghost use Rattle.std.proofs.Common.{arith};
-    ghost use Rattle.vt_folder.specs.Items.{none};
+    ghost use Rattle.vt_out.specs.FolderItems.{none};
 
     ghost tells = { false };
 

@@ -3,7 +3,7 @@
 use std::alloc::{AllocError, Global};
 use std::test::Fail;
 use vt_base::Text;
-use vt_folder::{Facts, MemContent, MemItem};
+use vt_out::{Facts, MemContent, MemItem};
 
 pub fn facts(
     alloc: Global,

@@ -1,7 +1,7 @@
 //! Folders in memory are archived and read back.
 
 ghost use Rattle.std.specs.Prelude.{IfOk};
-ghost use Rattle.vac_read.specs.Nodes.{AreEntries};
+ghost use Rattle.vac_read.specs.Nodes.{AreNodeEntries};
 
 use crate::items::one;
 use std::alloc::Global;
@@ -9,7 +9,7 @@ use std::test::Fail;
 use vac_read::{Archive, Node, list, read, walk};
 use vac_write::archive;
 use vt_base::{Sha1Scorer, Text};
-use vt_folder::{Facts, Folder, Item, ItemKind, MemContent, MemFolder, MemItem};
+use vt_out::{Facts, Folder, Item, ItemKind, MemContent, MemFolder, MemItem};
 use vt_rows::Rows;
 use vt_tree::{Blocks, MemBlocks};
 
@@ -142,7 +142,7 @@ fn is_folder<F: Folder, B: Blocks>(
     top: &Node,
     names: &[&[u8]],
 ) -> Result<bool, Fail>
-    requires { AreEntries top.now.stored }
+    requires { AreNodeEntries top.now.stored }
 {
     let path = path_of(alloc, names)?;
     let items = listed(alloc, folder, &path)?;
@@ -164,7 +164,7 @@ fn is_file<F: Folder, B: Blocks>(
     names: &[&[u8]],
     qid: u64,
 ) -> Result<bool, Fail>
-    requires { AreEntries top.now.stored }
+    requires { AreNodeEntries top.now.stored }
 {
     let path = path_of(alloc, names)?;
     let wanted = content(alloc, folder, &path)?;
@@ -199,7 +199,7 @@ fn archived<F: Folder, B: Blocks>(
     blocks: &mut B,
     bsize: u16,
 ) -> Result<Node, Fail>
-    ensures { IfOk result (λ node. AreEntries node.stored) }
+    ensures { IfOk result (λ node. AreNodeEntries node.stored) }
 {
     let Ok(archived) = archive(alloc, folder, blocks, bsize.clamp(512, 53_248)) else {
         return Err("not archived".into());
@@ -218,7 +218,7 @@ fn see_folders<F: Folder, B: Blocks>(
     top: &Node,
     rows: &mut Rows,
 ) -> Result<(), Fail>
-    requires { AreEntries top.now.stored }
+    requires { AreNodeEntries top.now.stored }
 {
     for (n, names) in FOLDERS.iter().enumerate() {
         let is_same = is_folder(alloc, folder, blocks, top, names)?;
@@ -235,7 +235,7 @@ fn see_files<F: Folder, B: Blocks>(
     top: &Node,
     rows: &mut Rows,
 ) -> Result<(), Fail>
-    requires { AreEntries top.now.stored }
+    requires { AreNodeEntries top.now.stored }
 {
     for (n, (names, qid)) in FILES.iter().enumerate() {
         let is_same = is_file(alloc, folder, blocks, top, names, *qid)?;
@@ -289,7 +289,7 @@ fn leads<B: Blocks>(
     top: &Node,
     names: &[&[u8]],
 ) -> Result<Option<bool>, Fail>
-    requires { AreEntries top.now.stored }
+    requires { AreNodeEntries top.now.stored }
 {
     let path = path_of(alloc, names)?;
     match walk(alloc, blocks, top, &path) {
@@ -316,7 +316,7 @@ fn see_ends<B: Blocks>(
     top: &Node,
     rows: &mut Rows,
 ) -> Result<(), Fail>
-    requires { AreEntries top.now.stored }
+    requires { AreNodeEntries top.now.stored }
 {
     for (n, (names, is_there)) in ENDS.iter().enumerate() {
         let end = leads(alloc, blocks, top, names)?;

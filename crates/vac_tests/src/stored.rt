@@ -2,26 +2,24 @@
 //! are kept from one run to the next, and read back.
 
 ghost use Rattle.std.specs.Prelude.{IfSome};
-ghost use Rattle.vac_read.specs.Nodes.{AreEntries};
+ghost use Rattle.vac_read.specs.Nodes.{AreNodeEntries};
 
 use crate::items::{Sample, items_of};
 use std::alloc::{AllocError, Global};
 use std::test::Fail;
 use vac_read::{Archive, Node, read, walk};
-use vac_store::{ArchiveBad, StoredArchive, archive_stored};
+use vac_store::{ArchiveError, StoredArchive, archive_stored};
 use vac_write::VacErr;
 use vt_base::{Score, Sha1Scorer, Text, Why, parse_score};
 use vt_conf::parse_conf;
-use vt_drive::Driven;
-use vt_folder::{Folder, MemFolder};
 use vt_format::laws::configurations_number_their_files;
 use vt_format::{format_arenas, format_index, format_section, parse_arena_size, parse_name};
 use vt_local::Local;
 use vt_memdisk::{Listed, MemDisk};
-use vt_memparts::{Failing, MemParts};
 use vt_open::{configurations_can_be_opened, open_store};
-use vt_out::Silent;
-use vt_parts::Parts;
+use vt_out::{Folder, MemFolder, Silent};
+use vt_partitions::{Failing, MemParts, Parts};
+use vt_requests::Driven;
 use vt_rows::Rows;
 use vt_tree::Blocks;
 
@@ -94,8 +92,8 @@ fn names(alloc: Global) -> Result<[Text; 2], AllocError> {
 
 /// The node that these names lead to.
 fn found<B: Blocks>(alloc: Global, blocks: &mut B, top: &Node, names: &[Text]) -> Option<Node>
-    requires { AreEntries top.now.stored }
-    ensures { IfSome result (λ node. AreEntries node.stored) }
+    requires { AreNodeEntries top.now.stored }
+    ensures { IfSome result (λ node. AreNodeEntries node.stored) }
 {
     match walk(alloc, blocks, top, names) {
         Ok(end) => end,
@@ -105,7 +103,7 @@ fn found<B: Blocks>(alloc: Global, blocks: &mut B, top: &Node, names: &[Text]) -
 
 /// Whether a file has these bytes.
 fn is_file<B: Blocks>(alloc: Global, blocks: &mut B, node: &Node, wanted: &[u8]) -> bool
-    requires { AreEntries node.now.stored }
+    requires { AreNodeEntries node.now.stored }
 {
     match read(alloc, blocks, node, 0, 100) {
         Ok(bytes) => bytes.as_slice() == wanted,
@@ -121,7 +119,7 @@ fn leads<B: Blocks>(
     names: &[Text],
     wanted: &[u8],
 ) -> bool
-    requires { AreEntries top.now.stored }
+    requires { AreNodeEntries top.now.stored }
 {
     match found(alloc, blocks, top, names) {
         Some(node) => is_file(alloc, blocks, &node, wanted),
@@ -150,14 +148,14 @@ enum Wanted {
     Refused(Why),
 }
 
-fn is_wanted(answer: &Result<StoredArchive, ArchiveBad>, wanted: Wanted) -> bool {
+fn is_wanted(answer: &Result<StoredArchive, ArchiveError>, wanted: Wanted) -> bool {
     match (answer, wanted) {
         (Ok(stored), Wanted::Stored(score, added)) => {
             Ok(stored.archived.score) == parse_score(score.as_bytes()) && stored.added == added
         }
-        (Err(ArchiveBad::Unopened(_)), Wanted::Unopened) => true,
-        (Err(ArchiveBad::Folder(VacErr::FolderFault)), Wanted::FolderFault) => true,
-        (Err(ArchiveBad::Refused(why)), Wanted::Refused(wanted)) => *why == wanted,
+        (Err(ArchiveError::Unopened(_)), Wanted::Unopened) => true,
+        (Err(ArchiveError::Folder(VacErr::FolderFault)), Wanted::FolderFault) => true,
+        (Err(ArchiveError::Refused(why)), Wanted::Refused(wanted)) => *why == wanted,
         _ => false,
     }
 }

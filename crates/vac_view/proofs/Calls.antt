@@ -2,19 +2,19 @@
 use Rattle.std.proofs.Common.{◌≡◌, ℕ, List, [], ◌∷◌, ◌++◌, Option, Some, None, Result, Ok, Err, refl, sym, ◌∙◌, ap, subst}
 use Rattle.std.specs.List.{AllByRecursion}
 use Rattle.std.specs.Option.{option_or}
-use Rattle.vt_tree.specs.declared.err.BlockErr.{BlockErr}
-use Rattle.vt_tree.specs.declared.err.TreeErr.TheVariants as trees
+use Rattle.vt_tree.specs.declared.error.BlockErr.{BlockErr}
+use Rattle.vt_tree.specs.declared.error.TreeErr.TheVariants as trees
 use Rattle.vt_tree.specs.Calls.{Call, IsGet, refusal_of, refusals_of}
 use Rattle.vt_tree.specs.Making.{EndsBy, IsRefusedLast, Makes}
 use Rattle.vt_tree.specs.Maps.{Maps}
 use Rattle.vt_tree.proofs.Making.{makes_more, refusals_join}
-use Rattle.vac_read.specs.declared.err.VacBad.{VacBad}
-use Rattle.vac_read.specs.declared.err.VacBad.TheVariants.{Tree}
+use Rattle.vac_read.specs.declared.error.VacBad.{VacBad}
+use Rattle.vac_read.specs.declared.error.VacBad.TheVariants.{Tree}
 use Rattle.vac_read.specs.Reading.{refused_by}
 use Rattle.nine_view.specs.declared.serving.Served.{Served}
-use Rattle.nine_view.specs.Known.{Known}
+use Rattle.nine_view.specs.Known.{ViewState}
 use Rattle.nine_view.specs.Replies.{failed}
-use Rattle.nine_view.specs.Serving.{Talks, Turn, first_failure}
+use Rattle.nine_view.specs.Serving.{AnswersInTurn, MessageTurn, first_failure}
 use Rattle.vac_view.specs.Stored.{first_bad}
 use Rattle.vac_view.specs.Viewing.{Passed, ViewsArchive, unasked}
 
@@ -119,8 +119,8 @@ module _ {S : Type 0} (does : S → Call → S → Type 0) where
   }
 
   module _ (holds : S → Maps → Type 0) (score_of : List ℕ → List ℕ) where
-    talk_gets : (turns : List Turn) (s s' : S) (known known' : Known)
-        → Talks does holds score_of s known turns s' known' → Gets does s s'
+    talk_gets : (turns : List MessageTurn) (s s' : S) (known known' : ViewState)
+        → AnswersInTurn does holds score_of s known turns s' known' → Gets does s s'
     talk_gets [] s s' known known' it = record { calls = []; made = it.0; gets = tt }
     talk_gets (turn ∷ turns) s s' known known' it =
         gets_more s it.1.0 s'
@@ -136,7 +136,7 @@ module _ {S : Type 0} (does : S → Call → S → Type 0) where
         record { calls = it.calls; made = it.made; gets = it.gets }
 
     -- the first message is answered so, or one behind it
-    turn_refused : (err : BlockErr) (turn : Turn) (turns : List Turn) (s next s' : S)
+    turn_refused : (err : BlockErr) (turn : MessageTurn) (turns : List MessageTurn) (s next s' : S)
         (calls : List Call) → Makes does s calls next → AllByRecursion IsGet calls
         → EndsBy (refused_by (failed turn.failure)) calls → Gets does next s'
         → (first_failure turns ≡ Some (Tree (trees.Block err)) → RefusesFirst does err next s')
@@ -156,8 +156,8 @@ module _ {S : Type 0} (does : S → Call → S → Type 0) where
             (subst (λ (b : VacBad). EndsBy (refused_by (failed (Some b))) calls) same refused))
             more
 
-    talk_refused : (err : BlockErr) (turns : List Turn) (s s' : S) (known known' : Known)
-        → Talks does holds score_of s known turns s' known'
+    talk_refused : (err : BlockErr) (turns : List MessageTurn) (s s' : S) (known known' : ViewState)
+        → AnswersInTurn does holds score_of s known turns s' known'
         → first_failure turns ≡ Some (Tree (trees.Block err)) → RefusesFirst does err s s'
     talk_refused err [] s s' known known' it is = let never : ⊥ = cc in absurd never
     talk_refused err (turn ∷ turns) s s' known known' it is =

@@ -10,16 +10,16 @@ use Rattle.vt_base.specs.declared.why.FieldValue.{FieldValue}
 use Rattle.vt_base.specs.declared.why.Why.{Why}
 use Rattle.vt_base.specs.declared.why.Why.TheVariants as whys
 use Rattle.vt_disk.specs.Members.{DiskOf}
-use Rattle.vt_tree.specs.declared.err.BlockErr.{BlockErr}
-use Rattle.vt_tree.specs.declared.err.BlockErr.TheVariants as blocks
-use Rattle.vt_tree.specs.declared.err.TreeErr.TheVariants as trees
+use Rattle.vt_tree.specs.declared.error.BlockErr.{BlockErr}
+use Rattle.vt_tree.specs.declared.error.BlockErr.TheVariants as blocks
+use Rattle.vt_tree.specs.declared.error.TreeErr.TheVariants as trees
 use Rattle.vt_tree.specs.Calls.{Call, get, put, sync, IsGet, asked_of, refusal_of, refusals_of}
 use Rattle.vt_tree.specs.Making.{Makes}
 use Rattle.vt_local.specs.Members.{StoreOf}
-use Rattle.vt_answer.specs.Serving.{failure_of, tells_failure}
-use Rattle.vt_answer.specs.Taking.{DoesCalls, DoesSome, first_told}
+use Rattle.vt_handler.specs.Serving.{failure_of, tells_failure}
+use Rattle.vt_handler.specs.Taking.{DoesCalls, DoesSome, first_told}
 use Rattle.vt_core.specs.Core.{CoreState, stops_of}
-use Rattle.vt_drive.specs.Driven.{DrivenState}
+use Rattle.vt_requests.specs.Driven.{DrivenState}
 use Rattle.vt_use.specs.Causes.{FailsFor}
 use Rattle.vt_use.specs.LocalJobs.{exchanges_of, new_local}
 use Rattle.vt_use.specs.Stores.{at_time, store_on}
@@ -28,8 +28,8 @@ use Rattle.vt_use.proofs.Causes.{by_failure, if_failure}
 use Rattle.vt_use.proofs.Runs.{calls_run}
 use Rattle.vt_use.proofs.Tells.{run_tells}
 use Rattle.vt_local.specs.Local.{DoesLocal, HoldsLocal, IsToldAs, LocalState, RefusedFor, StandsFor}
-use Rattle.vac_read.specs.declared.err.VacBad.{VacBad}
-use Rattle.vac_read.specs.declared.err.VacBad.TheVariants.{Tree, Root, Meta, NoMemory}
+use Rattle.vac_read.specs.declared.error.VacBad.{VacBad}
+use Rattle.vac_read.specs.declared.error.VacBad.TheVariants.{Tree, Root, Meta, NoMemory}
 use Rattle.nine_view.specs.declared.serving.Served.{Served}
 use Rattle.vac_view.specs.Stored.{FailsAs, ViewsOn, first_bad}
 use Rattle.vac_view.specs.Viewing.{Passed}

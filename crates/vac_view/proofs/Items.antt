@@ -4,28 +4,28 @@ use Rattle.std.specs.List.{AllByRecursion}
 use Rattle.std.specs.Option.{option_and_then}
 use Rattle.std.specs.Prelude.{IfSome}
 use Rattle.std.specs.Str.{bytes_eq}
-use Rattle.vt_folder.specs.Items.{Items, none, file, folder, other}
+use Rattle.vt_out.specs.FolderItems.{Items, none, file, folder, other}
 use Rattle.vt_tree.specs.declared.entry.Entry.{Entry}
-use Rattle.vt_tree.specs.Content.{IsContent, size_of}
+use Rattle.vt_tree.specs.Content.{IsFileContent, size_of}
 use Rattle.vt_tree.specs.Maps.{BlockMap}
 use Rattle.vac_meta.specs.declared.record.Record.{Record}
-use Rattle.vac_meta.specs.Records.{Spells}
+use Rattle.vac_meta.specs.Records.{SpellsMetadata}
 use Rattle.vac_model.specs.Kept.{Numbered}
 use Rattle.vac_model.specs.Trees.{AreFolder, IsTreeOf, StandFor, described}
 use Rattle.vac_read.specs.declared.node.Node.{Node}
 use Rattle.vac_read.specs.declared.node.Stored.{Stored}
 use Rattle.vac_read.specs.declared.node.Stored.TheVariants as stored
-use Rattle.vac_read.specs.Laws.{AreItems, HoldsBytes, ListsAreItems, StandsAs, TopsStand}
-use Rattle.vac_read.specs.Nodes.{AreNodes, Finds, IsFound, IsNode, Lists, item_of, named}
+use Rattle.vac_read.specs.Laws.{AreNodesOf, HoldsBytes, ListsAreItems, StandsAs, TopsStand}
+use Rattle.vac_read.specs.Nodes.{AreNodes, FindsNode, IsFoundItem, IsNode, Lists, item_of, named}
 use Rattle.nine_view.specs.declared.fid.Fid.{Fid}
-use Rattle.nine_view.specs.Known.{AreFiles, IsRightFid, IsWay, Known}
-use Rattle.nine_view.specs.Serving.{Turn}
+use Rattle.nine_view.specs.Known.{AreFiles, IsRightFid, IsWay, ViewState}
+use Rattle.nine_view.specs.Serving.{MessageTurn}
 use Rattle.vac_view.specs.Items.{AllStand, IsKept, IsWhatIsThere, Kept, StandsAt, a_file, a_folder, item_named, items_in, kept_at, the_top}
 use Rattle.vac_view.specs.Viewing.{AreAnswered, ShowsArchive, unasked}
 
-module _ (one_content : (map : BlockMap) (e : Entry) (a b : List ℕ) → IsContent map e a
-    → IsContent map e b → a ≡ b)
-    (one_metadata : (a b : List Record) (bytes : List ℕ) → Spells a bytes → Spells b bytes
+module _ (one_content : (map : BlockMap) (e : Entry) (a b : List ℕ) → IsFileContent map e a
+    → IsFileContent map e b → a ≡ b)
+    (one_metadata : (a b : List Record) (bytes : List ℕ) → SpellsMetadata a bytes → SpellsMetadata b bytes
     → a ≡ b)
     (lists_are : ListsAreItems) (tops_stand : TopsStand) (map : BlockMap)
   where
@@ -34,7 +34,7 @@ module _ (one_content : (map : BlockMap) (e : Entry) (a b : List ℕ) → IsCont
     same_records entries metadata a b x y =
         let bytes = one_content map metadata x.bytes y.bytes x.content y.content in
         one_metadata a b x.bytes x.spelled
-        (subst (λ (l : List ℕ). Spells b l) (sym bytes) y.spelled)
+        (subst (λ (l : List ℕ). SpellsMetadata b l) (sym bytes) y.spelled)
 
     -- ---- under a name
 
@@ -47,7 +47,7 @@ module _ (one_content : (map : BlockMap) (e : Entry) (a b : List ℕ) → IsCont
         (name : List ℕ) (node : Node) : Type 0 where
       nodes : List Node
       are : AreNodes map stream records nodes
-      tells : AreItems map items nodes → IsWhatIsThere map (item_named name items) (Some node)
+      tells : AreNodesOf map items nodes → IsWhatIsThere map (item_named name items) (Some node)
 
     all_nodes : (stream : Entry) (records : List Record) (items : Items Numbered)
         → StandFor map stream records items
@@ -214,16 +214,16 @@ module _ (one_content : (map : BlockMap) (e : Entry) (a b : List ℕ) → IsCont
             rw (test_is about x name false stand.1 here) (later found)
 
     in_folder : (s : Stored) (items : Items Numbered) (name : List ℕ) (found : Option Node)
-        → StandsAs map s items → Finds map s name found
+        → StandsAs map s items → FindsNode map s name found
         → IsWhatIsThere map (item_named name items) found
     in_folder (stored.File e) items name found stand finds = absurd stand
     in_folder (stored.Folder entries metadata) items name found stand finds =
         let same = same_records entries metadata finds.0 stand.0 finds.1 stand.1 in
         of (named name stand.0) refl found
-        (subst (λ (l : List Record). IsFound map entries (named name l) found) same finds.2)
+        (subst (λ (l : List Record). IsFoundItem map entries (named name l) found) same finds.2)
       where
         of : (o : Option Record) → named name stand.0 ≡ o → (there : Option Node)
-            → IsFound map entries o there → IsWhatIsThere map (item_named name items) there
+            → IsFoundItem map entries o there → IsWhatIsThere map (item_named name items) there
         of None is None it =
             subst (λ (o : Option Kept). IsWhatIsThere map o None)
             (sym (none_named entries stand.0 items name stand.2 is)) tt
@@ -235,13 +235,13 @@ module _ (one_content : (map : BlockMap) (e : Entry) (a b : List ℕ) → IsCont
             (record { records = stand.0; are = stand.1; stand = has.are }))
 
     in_file : (s : Stored) (bytes name : List ℕ) (found : Option Node) → HoldsBytes map s bytes
-        → Finds map s name found → IsWhatIsThere map None found
+        → FindsNode map s name found → IsWhatIsThere map None found
     in_file (stored.File e) bytes name found holds finds =
         subst (λ (o : Option Node). IsWhatIsThere map None o) (sym finds) tt
     in_file (stored.Folder entries metadata) bytes name found holds finds = absurd holds
 
     pub name_is_item : (kept : Kept) (node : Node) (name : List ℕ) (found : Option Node)
-        → IsKept map kept node → Finds map node.stored name found
+        → IsKept map kept node → FindsNode map node.stored name found
         → IsWhatIsThere map (item_named name (items_in kept)) found
     name_is_item (the_top items) node name found is finds =
         in_folder node.stored items name found is.3 finds
@@ -253,13 +253,13 @@ module _ (one_content : (map : BlockMap) (e : Entry) (a b : List ℕ) → IsCont
     -- ---- on the way to the top
 
     no_items : (s : Stored) (bytes : List ℕ) (nodes : List Node) → HoldsBytes map s bytes
-        → Lists map s nodes → AreItems map none nodes
+        → Lists map s nodes → AreNodesOf map none nodes
     no_items (stored.File e) bytes nodes holds lists =
-        subst (λ (l : List Node). AreItems map none l) (sym lists) tt
+        subst (λ (l : List Node). AreNodesOf map none l) (sym lists) tt
     no_items (stored.Folder entries metadata) bytes nodes holds lists = absurd holds
 
     kept_lists : (kept : Kept) (node : Node) (nodes : List Node) → IsKept map kept node
-        → Lists map node.stored nodes → AreItems map (items_in kept) nodes
+        → Lists map node.stored nodes → AreNodesOf map (items_in kept) nodes
     kept_lists (the_top items) node nodes is lists =
         lists_are map node.stored items nodes is.3 lists
     kept_lists (a_file about bytes) node nodes is lists =
@@ -268,7 +268,7 @@ module _ (one_content : (map : BlockMap) (e : Entry) (a b : List ℕ) → IsCont
         lists_are map node.stored inside nodes is.1 lists
 
     kept_files : (kept : Kept) (node : Node) (files : Option (List Node)) → IsKept map kept node
-        → AreFiles map node files → IfSome files (AreItems map (items_in kept))
+        → AreFiles map node files → IfSome files (AreNodesOf map (items_in kept))
     kept_files kept node None is are = tt
     kept_files kept node (Some nodes) is are = kept_lists kept node nodes is are
 
@@ -280,7 +280,7 @@ module _ (one_content : (map : BlockMap) (e : Entry) (a b : List ℕ) → IsCont
       is : IsKept map kept node
 
     below : (items : Items Numbered) (up node : Node) (name : List ℕ) (it : IsAt items up)
-        → Finds map up.stored name (Some node) → IsAt items node
+        → FindsNode map up.stored name (Some node) → IsAt items node
     below items up node name it finds = of (item_named name (items_in it.kept)) refl
         (name_is_item it.kept up name (Some node) it.is finds)
       where
@@ -323,7 +323,7 @@ module _ (one_content : (map : BlockMap) (e : Entry) (a b : List ℕ) → IsCont
       fids_stand [] right = tt
       fids_stand (e ∷ fids) right = (fid_stands e.1 right.0, fids_stand fids right.1)
 
-      turns_stand : (known : Known) (turns : List Turn) → known.top ≡ top
+      turns_stand : (known : ViewState) (turns : List MessageTurn) → known.top ≡ top
           → AreAnswered map known turns
           → AllByRecursion (λ turn. AllStand map items turn.known) turns
       turns_stand known [] is answered = tt
@@ -336,7 +336,7 @@ module _ (one_content : (map : BlockMap) (e : Entry) (a b : List ℕ) → IsCont
           )
 
     pub fids_are_items : (score : List ℕ) (items : Items Numbered) (top : Node)
-        (turns : List Turn) → IsTreeOf map score items → ShowsArchive map score top turns
+        (turns : List MessageTurn) → IsTreeOf map score items → ShowsArchive map score top turns
         → AllByRecursion (λ turn. AllStand map items turn.known) turns
     fids_are_items score items top turns tree shows =
         let is = shows.top_is in

@@ -5,20 +5,20 @@ use Rattle.std.proofs.lemmas.Bool.{cases_Bool}
 use Rattle.vt_base.specs.Faults.{HasRisen}
 use Rattle.vt_base.specs.declared.score.Score.{Score}
 use Rattle.vt_base.specs.declared.why.FieldValue.{FieldValue}
-use Rattle.vt_client.specs.declared.err.ClientErr.{ClientErr}
-use Rattle.vt_client.specs.declared.err.ClientErr.TheVariants as errs
-use Rattle.vt_client.specs.declared.err.Parted.{Parted}
-use Rattle.vt_client.specs.Clients.{Asks, ClientState, SaysGoodbye, block_of, committing, taking_in}
+use Rattle.vt_client.specs.declared.error.ClientErr.{ClientErr}
+use Rattle.vt_client.specs.declared.error.ClientErr.TheVariants as errs
+use Rattle.vt_client.specs.declared.error.LinkError.{LinkError}
+use Rattle.vt_client.specs.Clients.{AsksRequest, ClientState, SaysGoodbye, wanted_block, committing, taking_in}
 use Rattle.vt_client.specs.Exchanges.{Wanted}
 use Rattle.vt_client.specs.Stores.{DoesAsClient, DoesOnce, IsToldAs, refused_after}
-use Rattle.vt_tree.specs.declared.err.BlockErr.{BlockErr}
-use Rattle.vt_tree.specs.declared.err.BlockErr.TheVariants as blocks
-use Rattle.vt_tree.specs.declared.err.TreeErr.TheVariants as trees
+use Rattle.vt_tree.specs.declared.error.BlockErr.{BlockErr}
+use Rattle.vt_tree.specs.declared.error.BlockErr.TheVariants as blocks
+use Rattle.vt_tree.specs.declared.error.TreeErr.TheVariants as trees
 use Rattle.vt_tree.specs.Calls.{Call, get, put, sync, IsGet, refusal_of, refusals_of}
 use Rattle.vt_tree.specs.Making.{Makes}
-use Rattle.vt_remote.specs.Remote.{Talks, link_in}
-use Rattle.vac_read.specs.declared.err.VacBad.{VacBad}
-use Rattle.vac_read.specs.declared.err.VacBad.TheVariants.{Tree, Root, Meta, NoMemory}
+use Rattle.vt_remote.specs.Remote.{TalksToServer, link_in}
+use Rattle.vac_read.specs.declared.error.VacBad.{VacBad}
+use Rattle.vac_read.specs.declared.error.VacBad.TheVariants.{Tree, Root, Meta, NoMemory}
 use Rattle.vac_view.specs.Members.{LinkOf}
 use Rattle.vac_view.specs.Remote.{FailsOver, HasFailedBy, RemoteView, ViewsAt, holds_none}
 use Rattle.vac_view.specs.Stored.{first_bad}
@@ -60,7 +60,7 @@ module _ {C : Type 0} (server : LinkOf C) (score_of : List ℕ → List ℕ) whe
   spent_call : (why : ClientErr) (c c' : ClientState C) (call : Call) → c.spent ≡ true
       → c.refused ≡ Some why → DoesAsClient server score_of c call c' → IsSpentSince why c c'
   spent_call why c c' (get kind s answer) spent refused it =
-      spent_once why (block_of s kind) c c' answer spent refused it.asks
+      spent_once why (wanted_block s kind) c c' answer spent refused it.asks
   spent_call why c c' (put b answer) spent refused it =
       spent_once why (taking_in score_of b.kind b.bytes) c c' answer spent refused it.asks
   spent_call why c c' (sync answer) spent refused it =
@@ -81,11 +81,11 @@ module _ {C : Type 0} (server : LinkOf C) (score_of : List ℕ → List ℕ) whe
         refused = more.refused;
       }
 
-  gives_back : (c : ClientState C) (parted : Result C (Parted C)) → c.spent ≡ true
+  gives_back : (c : ClientState C) (parted : Result C (LinkError C)) → c.spent ≡ true
       → SaysGoodbye server c parted → link_in parted ≡ c.link
   gives_back c (Ok l) spent says = let no : true ≡ false = sym spent ∙ says.0 in absurd (cc)
   gives_back c (Err parted) spent says = ⊎_elim
-      (λ untouched. ap (λ (p : Parted C). p.link) untouched.1)
+      (λ untouched. ap (λ (p : LinkError C). p.link) untouched.1)
       (λ failed. let no : true ≡ false = sym spent ∙ failed.0 in absurd (cc)) says
 
   -- ---- calls that are answered
@@ -100,7 +100,7 @@ module _ {C : Type 0} (server : LinkOf C) (score_of : List ℕ → List ℕ) whe
   none_call : (c c' : ClientState C) (call : Call) → refusal_of call ≡ None → c.refused ≡ None
       → DoesAsClient server score_of c call c' → c'.refused ≡ None
   none_call c c' (get kind s (Ok bytes)) answered none it =
-      none_once (block_of s kind) c c' bytes none it.asks
+      none_once (wanted_block s kind) c c' bytes none it.asks
   none_call c c' (put b (Ok score)) answered none it =
       none_once (taking_in score_of b.kind b.bytes) c c' score none it.asks
   none_call c c' (sync (Ok done)) answered none it = none_once committing c c' done none it.asks
@@ -122,13 +122,13 @@ module _ {C : Type 0} (server : LinkOf C) (score_of : List ℕ → List ℕ) whe
     kind : ℕ
     s : List ℕ
     after : ClientState C
-    asked : Asks server score_of (block_of s kind) c after (Err why)
+    asked : AsksRequest server score_of (wanted_block s kind) c after (Err why)
     link : c'.link ≡ after.link
     spent : c'.spent ≡ after.spent
     refused : c'.refused ≡ refused_after {T = List ℕ} (Err why) c.refused
 
   once_refused : (kind : ℕ) (s : List ℕ) (err : BlockErr) (c c' : ClientState C)
-      → DoesOnce server score_of (block_of s kind) c c' (Err err)
+      → DoesOnce server score_of (wanted_block s kind) c c' (Err err)
       → (why : ClientErr) × IsToldAs why err × RefusedSo why c c'
   once_refused kind s err c c' it =
       let why = it.stands.0 in
@@ -139,7 +139,7 @@ module _ {C : Type 0} (server : LinkOf C) (score_of : List ℕ → List ℕ) whe
           kind = kind;
           s = s;
           after = it.after;
-          asked = subst (λ (r : Result (List ℕ) ClientErr). Asks server score_of (block_of s kind) c
+          asked = subst (λ (r : Result (List ℕ) ClientErr). AsksRequest server score_of (wanted_block s kind) c
               it.after r) is it.asked;
           link = ap (λ (x : ClientState C). x.link) it.is;
           spent = ap (λ (x : ClientState C). x.spent) it.is;
@@ -166,7 +166,7 @@ module _ {C : Type 0} (server : LinkOf C) (score_of : List ℕ → List ℕ) whe
       of (sync answer) is asks done = absurd asks
 
   -- a link that failed counts it, and is given back so
-  back_failed : (why : ClientErr) (c last : ClientState C) (parted : Result C (Parted C))
+  back_failed : (why : ClientErr) (c last : ClientState C) (parted : Result C (LinkError C))
       (back : C) → IsSpentSince why c last → HasFailedBy server (Some why) c.link
       → SaysGoodbye server (record last { refused = None }) parted → back ≡ link_in parted
       → HasFailedBy server last.refused back
@@ -263,7 +263,7 @@ module _ {C : Type 0} (server : LinkOf C) (score_of : List ℕ → List ℕ) whe
   -- ---- a whole talk
 
   module _ (score : List ℕ) (p : Passed) (view : RemoteView) (back : C)
-      (x : Talks server score_of (ViewsAt server score_of score p (Ok view)) back) where
+      (x : TalksToServer server score_of (ViewsAt server score_of score p (Ok view)) back) where
     refused : (err : BlockErr) → first_bad view.0 ≡ Some (Tree (trees.Block err))
         → RefusesFirst (DoesAsClient server score_of) err x.met x.does.0
     refused err is = view_refused (DoesAsClient server score_of) holds_none score_of err score p

@@ -5,15 +5,15 @@ use Rattle.vt_model.specs.History.{History, held}
 use Rattle.vt_tree.specs.Maps.{Maps}
 use Rattle.vt_core.specs.Core.{CoreState}
 use Rattle.vt_core.specs.Sound.{IsSound}
-use Rattle.vt_drive.specs.Driven.{DrivenState}
+use Rattle.vt_requests.specs.Driven.{DrivenState}
 use Rattle.vt_local.specs.Local.{DoesLocal, HoldsLocal, LocalState}
 use Rattle.vt_use.specs.LocalJobs.{new_local}
 use Rattle.vt_use.specs.Stores.{at_time, store_on}
 use Rattle.vt_use.specs.Uses.{LeftByUse}
 use Rattle.vt_use.proofs.Answered.{calls_only}
 use Rattle.vac_read.specs.declared.archive.Archive.{Archive}
-use Rattle.vac_read.specs.declared.err.VacBad.{VacBad}
-use Rattle.vac_read.specs.Reading.{OpensArchive, Reads}
+use Rattle.vac_read.specs.declared.error.VacBad.{VacBad}
+use Rattle.vac_read.specs.Reading.{OpensArchive, ReadsArchive}
 use Rattle.nine_view.specs.declared.serving.Served.{Served}
 use Rattle.vac_view.specs.Stored.{ShowsOn, StaysAsRead, ViewsOn}
 use Rattle.vac_view.specs.Viewing.{Passed}
@@ -70,7 +70,7 @@ module _ {D : Type 0} (score_of : List ℕ → List ℕ) (disk : DiskOf D) (tell
 pub opens_right : {D : Type 0} (score_of : List ℕ → List ℕ) (disk : DiskOf D) (h : History)
     (old : CoreState D) → IsTrue disk.tells → IsSound score_of disk old h → (score : List ℕ)
     (result : Result Archive VacBad) (left : LocalState (DrivenState D))
-    → Reads (DoesLocal (store_on score_of disk)) (HoldsLocal (store_on score_of disk) score_of)
+    → ReadsArchive (DoesLocal (store_on score_of disk)) (HoldsLocal (store_on score_of disk) score_of)
     score_of (new_local (at_time 0 old)) left result (OpensArchive score result)
     → OpensArchive score result (held score_of h)
 opens_right score_of disk h old tells sound score result left it =

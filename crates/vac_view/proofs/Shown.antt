@@ -2,17 +2,17 @@
 use Rattle.std.proofs.Common.{ℕ, List, [], ◌∷◌, Result, Ok, Err, subst, sym}
 use Rattle.vt_tree.specs.Calls.{Call}
 use Rattle.vt_tree.specs.Maps.{Maps}
-use Rattle.vac_read.specs.declared.err.VacBad.{VacBad}
+use Rattle.vac_read.specs.declared.error.VacBad.{VacBad}
 use Rattle.nine_view.specs.declared.serving.Served.{Served}
-use Rattle.nine_view.specs.Known.{IsRight, Known}
-use Rattle.nine_view.specs.Serving.{Talks, Turn}
+use Rattle.nine_view.specs.Known.{IsRightView, ViewState}
+use Rattle.nine_view.specs.Serving.{AnswersInTurn, MessageTurn}
 use Rattle.vac_view.proofs.Tops.{top_stays}
 use Rattle.vac_view.specs.Viewing.{AreAnswered, IsShown, Passed, ViewsArchive, unasked}
 
 module _ {S : Type 0} (does : S → Call → S → Type 0) (holds : S → Maps → Type 0)
     (score_of : List ℕ → List ℕ) (m : Maps) where
-  talk_shown : (turns : List Turn) (s s' : S) (known known' : Known)
-      → Talks does holds score_of s known turns s' known' → holds s m → IsRight m.held known
+  talk_shown : (turns : List MessageTurn) (s s' : S) (known known' : ViewState)
+      → AnswersInTurn does holds score_of s known turns s' known' → holds s m → IsRightView m.held known
       → holds s' m × AreAnswered m.held known turns
   talk_shown [] s s' known known' it hold right =
       (subst (λ (x : S). holds x m) (sym it.0) hold, tt)

@@ -1,17 +1,17 @@
 -- An archive that is served, as a use of the store.
 use Rattle.std.proofs.Common.{◌≡◌, ℕ, List, false, Ok, Result, refl, sym, ◌∙◌, ap, subst}
 use Rattle.vt_disk.specs.Members.{DiskOf}
-use Rattle.vt_answer.specs.Taking.{DoesCalls}
+use Rattle.vt_handler.specs.Taking.{DoesCalls}
 use Rattle.vt_core.specs.Core.{CoreState}
-use Rattle.vt_drive.specs.Answers.{KeepsAll}
-use Rattle.vt_drive.specs.Driven.{DrivenState}
+use Rattle.vt_requests.specs.Answers.{KeepsAll}
+use Rattle.vt_requests.specs.Driven.{DrivenState}
 use Rattle.vt_local.specs.Local.{DoesLocal, HoldsLocal}
 use Rattle.vt_use.specs.LocalJobs.{exchanges_of, new_local}
 use Rattle.vt_use.specs.Stores.{Exchange, MakesRun, at_time, store_on}
 use Rattle.vt_use.specs.Uses.{Asks}
 use Rattle.vt_use.proofs.Calls.{asked_so, only_reads}
 use Rattle.vt_use.proofs.Uses.{there, use_keeps, use_runs}
-use Rattle.vac_read.specs.declared.err.VacBad.{VacBad}
+use Rattle.vac_read.specs.declared.error.VacBad.{VacBad}
 use Rattle.nine_view.specs.declared.serving.Served.{Served}
 use Rattle.vac_view.specs.Stored.{ViewsOn}
 use Rattle.vac_view.specs.Viewing.{Passed}

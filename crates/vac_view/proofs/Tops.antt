@@ -3,7 +3,7 @@ use Rattle.std.proofs.Common.{◌≡◌, ℕ, Bool, true, false, Option, Some, N
 use Rattle.std.specs.Option.{option_map_or}
 use Rattle.std.specs.Prelude.{IfSome}
 use Rattle.vt_tree.specs.Maps.{BlockMap}
-use Rattle.vac_read.specs.declared.err.VacBad.{VacBad}
+use Rattle.vac_read.specs.declared.error.VacBad.{VacBad}
 use Rattle.vac_read.specs.declared.node.Node.{Node}
 use Rattle.vac_read.specs.declared.node.Stored.{Stored}
 use Rattle.vac_read.specs.declared.node.Stored.TheVariants as stored
@@ -11,16 +11,16 @@ use Rattle.nine_wire.specs.Messages.{TMessage, t_version, t_auth, t_attach, t_fl
 use Rattle.nine_view.specs.declared.fid.Fid.{Fid}
 use Rattle.nine_view.specs.declared.fid.Reading.{Reading}
 use Rattle.nine_view.specs.declared.place.Place.{Place}
-use Rattle.nine_view.specs.declared.refusal.Refusal.{Refusal}
-use Rattle.nine_view.specs.Answers.{Answer, Exchange, Outcome, answer_agreed, answer_first, answer_request, answer_to, misspelled, of_fid, reads_file, reads_files, reads_folder, refused, request, sets, settled, stays, to_folder, to_names, to_read, to_stored, unknown, walks}
-use Rattle.nine_view.specs.Known.{Known, fid_at}
-use Rattle.nine_view.specs.Replies.{Gives, IsReply, fails, walked}
+use Rattle.nine_view.specs.declared.request_error.RequestError.{RequestError}
+use Rattle.nine_view.specs.Answers.{Answer, Exchange, ViewOutcome, answer_agreed, answer_first, answer_request, answer_to, misspelled, of_fid, reads_file, reads_files, reads_folder, refused_answer, request, sets, settled, stays, to_folder, to_names, to_read, to_stored, unknown, walks}
+use Rattle.nine_view.specs.Known.{ViewState, fid_at}
+use Rattle.nine_view.specs.Replies.{GivesOutcome, IsViewReply, fails, walked}
 
 -- it is known behind an outcome
-record KeepsTop (known : Known) (o : Outcome) : Type 0 where
+record KeepsTop (known : ViewState) (o : ViewOutcome) : Type 0 where
   top : o.known.top ≡ known.top
 
-abbrev SettlesTop : Known → Answer → Type 0
+abbrev SettlesTop : ViewState → Answer → Type 0
 SettlesTop known (settled o) = KeepsTop known o
 SettlesTop known (sets fid f reply) = Unit {0}
 SettlesTop known (walks fid from names) = Unit {0}
@@ -28,11 +28,11 @@ SettlesTop known (reads_file e at n) = Unit {0}
 SettlesTop known (reads_folder fid f reading offset room) = Unit {0}
 
 -- it is known behind an answer that asks for no block
-record StaysIn (known : Known) (answer : Answer) : Type 0 where
+record StaysIn (known : ViewState) (answer : Answer) : Type 0 where
   settles : SettlesTop known answer
 
-module _ (known : Known) where
-  either : (b : Bool) (x y : Outcome) → KeepsTop known x → KeepsTop known y
+module _ (known : ViewState) where
+  either : (b : Bool) (x y : ViewOutcome) → KeepsTop known x → KeepsTop known y
       → KeepsTop known (if b then x else y)
   either true x y p q = p
   either false x y p q = q
@@ -42,7 +42,7 @@ module _ (known : Known) where
   one_of true x y p q = p
   one_of false x y p q = q
 
-  says : (o : Outcome) → KeepsTop known o → StaysIn known (settled o)
+  says : (o : ViewOutcome) → KeepsTop known o → StaysIn known (settled o)
   says o it = record { settles = it }
 
   kept : (reply : RMessage) (fids : List (ℕ × Fid)) (msize : Option ℕ)
@@ -88,7 +88,7 @@ module _ (known : Known) where
   of_fid_stays fid answer stay = of (fid_at fid known.fids)
     where
       of : (o : Option Fid)
-          → StaysIn known (option_map_or answer o (refused known Refusal.UnknownFid))
+          → StaysIn known (option_map_or answer o (refused_answer known RequestError.UnknownFid))
       of None = says _ (kept _ _ _)
       of (Some f) = stay f
 
@@ -124,18 +124,18 @@ module _ (known : Known) where
   answered misspelled = says _ (kept _ _ _)
   answered (request m) = requested known.msize m
 
-  walked_stays : (fid : ℕ) (qids : List Qid) (end : Result Place Refusal)
+  walked_stays : (fid : ℕ) (qids : List Qid) (end : Result Place RequestError)
       → KeepsTop known (walked known fid qids end)
   walked_stays fid qids (Ok at) = kept _ _ _
   walked_stays fid [] (Err why) = kept _ _ _
   walked_stays fid (qid ∷ qids) (Err why) = kept _ _ _
 
-  of_outcome : (o outcome : Outcome) → o ≡ outcome → KeepsTop known outcome
+  of_outcome : (o outcome : ViewOutcome) → o ≡ outcome → KeepsTop known outcome
       → o.known.top ≡ known.top
-  of_outcome o outcome is keeps = ap (λ (x : Outcome). x.known.top) is ∙ keeps.top
+  of_outcome o outcome is keeps = ap (λ (x : ViewOutcome). x.known.top) is ∙ keeps.top
 
-  gives_stays : (map : BlockMap) (answer : Answer) (o : Outcome) → StaysIn known answer
-      → Gives map known answer o → o.known.top ≡ known.top
+  gives_stays : (map : BlockMap) (answer : Answer) (o : ViewOutcome) → StaysIn known answer
+      → GivesOutcome map known answer o → o.known.top ≡ known.top
   gives_stays map (settled outcome) o stay gives = of_outcome o outcome gives stay.settles
   gives_stays map (sets fid f reply) o stay gives = of_outcome o _ gives (kept _ _ _)
   gives_stays map (walks fid from names) o stay gives =
@@ -146,11 +146,11 @@ module _ (known : Known) where
 
   -- it is known behind a reply, and behind a failure, which changes nothing
   pub top_stays : (map : BlockMap) (asked : Exchange) (failure : Option VacBad) (reply : RMessage)
-      (new : Known)
-      → IsReply map known (answer_to known asked) failure (record { reply = reply; known = new })
+      (new : ViewState)
+      → IsViewReply map known (answer_to known asked) failure (record { reply = reply; known = new })
       → IfSome failure (λ bad. stays new reply ≡ fails known bad) → new.top ≡ known.top
   top_stays map asked None reply new gives failed =
       gives_stays map (answer_to known asked) (record { reply = reply; known = new })
       (answered asked) gives
   top_stays map asked (Some bad) reply new gives failed =
-      ap (λ (o : Outcome). o.known.top) failed
+      ap (λ (o : ViewOutcome). o.known.top) failed

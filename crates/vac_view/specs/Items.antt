@@ -3,20 +3,20 @@ use Rattle.std.specs.Prelude.{ℕ, ◌≡◌, ⊤, min, if◌then◌else◌, IfS
 use Rattle.std.specs.List.{AllByRecursion}
 use Rattle.std.specs.Option.{option_and_then}
 use Rattle.std.specs.Str.{bytes_eq}
-use Rattle.vt_folder.specs.declared.item.ItemKind.TheVariants as kinds
-use Rattle.vt_folder.specs.Items.{Items, none, file, folder, other}
+use Rattle.vt_out.specs.declared.folder_item.ItemKind.TheVariants as kinds
+use Rattle.vt_out.specs.FolderItems.{Items, none, file, folder, other}
 use Rattle.vt_tree.specs.Maps.{BlockMap}
 use Rattle.vac_model.specs.Kept.{Numbered}
 use Rattle.vac_model.specs.Trees.{IsTreeOf}
 use Rattle.vac_read.specs.declared.node.Node.{Node}
-use Rattle.vac_read.specs.Laws.{AreItems, HoldsBytes, IsItem, StandsAs}
-use Rattle.vac_read.specs.Nodes.{Finds, top_item}
+use Rattle.vac_read.specs.Laws.{AreNodesOf, HoldsBytes, IsItem, StandsAs}
+use Rattle.vac_read.specs.Nodes.{FindsNode, top_item}
 use Rattle.nine_wire.specs.Messages.{r_read, t_read}
 use Rattle.nine_view.specs.declared.fid.Fid.{Fid}
 use Rattle.nine_view.specs.declared.fid.Reading.{Reading}
 use Rattle.nine_view.specs.Answers.{iounit, request}
-use Rattle.nine_view.specs.Known.{Known, fid_at}
-use Rattle.nine_view.specs.Serving.{Turn}
+use Rattle.nine_view.specs.Known.{ViewState, fid_at}
+use Rattle.nine_view.specs.Serving.{MessageTurn}
 use Rattle.vac_view.specs.Viewing.{IsAnswered, ShowsArchive}
 
 -- ---- what stands at a path
@@ -71,7 +71,7 @@ IsWhatIsThere map (Some kept) None = ⊥
 -- nothing is
 abbrev pub NamesAreItems : Type 0
 NamesAreItems = (map : BlockMap) (kept : Kept) (node : Node) (name : List ℕ)
-    (found : Option Node) → IsKept map kept node → Finds map node.stored name found
+    (found : Option Node) → IsKept map kept node → FindsNode map node.stored name found
     → IsWhatIsThere map (item_named name (items_in kept)) found
 
 -- ---- what a view knows
@@ -82,21 +82,22 @@ pub record StandsAt (map : BlockMap) (items : Items Numbered) (f : Fid) : Type 0
   pub kept : Kept
   pub at : kept_at items names ≡ Some kept
   pub node : IsKept map kept f.node
-  pub files : IfSome f.files (AreItems map (items_in kept))
+  pub files : IfSome f.files (AreNodesOf map (items_in kept))
 
-abbrev pub AllStand : BlockMap → Items Numbered → Known → Type 0
+abbrev pub AllStand : BlockMap → Items Numbered → ViewState → Type 0
 AllStand map items known = AllByRecursion (λ e. StandsAt map items e.1) known.fids
 
 -- where a folder is archived, each fid stands for something in it, from message to message
 abbrev pub FidsAreItems : Type 0
 FidsAreItems = (map : BlockMap) (score : List ℕ) (items : Items Numbered) (top : Node)
-    (turns : List Turn) → IsTreeOf map score items → ShowsArchive map score top turns
+    (turns : List MessageTurn) → IsTreeOf map score items → ShowsArchive map score top turns
     → AllByRecursion (λ turn. AllStand map items turn.known) turns
 
 -- a read of an open fid of a file with these bytes is replied by those from the place on, as many
 -- as are asked for and have room
 abbrev pub ReadsAreOfFiles : Type 0
-ReadsAreOfFiles = (map : BlockMap) (known : Known) (turn : Turn) (it : IsAnswered map known turn)
+ReadsAreOfFiles =
+    (map : BlockMap) (known : ViewState) (turn : MessageTurn) (it : IsAnswered map known turn)
     (msize fid offset count : ℕ) (f : Fid) (reading : Reading) (bytes : List ℕ)
     → known.msize ≡ Some msize → it.asked ≡ request (t_read fid offset count)
     → fid_at fid known.fids ≡ Some f → f.reading ≡ Some reading

@@ -9,23 +9,23 @@ use Rattle.vt_log.specs.Answers.{HoldTheSame}
 use Rattle.vt_model.specs.History.{History}
 use Rattle.vt_model.specs.Places.{Setup}
 use Rattle.vt_part.specs.Table.{Table}
-use Rattle.vt_parts.specs.Parts.{Standing}
+use Rattle.vt_partitions.specs.Parts.{Standing}
 use Rattle.vt_core.specs.Core.{CoreState, devices_of, setup_of}
 use Rattle.vt_core.specs.Files.{all_of}
 use Rattle.vt_core.specs.Mounting.{EachStands}
 use Rattle.vt_core.specs.Sound.{IsSound}
-use Rattle.vt_drive.specs.Answers.{KeepsAll}
-use Rattle.vt_drive.specs.Driven.{DrivenState}
+use Rattle.vt_requests.specs.Answers.{KeepsAll}
+use Rattle.vt_requests.specs.Driven.{DrivenState}
 use Rattle.vt_use.specs.Causes.{FailsFor}
 use Rattle.vt_use.specs.LocalJobs.{new_local}
 use Rattle.vt_use.specs.Stores.{at_time, store_on}
 use Rattle.vt_use.specs.Uses.{LeftInStore, Uses}
 use Rattle.vt_local.specs.Local.{DoesLocal, HoldsLocal, LocalState}
-use Rattle.vt_tree.specs.declared.err.BlockErr.TheVariants as blocks
-use Rattle.vt_tree.specs.declared.err.TreeErr.TheVariants as trees
+use Rattle.vt_tree.specs.declared.error.BlockErr.TheVariants as blocks
+use Rattle.vt_tree.specs.declared.error.TreeErr.TheVariants as trees
 use Rattle.vt_tree.specs.Maps.{BlockMap}
-use Rattle.vac_read.specs.declared.err.VacBad.{VacBad}
-use Rattle.vac_read.specs.declared.err.VacBad.TheVariants.{Tree}
+use Rattle.vac_read.specs.declared.error.VacBad.{VacBad}
+use Rattle.vac_read.specs.declared.error.VacBad.TheVariants.{Tree}
 use Rattle.nine_view.specs.declared.serving.Served.{Served}
 use Rattle.vac_view.specs.Viewing.{IsShown, Passed, ViewsArchive}
 

@@ -4,21 +4,21 @@ use Rattle.vt_session.specs.Talk.{spent_len}
 use Rattle.vt_tree.specs.Calls.{Call}
 use Rattle.vt_tree.specs.Maps.{BlockMap, Maps}
 use Rattle.vac_read.specs.declared.archive.Archive.{Archive}
-use Rattle.vac_read.specs.declared.err.VacBad.{VacBad}
+use Rattle.vac_read.specs.declared.error.VacBad.{VacBad}
 use Rattle.vac_read.specs.declared.node.Node.{Node}
 use Rattle.vac_read.specs.Nodes.{IsTop}
-use Rattle.vac_read.specs.Reading.{Reads, OpensArchive}
-use Rattle.nine_wire.specs.Frames.{spelled}
+use Rattle.vac_read.specs.Reading.{ReadsArchive, OpensArchive}
+use Rattle.nine_wire.specs.Frames.{spelled_reply}
 use Rattle.nine_wire.specs.Messages.{RMessage}
 use Rattle.nine_view.specs.declared.serving.Served.{Served}
 use Rattle.nine_view.specs.Answers.{Asked, answer_to}
-use Rattle.nine_view.specs.Known.{IsRight, Known}
-use Rattle.nine_view.specs.Replies.{Comes, IsReply}
-use Rattle.nine_view.specs.Serving.{ReadCause, Serves, Turn, WriteCause}
+use Rattle.nine_view.specs.Known.{IsRightView, ViewState}
+use Rattle.nine_view.specs.Replies.{MessageComes, IsViewReply}
+use Rattle.nine_view.specs.Serving.{ReadCause, ServesConnection, MessageTurn, WriteCause}
 use Rattle.vac_view.specs.Members.{LinkOf}
 
 -- what a view of this top folder knows before anything is asked
-abbrev pub unasked : Node → Known
+abbrev pub unasked : Node → ViewState
 unasked top = record { top = top; msize = None; fids = [] }
 
 -- ---- over a link
@@ -60,9 +60,10 @@ pub record ServesArchive {S : Type 0} (does : S → Call → S → Type 0)
   -- the store behind that, and the archive
   pub opened : S
   pub archive : Archive
-  pub opens : Reads does holds score_of s opened (Ok archive) (OpensArchive score (Ok archive))
-  pub known : Known
-  pub serves : Serves does holds score_of opened s' (unasked archive.top) known
+  pub opens : ReadsArchive does holds score_of s opened (Ok archive)
+      (OpensArchive score (Ok archive))
+  pub known : ViewState
+  pub serves : ServesConnection does holds score_of opened s' (unasked archive.top) known
       (IsTrue p.tells) p.given p.given' p.written p.written' p.left' served.ended served.taken
       served.failure
   pub most : served.taken ≤ spent_len
@@ -76,29 +77,29 @@ abbrev pub ViewsArchive : {S : Type 0} → (does : S → Call → S → Type 0)
 ViewsArchive does holds score_of score p (Ok served) s s' =
     ServesArchive does holds score_of score p served s s'
 ViewsArchive does holds score_of score p (Err bad) s s' =
-    Reads {X = Archive} does holds score_of s s' (Err bad) (OpensArchive score (Err bad))
+    ReadsArchive {X = Archive} does holds score_of s s' (Err bad) (OpensArchive score (Err bad))
 
 -- ---- what follows
 
 -- by what the archive has, this is the reply to the message, and what is known behind it is right
-pub record IsAnswered (map : BlockMap) (known : Known) (turn : Turn) : Type 0 where
+pub record IsAnswered (map : BlockMap) (known : ViewState) (turn : MessageTurn) : Type 0 where
   pub tag : ℕ
   pub asked : Asked
-  pub comes : Comes turn.message tag asked
+  pub comes : MessageComes turn.message tag asked
   pub reply : RMessage
-  pub said_is : turn.said ≡ spelled tag reply
-  pub is : IsReply map known (answer_to known asked) turn.failure
+  pub said_is : turn.said ≡ spelled_reply tag reply
+  pub is : IsViewReply map known (answer_to known asked) turn.failure
       (record { reply = reply; known = turn.known })
-  pub right : IsRight map turn.known
+  pub right : IsRightView map turn.known
   pub top_stays : turn.known.top ≡ known.top
 
-abbrev pub AreAnswered : BlockMap → Known → List Turn → Type 0
+abbrev pub AreAnswered : BlockMap → ViewState → List MessageTurn → Type 0
 AreAnswered map known [] = ⊤
 AreAnswered map known (turn ∷ turns) =
     IsAnswered map known turn × AreAnswered map turn.known turns
 
 -- the top folder is that of the score's archive, and each reply is what the archive has
-pub record ShowsArchive (map : BlockMap) (score : List ℕ) (top : Node) (turns : List Turn)
+pub record ShowsArchive (map : BlockMap) (score : List ℕ) (top : Node) (turns : List MessageTurn)
     : Type 0 where
   pub top_is : IsTop map score top
   pub answered : AreAnswered map (unasked top) turns

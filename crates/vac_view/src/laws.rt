@@ -7,16 +7,16 @@ ghost use Rattle.vt_core.specs.Core.{CoreState, stops_of};
 ghost use Rattle.vt_core.specs.Files.{PerDevice};
 ghost use Rattle.vt_core.specs.Mounting.{IsLogOf};
 ghost use Rattle.vt_core.specs.Sound.{IsSound};
-ghost use Rattle.vt_drive.specs.Answers.{KeepsAll};
+ghost use Rattle.vt_requests.specs.Answers.{KeepsAll};
 ghost use Rattle.vt_model.specs.History.{History, held};
 ghost use Rattle.vt_model.specs.Places.{Setup};
 ghost use Rattle.vt_open.specs.Names.{AreUnder};
 ghost use Rattle.vt_part.specs.Table.{Table};
-ghost use Rattle.vt_parts.specs.Parts.{Standing};
+ghost use Rattle.vt_partitions.specs.Parts.{Standing};
 ghost use Rattle.vt_tree.specs.Maps.{Maps};
 ghost use Rattle.vt_use.specs.Stores.{MakesRun};
-ghost use Rattle.vt_remote.specs.Remote.{Talks};
-ghost use Rattle.vac_read.specs.declared.err.VacBad.{VacBad};
+ghost use Rattle.vt_remote.specs.Remote.{TalksToServer};
+ghost use Rattle.vac_read.specs.declared.error.VacBad.{VacBad};
 ghost use Rattle.nine_view.specs.declared.serving.Served.{Served};
 ghost use Rattle.vac_view.specs.Items.{FidsAreItems, NamesAreItems, ReadsAreOfFiles};
 ghost use Rattle.vac_view.specs.Remote.{FailsOver, RemoteView, ViewsAt};
@@ -107,6 +107,6 @@ pub fn stores_are_viewed<D: Disk>()
 /// the link that came back counts a failed call, or two scores differ.
 pub fn remote_failures_have_causes<C: Link>()
     ensures { (score_of : List ℕ → List ℕ) (score : List ℕ) (p : Passed) (view : RemoteView)
-        (back : C) → Talks C.Link score_of (ViewsAt C.Link score_of score p (Ok view)) back
+        (back : C) → TalksToServer C.Link score_of (ViewsAt C.Link score_of score p (Ok view)) back
         → IfSome (first_bad view.0) (λ bad. FailsOver C.Link bad view.1 back) }
 {}

@@ -2,8 +2,8 @@
 use Rattle.std.proofs.Common.{◌≡◌, ℕ, IfErr, Result, Ok, Err, sym, subst}
 use Rattle.std.specs.Prelude.{MatchBool}
 use Rattle.vt_base.specs.Faults.{CountsFault, HasRisen}
-use Rattle.vac_write.specs.declared.err.VacErr.{VacErr}
-use Rattle.vac_write.specs.declared.err.VacErr.TheVariants.{FolderFault, Tree, BadName, TooDeep, NoMemory}
+use Rattle.vac_write.specs.declared.error.VacErr.{VacErr}
+use Rattle.vac_write.specs.declared.error.VacErr.TheVariants.{FolderFault, Tree, BadName, TooDeep, NoMemory}
 use Rattle.vac_write.specs.Archiving.{is_folder_fault}
 use Rattle.vac_write.specs.Puts.{IsOfStore}
 

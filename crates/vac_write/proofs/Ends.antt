@@ -4,21 +4,21 @@ use Rattle.std.specs.Cmp.Lexicographic.{slice_cmp}
 use Rattle.std.proofs.lemmas.Bool.{cases_Bool}
 use Rattle.std.proofs.lemmas.List.{map-append}
 use Rattle.vt_base.specs.Protocol.{Operation, sync as sync_all}
-use Rattle.vt_folder.specs.declared.item.Facts.{Facts}
-use Rattle.vt_folder.specs.Items.{Items, none, file, folder, other, folder_at}
+use Rattle.vt_out.specs.declared.folder_item.Facts.{Facts}
+use Rattle.vt_out.specs.FolderItems.{Items, none, file, folder, other, folder_at}
 use Rattle.vt_model.specs.History.{Block}
-use Rattle.vt_tree.specs.declared.err.BlockErr.{BlockErr}
-use Rattle.vt_tree.specs.declared.err.TreeErr.TheVariants as trees
-use Rattle.vt_tree.specs.Calls.{Call, sync, asked_of, write_of, Tells, after}
+use Rattle.vt_tree.specs.declared.error.BlockErr.{BlockErr}
+use Rattle.vt_tree.specs.declared.error.TreeErr.TheVariants as trees
+use Rattle.vt_tree.specs.Calls.{Call, sync, asked_of, write_of_block, TellsOfMap, after}
 use Rattle.vt_tree.specs.Making.{Makes}
 use Rattle.vt_tree.specs.Maps.{Maps, with_blocks, IsWriteOnce}
-use Rattle.vt_tree.specs.Entries.{spelled as entry_bytes}
-use Rattle.vt_tree.specs.Roots.{spelled as root_bytes}
+use Rattle.vt_tree.specs.Entries.{tree_entry_bytes}
+use Rattle.vt_tree.specs.Roots.{root_bytes}
 use Rattle.vt_tree.proofs.Appending.{accepted_join}
 use Rattle.vt_tree.proofs.Making.{makes_more, makes_one, puts_are_there, puts_leave, told}
 use Rattle.vt_tree.proofs.ReadBack.{depth_below_8, depth_reaches, stream_reads_back}
 use Rattle.vac_model.specs.declared.TheConstants.{MIN_BLOCK_SIZE, MAX_BLOCK_SIZE}
-use Rattle.vac_model.specs.Archives.{archive_of, top_bytes, root_of, directory_entry, metadata_entry, entries_of}
+use Rattle.vac_model.specs.Archives.{archive_of, top_bytes, root_of, directory_entry, metadata_entry, item_entries}
 use Rattle.vac_model.specs.Kept.{placed, in_order, archived, count, left_out}
 use Rattle.vac_model.specs.Laws.{ArchivesReadBack}
 use Rattle.vac_model.specs.Limits.{first_unfit, HaveTimes}
@@ -26,11 +26,11 @@ use Rattle.vac_model.proofs.Archivable.{fit_is_good}
 use Rattle.vac_model.proofs.ReadsBack.{good_tree}
 use Rattle.vac_write.specs.declared.archived.Archived.{Archived}
 use Rattle.vac_write.specs.declared.archiving.Walk.{Walk}
-use Rattle.vac_write.specs.declared.err.VacErr.{VacErr}
-use Rattle.vac_write.specs.declared.err.VacErr.TheVariants.{Tree}
+use Rattle.vac_write.specs.declared.error.VacErr.{VacErr}
+use Rattle.vac_write.specs.declared.error.VacErr.TheVariants.{Tree}
 use Rattle.vac_write.specs.declared.streams.FolderEntries.{FolderEntries}
 use Rattle.vac_write.specs.Archiving.{IsSeen, IsGivenUpAs, KeepsArchive, WritesArchive, GivesUpArchive}
-use Rattle.vac_write.specs.Listing.{joined}
+use Rattle.vac_write.specs.Listing.{joined_path}
 use Rattle.vac_write.specs.Puts.{PutsBlocks, GivesUpBlocks, IsOfStore}
 use Rattle.vac_write.specs.Walking.{all_blocks, archived_from, top_of, root_blocks, unfit_at, ArchivesItems, GivesUpItems}
 use Rattle.vac_write.proofs.Parts.{of_store_as}
@@ -96,7 +96,7 @@ reads_back score_of map bsize items len once may has =
 module _ {S : Type 0} (does : S → Call → S → Type 0) (holds : S → Maps → Type 0)
     (score_of : List ℕ → List ℕ) (tells : Bool) (held : Items Facts)
     (law : (s s' : S) (call : Call) (m : Maps) → does s call s' → holds s m
-    → Tells score_of m.held call × holds s' (after score_of call m)) where
+    → TellsOfMap score_of m.held call × holds s' (after score_of call m)) where
   -- of an archive's blocks the first were put
   blocks_given_up : (s s' : S) (bsize : ℕ) (seen : Items Facts) (err : VacErr)
       → IsSeen tells held seen → IsGivenUpAs err (first_unfit seen)
@@ -109,8 +109,8 @@ module _ {S : Type 0} (does : S → Call → S → Type 0) (holds : S → Maps �
     calls = gave.calls;
     made = gave.made;
     refused = gave.refused;
-    rest = map write_of gave.rest ++ sync_all ∷ [];
-    asked = sym (append_assoc (map asked_of gave.calls) (map write_of gave.rest) (sync_all ∷ []))
+    rest = map write_of_block gave.rest ++ sync_all ∷ [];
+    asked = sym (append_assoc (map asked_of gave.calls) (map write_of_block gave.rest) (sync_all ∷ []))
         ∙ ap (λ (l : List Operation). l ++ sync_all ∷ []) gave.puts;
     keeps = λ m holds_them. (told does holds score_of law s s' gave.calls m gave.made
         holds_them).1;
@@ -145,12 +145,12 @@ module _ {S : Type 0} (does : S → Call → S → Type 0) (holds : S → Maps �
     fit = ap (λ (p : List (List ℕ)). unfit_at p a.seen) (sym no_path) ∙ a.fit
 
     top_is : top_of e ≡ top_bytes score_of bsize (archived a.seen)
-    top_is = λ i. entry_bytes (entries_are i) ++ entry_bytes (metadata_is i)
+    top_is = λ i. tree_entry_bytes (entries_are i) ++ tree_entry_bytes (metadata_is i)
       where
         entries_are : e.entries ≡ directory_entry score_of bsize
-            (entries_of score_of bsize (archived a.seen))
+            (item_entries score_of bsize (archived a.seen))
         entries_are = a.entries ∙ (λ i. directory_entry score_of (size i)
-            (entries_of score_of (size i) (archived_from (first i) a.seen)))
+            (item_entries score_of (size i) (archived_from (first i) a.seen)))
 
         metadata_is : e.metadata ≡ metadata_entry score_of bsize (archived a.seen)
         metadata_is = a.metadata
@@ -170,7 +170,7 @@ module _ {S : Type 0} (does : S → Call → S → Type 0) (holds : S → Maps �
           (root_blocks score_of bsize (top_of e)) a.put put)
 
       asked_first : map asked_of all_put.calls
-          ≡ map write_of (archive_of score_of bsize a.seen).blocks
+          ≡ map write_of_block (archive_of score_of bsize a.seen).blocks
       asked_first = all_put.puts
 
       made_all : (call : Call) → does top call end → Makes does s (all_put.calls ++ call ∷ []) end
@@ -255,7 +255,7 @@ module _ {S : Type 0} (does : S → Call → S → Type 0) (holds : S → Maps �
           score = scored
               ∙ ap (λ (t : List ℕ). score_of (root_bytes (root_of score_of bsize t))) top_is;
           left_out = noted ∙ a.left_out
-              ∙ (λ i. none_skipped i ++ left_out (joined (no_path i)) (in_order a.seen));
+              ∙ (λ i. none_skipped i ++ left_out (joined_path (no_path i)) (in_order a.seen));
           calls = all_put.calls ++ sync (Ok tt) ∷ [];
           made = made_all (sync (Ok tt)) done;
           accepted = accepted_join all_put.calls (sync (Ok tt) ∷ []) all_put.accepted refl;

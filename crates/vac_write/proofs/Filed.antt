@@ -1,24 +1,24 @@
 -- A file that was written as a stream, and bytes in memory.
 use Rattle.std.proofs.Common.{◌≡◌, ℕ, ◌≤◌, ◌^◌, Bool, true, false, List, ◌++◌, length, drop, refl, sym, ◌∙◌, ap, subst, arith, append-nil}
-use Rattle.vt_folder.specs.declared.item.Facts.{Facts}
-use Rattle.vt_folder.specs.Items.{Items}
+use Rattle.vt_out.specs.declared.folder_item.Facts.{Facts}
+use Rattle.vt_out.specs.FolderItems.{Items}
 use Rattle.vt_tree.specs.declared.entry.Entry.{Entry}
-use Rattle.vt_tree.specs.declared.err.TreeErr.{TreeErr}
-use Rattle.vt_tree.specs.declared.err.TreeErr.TheVariants as trees
+use Rattle.vt_tree.specs.declared.error.TreeErr.{TreeErr}
+use Rattle.vt_tree.specs.declared.error.TreeErr.TheVariants as trees
 use Rattle.vt_tree.specs.Calls.{Call}
 use Rattle.vt_tree.specs.Making.{EndsBy}
 use Rattle.vt_tree.specs.Maps.{Maps}
 use Rattle.vt_tree.specs.Reading.{refusal_in}
-use Rattle.vt_tree.specs.Streams.{Shape, stream_of, entry_of}
+use Rattle.vt_tree.specs.Streams.{Shape, stream_of, entry_of_stream}
 use Rattle.vt_tree.specs.Writing.{IsTakenWhole, IsAll, IsGivenUpFor, WritesStream, GivesUpStream, is_source_fault}
 use Rattle.vac_write.specs.Archiving.{of_stream, refusal_of, is_folder_fault}
 use Rattle.vac_write.specs.Files.{IsWholeFile, IsStreamGivenUpFor, GivesUpTree}
 use Rattle.vac_write.specs.Puts.{PutsBlocks, GivesUpBlocks, IsOfStore}
-use Rattle.vac_write.specs.Sources.{or_none, file_of}
+use Rattle.vac_write.specs.Sources.{or_none, bytes_at_path}
 
 -- what was taken whole of a file is the file
 pub whole_file : (tells : Bool) (held : Items Facts) (path : List (List ℕ)) (new bytes : List ℕ)
-    → IsTakenWhole tells (drop 0 (file_of path held)) new bytes
+    → IsTakenWhole tells (drop 0 (bytes_at_path path held)) new bytes
     → IsWholeFile tells held path bytes
 whole_file tells held path new bytes taken = record {
   are = taken.front.bytes;
@@ -28,7 +28,7 @@ whole_file tells held path new bytes taken = record {
 }
 
 pub all_file : (tells : Bool) (held : Items Facts) (path : List (List ℕ)) (bytes : List ℕ)
-    → IsAll tells (drop 0 (file_of path held)) bytes → IsWholeFile tells held path bytes
+    → IsAll tells (drop 0 (bytes_at_path path held)) bytes → IsWholeFile tells held path bytes
 all_file tells held path bytes all = record {
   are = all.bytes;
   is = λ telling whole there.
@@ -98,7 +98,7 @@ module _ {S : Type 0} (does : S → Call → S → Type 0) (holds : S → Maps �
     -- a file that was written
     pub file_written : (new : List ℕ) (e : Entry)
         → WritesStream does holds score_of s s' shape
-        (IsTakenWhole tells (drop 0 (file_of path held)) new) e
+        (IsTakenWhole tells (drop 0 (bytes_at_path path held)) new) e
         → WritesStream does holds score_of s s' shape (IsWholeFile tells held path) e
     file_written new e wrote = record {
       bytes = wrote.bytes;
@@ -115,27 +115,27 @@ module _ {S : Type 0} (does : S → Call → S → Type 0) (holds : S → Maps �
     -- a file that was given up
     pub file_given_up : (err : TreeErr)
         → GivesUpStream does holds score_of s s' shape
-        (IsAll tells (drop 0 (file_of path held))) err
+        (IsAll tells (drop 0 (bytes_at_path path held))) err
         → GivesUpTree does score_of s s' shape (IsWholeFile tells held path) (of_stream err)
     file_given_up err gave = record {
       bytes = gave.bytes;
       is = all_file tells held path gave.bytes gave.is;
       cause = cause_of err (length gave.bytes) gave.cause;
-      given_up = gave_up_blocks (IsAll tells (drop 0 (file_of path held))) err gave;
+      given_up = gave_up_blocks (IsAll tells (drop 0 (bytes_at_path path held))) err gave;
     }
 
   -- bytes in memory that were written, or given up
   pub bytes_written : (bytes new : List ℕ) (e : Entry)
       → WritesStream does holds score_of s s' shape (IsTakenWhole true (drop 0 bytes) new) e
       → PutsBlocks does s s' (stream_of score_of shape bytes).blocks
-      × (e ≡ entry_of score_of shape bytes)
+      × (e ≡ entry_of_stream score_of shape bytes)
   bytes_written bytes new e w =
       let is : w.bytes ≡ bytes =
       sym (w.is_taken.front.front refl
       ∙ ap (λ (l : List ℕ). w.bytes ++ l) (w.is_taken.end refl) ∙ append-nil w.bytes) in (
         subst (λ (l : List ℕ). PutsBlocks does s s' (stream_of score_of shape l).blocks) is
             (wrote_blocks (IsTakenWhole true (drop 0 bytes) new) e w),
-        w.entry_is ∙ ap (λ (l : List ℕ). entry_of score_of shape l) is,
+        w.entry_is ∙ ap (λ (l : List ℕ). entry_of_stream score_of shape l) is,
       )
 
   pub bytes_given_up : (bytes : List ℕ) (err : TreeErr) → length bytes ≤ 2 ^ 40

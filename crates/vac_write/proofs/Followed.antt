@@ -2,17 +2,17 @@
 use Rattle.std.proofs.Common.{◌≡◌, ℕ, ◌+◌, Bool, true, false, cond, Option, Some, None, List, ◌∷◌, ◌++◌, length, refl, sym, ◌∙◌, ap, arith, append_assoc}
 use Rattle.std.specs.Prelude.{nat_lt, nat_le}
 use Rattle.std.specs.Option.{option_or}
-use Rattle.vt_folder.specs.declared.item.Facts.{Facts}
-use Rattle.vt_folder.specs.declared.item.Item.{Item}
-use Rattle.vt_folder.specs.declared.item.ItemKind.TheVariants as kinds
-use Rattle.vt_folder.specs.Items.{Items, none, file, folder, other, item_of, listing_of}
+use Rattle.vt_out.specs.declared.folder_item.Facts.{Facts}
+use Rattle.vt_out.specs.declared.folder_item.Item.{Item}
+use Rattle.vt_out.specs.declared.folder_item.ItemKind.TheVariants as kinds
+use Rattle.vt_out.specs.FolderItems.{Items, none, file, folder, other, listed_item, listing_of}
 use Rattle.vt_model.specs.History.{Block}
 use Rattle.vt_tree.specs.declared.entry.Entry.{Entry}
-use Rattle.vt_tree.specs.Streams.{stream_of, entry_of}
+use Rattle.vt_tree.specs.Streams.{stream_of, entry_of_stream}
 use Rattle.vac_meta.specs.declared.record.Record.{Record}
 use Rattle.vac_meta.specs.declared.record.RecordKind.TheVariants.{File, Folder}
 use Rattle.vac_model.specs.declared.TheConstants.{MAX_FILE, MAX_NESTING}
-use Rattle.vac_model.specs.Archives.{file_shape, record_of, records_of, entries_of, directory_entry, metadata_entry, blocks_of, folder_blocks}
+use Rattle.vac_model.specs.Archives.{file_shape, item_record, records_of, item_entries, directory_entry, metadata_entry, blocks_of, folder_blocks}
 use Rattle.vac_model.specs.Kept.{Numbered, kept, cut_mode, count, numbered, path_to, left_out}
 use Rattle.vac_model.specs.Limits.{Unfit, too_long, too_deep, unfit_listing, unfit_inside, HaveTimes}
 
@@ -40,11 +40,11 @@ pub listing_followed : (a b : Items Facts)
     → listing_of (followed a b) ≡ listing_of a ++ listing_of b
 listing_followed none b = refl
 listing_followed (file about bytes others) b =
-    ap (λ (l : List Item). item_of about kinds.File ∷ l) (listing_followed others b)
+    ap (λ (l : List Item). listed_item about kinds.File ∷ l) (listing_followed others b)
 listing_followed (folder about inside others) b =
-    ap (λ (l : List Item). item_of about kinds.Folder ∷ l) (listing_followed others b)
+    ap (λ (l : List Item). listed_item about kinds.Folder ∷ l) (listing_followed others b)
 listing_followed (other about others) b =
-    ap (λ (l : List Item). item_of about kinds.Other ∷ l) (listing_followed others b)
+    ap (λ (l : List Item). listed_item about kinds.Other ∷ l) (listing_followed others b)
 
 -- ---- what is kept, and its numbers
 
@@ -97,27 +97,27 @@ archived_followed n a b =
 
 module _ (score_of : List ℕ → List ℕ) (bsize : ℕ) where
   pub entries_followed : (a b : Items Numbered)
-      → entries_of score_of bsize (followed a b)
-      ≡ entries_of score_of bsize a ++ entries_of score_of bsize b
+      → item_entries score_of bsize (followed a b)
+      ≡ item_entries score_of bsize a ++ item_entries score_of bsize b
   entries_followed none b = refl
   entries_followed (file about bytes others) b =
-      ap (λ (l : List Entry). entry_of score_of (file_shape bsize) bytes ∷ l)
+      ap (λ (l : List Entry). entry_of_stream score_of (file_shape bsize) bytes ∷ l)
       (entries_followed others b)
   entries_followed (folder about inside others) b =
-      ap (λ (l : List Entry). directory_entry score_of bsize (entries_of score_of bsize inside)
+      ap (λ (l : List Entry). directory_entry score_of bsize (item_entries score_of bsize inside)
       ∷ (metadata_entry score_of bsize inside ∷ l)) (entries_followed others b)
   entries_followed (other about others) b = entries_followed others b
 
   pub records_followed : (n : ℕ) (a b : Items Numbered)
       → records_of n (followed a b)
-      ≡ records_of n a ++ records_of (n + length (entries_of score_of bsize a)) b
+      ≡ records_of n a ++ records_of (n + length (item_entries score_of bsize a)) b
   records_followed n none b = ap (λ (k : ℕ). records_of k b) (omega arith)
   records_followed n (file about bytes others) b =
-      ap (λ (l : List Record). record_of about File n ∷ l)
+      ap (λ (l : List Record). item_record about File n ∷ l)
       (records_followed (n + 1) others b
       ∙ ap (λ (k : ℕ). records_of (n + 1) others ++ records_of k b) (omega arith))
   records_followed n (folder about inside others) b =
-      ap (λ (l : List Record). record_of about Folder n ∷ l)
+      ap (λ (l : List Record). item_record about Folder n ∷ l)
       (records_followed (n + 2) others b
       ∙ ap (λ (k : ℕ). records_of (n + 2) others ++ records_of k b) (omega arith))
   records_followed n (other about others) b = records_followed n others b

@@ -8,17 +8,17 @@ use Rattle.std.proofs.lemmas.Bool.{cases_Bool}
 use Rattle.std.proofs.lemmas.Cmp.{nat_list_cmp_total}
 use Rattle.std.proofs.lemmas.List.Sorted.{ranks_by}
 use Rattle.std.proofs.lemmas.List.Sums.{sum_by-cons}
-use Rattle.vt_folder.specs.declared.item.Facts.{Facts}
-use Rattle.vt_folder.specs.declared.item.Item.{Item}
-use Rattle.vt_folder.specs.declared.item.ItemKind.TheVariants as kinds
-use Rattle.vt_folder.specs.Items.{Items, none, file, folder, other, item_of, listing_of}
+use Rattle.vt_out.specs.declared.folder_item.Facts.{Facts}
+use Rattle.vt_out.specs.declared.folder_item.Item.{Item}
+use Rattle.vt_out.specs.declared.folder_item.ItemKind.TheVariants as kinds
+use Rattle.vt_out.specs.FolderItems.{Items, none, file, folder, other, listed_item, listing_of}
 use Rattle.vac_meta.specs.declared.TheConstants.{MAX_NAME}
 use Rattle.vac_meta.specs.declared.record.Record.{Record}
 use Rattle.vac_meta.specs.declared.record.RecordKind.TheVariants.{File, Folder}
-use Rattle.vac_meta.specs.Records.{all_spelled, spelled, string, numbers}
-use Rattle.vac_model.specs.Archives.{record_of, records_of}
+use Rattle.vac_meta.specs.Records.{all_spelled, record_bytes, string, number_fields}
+use Rattle.vac_model.specs.Archives.{item_record, records_of}
 use Rattle.vac_model.specs.Kept.{placed, in_order, kept, cut_mode, numbered, count}
-use Rattle.vac_model.specs.Limits.{is_bad_behind, first_bad, unfit_name, unfit_listing}
+use Rattle.vac_model.specs.Limits.{is_bad_behind, first_bad_item, unfit_name, unfit_listing}
 use Rattle.vac_model.proofs.InOrder.{NotBefore, AreOrdered, are_ordered}
 use Rattle.vac_write.specs.Listing.{has_bad_owner, record_len, metadata_len}
 use Rattle.vac_write.proofs.Sorting.{filter-kept, filter-dropped, NoneBelow, Rises, rises_sorted, no_third, same_sorted}
@@ -60,7 +60,7 @@ placed_ties x item put none puts = ap (filter (ties below x)) (puts none)
 placed_ties x item put (file about bytes others) puts =
     elim (cases_Bool (is_lt (slice_cmp nat_cmp about.name item.name))) [
       | inl less ↦
-          rw less (past x item (item_of about kinds.File)
+          rw less (past x item (listed_item about kinds.File)
           (listing_of (placed item.name put others)) (listing_of others) less
           (placed_ties x item put others puts))
       | inr not ↦ rw not (ap (filter (ties below x)) (puts (file about bytes others)))
@@ -68,7 +68,7 @@ placed_ties x item put (file about bytes others) puts =
 placed_ties x item put (folder about inside others) puts =
     elim (cases_Bool (is_lt (slice_cmp nat_cmp about.name item.name))) [
       | inl less ↦
-          rw less (past x item (item_of about kinds.Folder)
+          rw less (past x item (listed_item about kinds.Folder)
           (listing_of (placed item.name put others)) (listing_of others) less
           (placed_ties x item put others puts))
       | inr not ↦ rw not (ap (filter (ties below x)) (puts (folder about inside others)))
@@ -76,7 +76,7 @@ placed_ties x item put (folder about inside others) puts =
 placed_ties x item put (other about others) puts =
     elim (cases_Bool (is_lt (slice_cmp nat_cmp about.name item.name))) [
       | inl less ↦
-          rw less (past x item (item_of about kinds.Other)
+          rw less (past x item (listed_item about kinds.Other)
           (listing_of (placed item.name put others)) (listing_of others) less
           (placed_ties x item put others puts))
       | inr not ↦ rw not (ap (filter (ties below x)) (puts (other about others)))
@@ -90,17 +90,17 @@ pub ordered_ties : (x : Item) (seen : Items Facts)
     → filter (ties below x) (listing_of (in_order seen)) ≡ filter (ties below x) (listing_of seen)
 ordered_ties x none = refl
 ordered_ties x (file about bytes others) =
-    placed_ties x (item_of about kinds.File) (file about bytes) (in_order others) (λ rest. refl)
-    ∙ more (ties below x) (item_of about kinds.File) (listing_of (in_order others))
+    placed_ties x (listed_item about kinds.File) (file about bytes) (in_order others) (λ rest. refl)
+    ∙ more (ties below x) (listed_item about kinds.File) (listing_of (in_order others))
     (listing_of others) (ordered_ties x others)
 ordered_ties x (folder about inside others) =
-    placed_ties x (item_of about kinds.Folder) (folder about (in_order inside)) (in_order others)
+    placed_ties x (listed_item about kinds.Folder) (folder about (in_order inside)) (in_order others)
     (λ rest. refl)
-    ∙ more (ties below x) (item_of about kinds.Folder) (listing_of (in_order others))
+    ∙ more (ties below x) (listed_item about kinds.Folder) (listing_of (in_order others))
     (listing_of others) (ordered_ties x others)
 ordered_ties x (other about others) =
-    placed_ties x (item_of about kinds.Other) (other about) (in_order others) (λ rest. refl)
-    ∙ more (ties below x) (item_of about kinds.Other) (listing_of (in_order others))
+    placed_ties x (listed_item about kinds.Other) (other about) (in_order others) (λ rest. refl)
+    ∙ more (ties below x) (listed_item about kinds.Other) (listing_of (in_order others))
     (listing_of others) (ordered_ties x others)
 
 -- no name is below this one, if there is one
@@ -144,13 +144,13 @@ rises_behind : (last : Option (List ℕ)) (seen : Items Facts) → AreOrdered la
     → Rises below below_orders (listing_of seen) × NoneBehind last (listing_of seen)
 rises_behind last none ordered = (tt, none_behind last)
 rises_behind last (file about bytes others) ordered =
-    further last (item_of about kinds.File) (listing_of others) ordered.0
+    further last (listed_item about kinds.File) (listing_of others) ordered.0
     (rises_behind (Some about.name) others ordered.1)
 rises_behind last (folder about inside others) ordered =
-    further last (item_of about kinds.Folder) (listing_of others) ordered.0
+    further last (listed_item about kinds.Folder) (listing_of others) ordered.0
     (rises_behind (Some about.name) others ordered.2)
 rises_behind last (other about others) ordered =
-    further last (item_of about kinds.Other) (listing_of others) ordered.0
+    further last (listed_item about kinds.Other) (listing_of others) ordered.0
     (rises_behind (Some about.name) others ordered.1)
 
 pub rises_in_order : (seen : Items Facts) → Rises below below_orders (listing_of (in_order seen))
@@ -187,7 +187,7 @@ any_false true = refl
 any_false false = refl
 
 pub bad_listed : (last : Option (List ℕ)) (seen : Items Facts)
-    → first_bad last seen ≡ first_bad_in last (listing_of seen)
+    → first_bad_item last seen ≡ first_bad_in last (listing_of seen)
 bad_listed last none = refl
 bad_listed last (file about bytes others) =
     λ i. cond (any_assoc (is_bad_behind last about.name) (nat_lt MAX_NAME (length about.uid))
@@ -202,11 +202,11 @@ bad_listed last (other about others) =
     (bad_listed (Some about.name) others i)
 
 pub spelled_len : (r : Record)
-    → length (spelled r) ≡ 27 + length r.name + length r.uid + length r.gid
+    → length (record_bytes r) ≡ 27 + length r.name + length r.uid + length r.gid
 spelled_len r =
     omega (
       arith,
-      length-append r.name (numbers r ++ (string r.uid ++ string r.gid)),
+      length-append r.name (number_fields r ++ (string r.uid ++ string r.gid)),
       length-append r.uid (string r.gid),
     )
 
@@ -215,37 +215,37 @@ pub len_listed : (n i : ℕ) (seen : Items Facts)
     ≡ sum_by record_len (listing_of seen)
 len_listed n i none = refl
 len_listed n i (file about bytes others) =
-    let r = record_of (record { facts = cut_mode about; qid = n }) File i in
+    let r = item_record (record { facts = cut_mode about; qid = n }) File i in
     omega (
       arith,
       spelled_len r,
-      length-append (spelled r)
+      length-append (record_bytes r)
           (all_spelled (records_of (i + 1) (numbered (n + 1) (kept others)))),
       len_listed (n + 1) (i + 1) others,
-      sum_by-cons record_len (item_of about kinds.File) (listing_of others),
+      sum_by-cons record_len (listed_item about kinds.File) (listing_of others),
     )
 len_listed n i (folder about inside others) =
-    let r = record_of (record { facts = cut_mode about; qid = n }) Folder i in
+    let r = item_record (record { facts = cut_mode about; qid = n }) Folder i in
     let m : ℕ = n + 1 + count (kept inside) in
     omega (
       arith,
       spelled_len r,
-      length-append (spelled r) (all_spelled (records_of (i + 2) (numbered m (kept others)))),
+      length-append (record_bytes r) (all_spelled (records_of (i + 2) (numbered m (kept others)))),
       len_listed m (i + 2) others,
-      sum_by-cons record_len (item_of about kinds.Folder) (listing_of others),
+      sum_by-cons record_len (listed_item about kinds.Folder) (listing_of others),
     )
 len_listed n i (other about others) =
     omega (
       arith,
       len_listed n i others,
-      sum_by-cons record_len (item_of about kinds.Other) (listing_of others),
+      sum_by-cons record_len (listed_item about kinds.Other) (listing_of others),
     )
 
 -- what makes a listing unfit depends on what is listed alone
 pub same_listing : (path : List ℕ) (a b : Items Facts) → listing_of a ≡ listing_of b
     → unfit_listing path a ≡ unfit_listing path b
 same_listing path a b same =
-    let bad : first_bad None a ≡ first_bad None b =
+    let bad : first_bad_item None a ≡ first_bad_item None b =
     bad_listed None a ∙ ap (first_bad_in None) same ∙ sym (bad_listed None b) in
     let len : metadata_len a ≡ metadata_len b =
     len_listed 1 0 a ∙ ap (sum_by record_len) same ∙ sym (len_listed 1 0 b) in

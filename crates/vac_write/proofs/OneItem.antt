@@ -4,16 +4,16 @@ use Rattle.std.specs.Prelude.{nat_lt, nat_le, bit_and}
 use Rattle.std.specs.Option.{option_or}
 use Rattle.std.proofs.lemmas.Bool.{le-leb, le-ltb, lt-leb, lt-ltb}
 use Rattle.std.proofs.lemmas.List.{take_at}
-use Rattle.vt_folder.specs.declared.item.Facts.{Facts}
-use Rattle.vt_folder.specs.declared.item.Item.{Item}
-use Rattle.vt_folder.specs.declared.item.ItemKind.{ItemKind}
-use Rattle.vt_folder.specs.declared.item.ItemKind.TheVariants as kinds
-use Rattle.vt_folder.specs.Items.{Items, none, file, folder, other, item_of, listing_of, HaveBytes}
+use Rattle.vt_out.specs.declared.folder_item.Facts.{Facts}
+use Rattle.vt_out.specs.declared.folder_item.Item.{Item}
+use Rattle.vt_out.specs.declared.folder_item.ItemKind.{ItemKind}
+use Rattle.vt_out.specs.declared.folder_item.ItemKind.TheVariants as kinds
+use Rattle.vt_out.specs.FolderItems.{Items, none, file, folder, other, listed_item, listing_of, HaveBytes}
 use Rattle.vt_model.specs.History.{Block}
 use Rattle.vt_tree.specs.declared.entry.Entry.{Entry}
-use Rattle.vt_tree.specs.declared.err.TreeErr.TheVariants as trees
+use Rattle.vt_tree.specs.declared.error.TreeErr.TheVariants as trees
 use Rattle.vt_tree.specs.Calls.{Call}
-use Rattle.vt_tree.specs.Entries.{IsEntry, spelled as entry_bytes}
+use Rattle.vt_tree.specs.Entries.{IsTreeEntry, tree_entry_bytes}
 use Rattle.vt_tree.specs.Making.{EndsBy}
 use Rattle.vt_tree.specs.Maps.{Maps}
 use Rattle.vt_tree.specs.Streams.{stream_of}
@@ -21,23 +21,23 @@ use Rattle.vt_tree.specs.Writing.{WritesStream}
 use Rattle.vac_meta.specs.declared.record.Record.{Record}
 use Rattle.vac_meta.specs.declared.record.RecordKind.{RecordKind}
 use Rattle.vac_meta.specs.declared.record.RecordKind.TheVariants as records
-use Rattle.vac_meta.specs.Records.{spelled as record_bytes}
+use Rattle.vac_meta.specs.Records.{record_bytes}
 use Rattle.vac_model.specs.declared.TheConstants.{MAX_FILE, MAX_NESTING}
-use Rattle.vac_model.specs.Archives.{file_shape, blocks_of, entries_of, directory_entry, metadata_entry}
+use Rattle.vac_model.specs.Archives.{file_shape, blocks_of, item_entries, directory_entry, metadata_entry}
 use Rattle.vac_model.specs.Kept.{in_order, kept, numbered, count, path_to, left_out}
 use Rattle.vac_model.specs.Limits.{Unfit, too_long, too_deep, unfit_listing, unfit_inside}
 use Rattle.vac_model.proofs.Stands.{entry_len}
 use Rattle.vac_write.specs.declared.archiving.Walk.{Walk}
-use Rattle.vac_write.specs.declared.err.VacErr.{VacErr}
-use Rattle.vac_write.specs.declared.err.VacErr.TheVariants.{FolderFault, Tree, BadName, TooDeep, NoMemory}
+use Rattle.vac_write.specs.declared.error.VacErr.{VacErr}
+use Rattle.vac_write.specs.declared.error.VacErr.TheVariants.{FolderFault, Tree, BadName, TooDeep, NoMemory}
 use Rattle.vac_write.specs.declared.streams.FolderEntries.{FolderEntries}
 use Rattle.vac_write.specs.declared.streams.Streams.{Streams}
 use Rattle.vac_write.specs.Archiving.{IsGivenUpAs, refusal_of}
 use Rattle.vac_write.specs.Files.{IsWholeFile, IsStreamGivenUpFor, GivesUpTree}
-use Rattle.vac_write.specs.Listing.{IsSeenAt, joined, joined_behind}
+use Rattle.vac_write.specs.Listing.{IsSeenAt, joined_path, joined_behind}
 use Rattle.vac_write.specs.Puts.{PutsBlocks, GivesUpBlocks}
-use Rattle.vac_write.specs.Sources.{file_of, file_is, or_none}
-use Rattle.vac_write.specs.Walking.{unfit_at, archived_from, all_blocks, IsWholeFolder, AreItems, ArchivesItem, GivesUpItem, ArchivesItems, GivesUpItems}
+use Rattle.vac_write.specs.Sources.{bytes_at_path, file_is, or_none}
+use Rattle.vac_write.specs.Walking.{unfit_at, archived_from, all_blocks, IsWholeFolder, AreItemsAt, ArchivesItem, GivesUpItem, ArchivesItems, GivesUpItems}
 use Rattle.vac_write.proofs.Filed.{wrote_blocks}
 use Rattle.vac_write.proofs.Puts.{puts_none, gives_none, gives_front}
 use Rattle.vac_write.proofs.Wholes.{facts_of}
@@ -62,7 +62,7 @@ popped whole path name n left is len taken =
 
 -- an item by what is known of it and its kind
 listed_as : (item : Item) (k : ItemKind) → item.kind ≡ k
-    → item_of (facts_of item) k ∷ [] ≡ item ∷ []
+    → listed_item (facts_of item) k ∷ [] ≡ item ∷ []
 listed_as item k is = λ i. (record item { kind = sym is i }) ∷ []
 
 not_long : (n : ℕ) → n ≤ 2 ^ 40 → nat_lt MAX_FILE n ≡ false
@@ -100,7 +100,7 @@ module _ {S : Type 0} (does : S → Call → S → Type 0) (score_of : List ℕ 
       → item.kind ≡ kinds.Other
       → new.qid ≡ old.qid → new.path.items ≡ old.path.items → new.bsize ≡ old.bsize
       → new.skipped.items
-      ≡ old.skipped.items ++ path_to (joined old.path.items) item.name ∷ []
+      ≡ old.skipped.items ++ path_to (joined_path old.path.items) item.name ∷ []
       → ArchivesItem does score_of s s tells held old new streams streams item
   other_archived s old new streams item kind qid path bsize skipped = record {
     part = other (facts_of item) none;
@@ -128,9 +128,9 @@ module _ {S : Type 0} (does : S → Call → S → Type 0) (score_of : List ℕ 
   -- an item of any kind, of which nothing is known but what is told
   any_item : HaveBytes held → (path : List (List ℕ)) (item : Item) (k : ItemKind)
       → item.kind ≡ k
-      → (part : Items Facts) × (listing_of part ≡ item ∷ []) × AreItems tells held path part
+      → (part : Items Facts) × (listing_of part ≡ item ∷ []) × AreItemsAt tells held path part
   any_item have path item kinds.File kind = (
-    file (facts_of item) (file_of (path ++ item.name ∷ []) held) none,
+    file (facts_of item) (bytes_at_path (path ++ item.name ∷ []) held) none,
     listed_as item kinds.File kind,
     (
       record {
@@ -166,7 +166,7 @@ module _ {S : Type 0} (does : S → Call → S → Type 0) (score_of : List ℕ 
         lists = one.1;
         are = one.2;
         part_is = record {
-          cause = free (unfit_inside (length old.path.items) (joined old.path.items) one.0);
+          cause = free (unfit_inside (length old.path.items) (joined_path old.path.items) one.0);
           given_up = gives_none does s
               (blocks_of score_of old.bsize (numbered old.qid (kept one.0))) err own;
         };
@@ -187,7 +187,7 @@ module _ {S : Type 0} (does : S → Call → S → Type 0) (score_of : List ℕ 
       lists = listed_as item kinds.File kind;
       are = (w.is_taken, tt);
       part_is = record {
-        cause = free (unfit_inside (length old.path.items) (joined old.path.items)
+        cause = free (unfit_inside (length old.path.items) (joined_path old.path.items)
             (file (facts_of item) w.bytes none));
         given_up = gives_front does s s'
             (stream_of score_of (file_shape old.bsize) w.bytes).blocks [] err
@@ -229,10 +229,10 @@ module _ {S : Type 0} (does : S → Call → S → Type 0) (score_of : List ℕ 
     pub file_archived : (new : Walk) (from to : Streams) (e : Entry)
         → WritesStream does holds score_of s s' (file_shape old.bsize)
         (IsWholeFile tells held (old.path.items ++ item.name ∷ [])) e
-        → IsEntry e → item.mtime < 2 ^ 32
+        → IsTreeEntry e → item.mtime < 2 ^ 32
         → new.qid ≡ old.qid + 1 → new.path.items ≡ old.path.items → new.bsize ≡ old.bsize
         → new.skipped.items ≡ old.skipped.items
-        → to.entries.items ≡ from.entries.items ++ entry_bytes e
+        → to.entries.items ≡ from.entries.items ++ tree_entry_bytes e
         → to.metadata.items ≡ from.metadata.items ++ record_bytes
         (record_for item records.File (length from.entries.items / 40) old.qid)
         → ArchivesItem does score_of s s' tells held old new from to item
@@ -246,12 +246,12 @@ module _ {S : Type 0} (does : S → Call → S → Type 0) (score_of : List ℕ 
         entries =
             entries
             ∙ ap (λ (l : List ℕ). from.entries.items ++ l)
-            (sym (append-nil (entry_bytes e))
-            ∙ ap (λ (x : Entry). entry_bytes x ++ []) w.entry_is);
+            (sym (append-nil (tree_entry_bytes e))
+            ∙ ap (λ (x : Entry). tree_entry_bytes x ++ []) w.entry_is);
         places = omega (
           arith,
           ap length entries,
-          length-append from.entries.items (entry_bytes e),
+          length-append from.entries.items (tree_entry_bytes e),
           entry_len e allowed,
         );
         metadata =
@@ -275,8 +275,8 @@ module _ {S : Type 0} (does : S → Call → S → Type 0) (score_of : List ℕ 
       (shallow : length old.path.items < MAX_NESTING)
       (deeper : half.path.items ≡ old.path.items ++ item.name ∷ [])
       (bsize_is : half.bsize ≡ old.bsize) (qid_is : half.qid ≡ old.qid + 1) where
-    path_is : joined half.path.items ≡ path_to (joined old.path.items) item.name
-    path_is = ap joined deeper ∙ joined_one [] old.path.items item.name
+    path_is : joined_path half.path.items ≡ path_to (joined_path old.path.items) item.name
+    path_is = ap joined_path deeper ∙ joined_one [] old.path.items item.name
 
     depth_is : length half.path.items ≡ length old.path.items + 1
     depth_is = ap length deeper ∙ one_longer old.path.items item.name
@@ -284,17 +284,17 @@ module _ {S : Type 0} (does : S → Call → S → Type 0) (score_of : List ℕ 
     -- what makes the folder unfit is what makes its items unfit
     unfit_folder : (seen : Items Facts)
         → unfit_at half.path.items seen
-        ≡ option_or (unfit_listing (path_to (joined old.path.items) item.name) (in_order seen))
+        ≡ option_or (unfit_listing (path_to (joined_path old.path.items) item.name) (in_order seen))
         (unfit_inside (length old.path.items + 1)
-        (path_to (joined old.path.items) item.name) (in_order seen))
+        (path_to (joined_path old.path.items) item.name) (in_order seen))
     unfit_folder seen = λ i. option_or (unfit_listing (path_is i) (in_order seen))
         (unfit_inside (depth_is i) (path_is i) (in_order seen))
 
     is_here : (o : Option Unfit) → option_or (cond (nat_le MAX_NESTING (length old.path.items))
-        (Some (too_deep (path_to (joined old.path.items) item.name))) o) None ≡ o
+        (Some (too_deep (path_to (joined_path old.path.items) item.name))) o) None ≡ o
     is_here o =
         ap (λ (t : Bool). option_or (cond t
-        (Some (too_deep (path_to (joined old.path.items) item.name))) o) None)
+        (Some (too_deep (path_to (joined_path old.path.items) item.name))) o) None)
         (lt-leb MAX_NESTING (length old.path.items) shallow)
         ∙ or_none_behind o
       where
@@ -304,14 +304,14 @@ module _ {S : Type 0} (does : S → Call → S → Type 0) (score_of : List ℕ 
 
     unfit_is : (seen : Items Facts)
         → unfit_at half.path.items seen
-        ≡ unfit_inside (length old.path.items) (joined old.path.items)
+        ≡ unfit_inside (length old.path.items) (joined_path old.path.items)
         (folder (facts_of item) (in_order seen) none)
     unfit_is seen =
         unfit_folder seen
         ∙ sym (is_here (option_or
-        (unfit_listing (path_to (joined old.path.items) item.name) (in_order seen))
+        (unfit_listing (path_to (joined_path old.path.items) item.name) (in_order seen))
         (unfit_inside (length old.path.items + 1)
-        (path_to (joined old.path.items) item.name) (in_order seen))))
+        (path_to (joined_path old.path.items) item.name) (in_order seen))))
 
     -- the blocks of the folder are those of what is in it, and its own
     blocks_are : (seen : Items Facts)
@@ -346,9 +346,9 @@ module _ {S : Type 0} (does : S → Call → S → Type 0) (score_of : List ℕ 
     module _ (inside : Walk) (e : FolderEntries)
         (a : ArchivesItems does score_of s s' tells held half inside e) where
       entries_are : e.entries ≡ directory_entry score_of old.bsize
-          (entries_of score_of old.bsize (archived_from (old.qid + 1) a.seen))
+          (item_entries score_of old.bsize (archived_from (old.qid + 1) a.seen))
       entries_are = a.entries ∙ (λ i. directory_entry score_of (bsize_is i)
-          (entries_of score_of (bsize_is i) (archived_from (qid_is i) a.seen)))
+          (item_entries score_of (bsize_is i) (archived_from (qid_is i) a.seen)))
 
       metadata_is : e.metadata ≡ metadata_entry score_of old.bsize
           (archived_from (old.qid + 1) a.seen)
@@ -363,7 +363,7 @@ module _ {S : Type 0} (does : S → Call → S → Type 0) (score_of : List ℕ 
         lists = listed_as item kinds.Folder kind;
         are = (whole_there a.seen a.is, tt);
         part_is = record {
-          cause = free (unfit_inside (length old.path.items) (joined old.path.items)
+          cause = free (unfit_inside (length old.path.items) (joined_path old.path.items)
               (folder (facts_of item) (in_order a.seen) none));
           given_up = gives_done s s' (blocks_of score_of old.bsize
               (numbered old.qid (kept (folder (facts_of item) (in_order a.seen) none)))) err own
@@ -372,12 +372,12 @@ module _ {S : Type 0} (does : S → Call → S → Type 0) (score_of : List ℕ 
       }
 
       pub folder_archived : (new : Walk) (from to : Streams)
-          → IsEntry e.entries → IsEntry e.metadata → item.mtime < 2 ^ 32
+          → IsTreeEntry e.entries → IsTreeEntry e.metadata → item.mtime < 2 ^ 32
           → new.qid ≡ inside.qid → new.path.items ≡ old.path.items
           → new.bsize ≡ inside.bsize → new.skipped.items ≡ inside.skipped.items
           → half.skipped.items ≡ old.skipped.items
-          → to.entries.items ≡ (from.entries.items ++ entry_bytes e.entries)
-          ++ entry_bytes e.metadata
+          → to.entries.items ≡ (from.entries.items ++ tree_entry_bytes e.entries)
+          ++ tree_entry_bytes e.metadata
           → to.metadata.items ≡ from.metadata.items ++ record_bytes
           (record_for item records.Folder (length from.entries.items / 40) old.qid)
           → ArchivesItem does score_of s s' tells held old new from to item
@@ -391,20 +391,20 @@ module _ {S : Type 0} (does : S → Call → S → Type 0) (score_of : List ℕ 
               times = (time, a.times, tt);
               entries =
                   entries
-                  ∙ append_assoc from.entries.items (entry_bytes e.entries)
-                  (entry_bytes e.metadata)
+                  ∙ append_assoc from.entries.items (tree_entry_bytes e.entries)
+                  (tree_entry_bytes e.metadata)
                   ∙ ap (λ (l : List ℕ). from.entries.items ++ l)
-                  ((λ i. entry_bytes (entries_are i) ++ entry_bytes (metadata_is i))
-                  ∙ ap (λ (l : List ℕ). entry_bytes (directory_entry score_of old.bsize
-                  (entries_of score_of old.bsize (archived_from (old.qid + 1) a.seen))) ++ l)
-                  (sym (append-nil (entry_bytes (metadata_entry score_of old.bsize
+                  ((λ i. tree_entry_bytes (entries_are i) ++ tree_entry_bytes (metadata_is i))
+                  ∙ ap (λ (l : List ℕ). tree_entry_bytes (directory_entry score_of old.bsize
+                  (item_entries score_of old.bsize (archived_from (old.qid + 1) a.seen))) ++ l)
+                  (sym (append-nil (tree_entry_bytes (metadata_entry score_of old.bsize
                   (archived_from (old.qid + 1) a.seen))))));
               places = omega (
                 arith,
                 ap length entries,
-                length-append (from.entries.items ++ entry_bytes e.entries)
-                    (entry_bytes e.metadata),
-                length-append from.entries.items (entry_bytes e.entries),
+                length-append (from.entries.items ++ tree_entry_bytes e.entries)
+                    (tree_entry_bytes e.metadata),
+                length-append from.entries.items (tree_entry_bytes e.entries),
                 entry_len e.entries first,
                 entry_len e.metadata second,
               );
@@ -423,7 +423,7 @@ module _ {S : Type 0} (does : S → Call → S → Type 0) (score_of : List ℕ 
                   skipped ∙ a.left_out
                   ∙ (λ i. before i ++ left_out (path_is i) (in_order a.seen))
                   ∙ ap (λ (l : List (List ℕ)). old.skipped.items ++ l)
-                  (sym (append-nil (left_out (path_to (joined old.path.items) item.name)
+                  (sym (append-nil (left_out (path_to (joined_path old.path.items) item.name)
                   (in_order a.seen))));
               path = path;
               bsize = bsize ∙ a.bsize ∙ bsize_is;
@@ -434,12 +434,12 @@ module _ {S : Type 0} (does : S → Call → S → Type 0) (score_of : List ℕ 
   -- a folder that lies too deep
   pub folder_too_deep : HaveBytes held → (s : S) (old : Walk) (item : Item) (text : List ℕ)
       → item.kind ≡ kinds.Folder → MAX_NESTING ≤ length old.path.items
-      → text ≡ path_to (joined old.path.items) item.name
+      → text ≡ path_to (joined_path old.path.items) item.name
       → GivesUpItem does score_of s s tells held old item (TooDeep text)
   folder_too_deep have s old item text kind deep is =
       let seen = any_seen tells held (old.path.items ++ item.name ∷ []) in
       let part : Items Facts = folder (facts_of item) (in_order seen.0) none in
-      let below : List ℕ = path_to (joined old.path.items) item.name in
+      let below : List ℕ = path_to (joined_path old.path.items) item.name in
       let inside = option_or (unfit_listing below (in_order seen.0))
       (unfit_inside (length old.path.items + 1) below (in_order seen.0)) in
       record {

@@ -2,9 +2,9 @@
 use Rattle.std.proofs.Common.{◌≡◌, Bool, true, false, ℕ, IsTrue, Some, List, sym, subst, refl}
 use Rattle.std.specs.List.Sorted.{IsSortedBy, IsStableBy}
 use Rattle.std.proofs.lemmas.Bool.{false≢true}
-use Rattle.vt_folder.specs.declared.item.Facts.{Facts}
-use Rattle.vt_folder.specs.declared.item.Item.{Item}
-use Rattle.vt_folder.specs.Items.{Items, listing_of, folder_at}
+use Rattle.vt_out.specs.declared.folder_item.Facts.{Facts}
+use Rattle.vt_out.specs.declared.folder_item.Item.{Item}
+use Rattle.vt_out.specs.FolderItems.{Items, listing_of, folder_at}
 use Rattle.vac_model.specs.Kept.{in_order}
 use Rattle.vac_write.proofs.Listed.{below, sorted_listing}
 use Rattle.vac_write.proofs.Wholes.{unread, unread_lists}

@@ -3,22 +3,22 @@ use Rattle.std.proofs.Common.{◌≡◌, ℕ, ◌+◌, ◌*◌, ◌/◌, Option,
 use Rattle.std.specs.List.{flat_map}
 use Rattle.std.specs.Option.{option_or}
 use Rattle.std.proofs.lemmas.List.Concat.{flat_map-append}
-use Rattle.vt_folder.specs.declared.item.Facts.{Facts}
-use Rattle.vt_folder.specs.Items.{Items, none}
+use Rattle.vt_out.specs.declared.folder_item.Facts.{Facts}
+use Rattle.vt_out.specs.FolderItems.{Items, none}
 use Rattle.vt_model.specs.History.{Block}
-use Rattle.vt_tree.specs.declared.err.TreeErr.TheVariants as trees
+use Rattle.vt_tree.specs.declared.error.TreeErr.TheVariants as trees
 use Rattle.vt_tree.specs.Calls.{Call}
-use Rattle.vt_tree.specs.Entries.{spelled as entry_bytes}
-use Rattle.vac_meta.specs.Records.{all_spelled, spelled as record_bytes}
-use Rattle.vac_model.specs.Archives.{records_of, entries_of, blocks_of}
+use Rattle.vt_tree.specs.Entries.{tree_entry_bytes}
+use Rattle.vac_meta.specs.Records.{all_spelled, record_bytes}
+use Rattle.vac_model.specs.Archives.{records_of, item_entries, blocks_of}
 use Rattle.vac_model.specs.Kept.{Numbered, kept, numbered, count, left_out}
 use Rattle.vac_model.specs.Limits.{Unfit, unfit_inside}
 use Rattle.vac_write.specs.declared.archiving.Walk.{Walk}
-use Rattle.vac_write.specs.declared.err.VacErr.{VacErr}
-use Rattle.vac_write.specs.declared.err.VacErr.TheVariants.{FolderFault, Tree, BadName, TooDeep, NoMemory}
+use Rattle.vac_write.specs.declared.error.VacErr.{VacErr}
+use Rattle.vac_write.specs.declared.error.VacErr.TheVariants.{FolderFault, Tree, BadName, TooDeep, NoMemory}
 use Rattle.vac_write.specs.declared.streams.Streams.{Streams}
 use Rattle.vac_write.specs.Archiving.{IsGivenUpAs}
-use Rattle.vac_write.specs.Listing.{joined}
+use Rattle.vac_write.specs.Listing.{joined_path}
 use Rattle.vac_write.specs.Puts.{PutsBlocks, GivesUpBlocks, IsOfStore}
 use Rattle.vac_write.specs.Walking.{ArchivesPart, GivesUpPart}
 use Rattle.vac_write.proofs.Followed.{followed, archived_followed, count_followed, entries_followed, records_followed, blocks_followed, left_followed, unfit_followed, times_followed}
@@ -108,9 +108,9 @@ module _ {S : Type 0} (does : S → Call → S → Type 0) (score_of : List ℕ 
         ≡ blocks_of score_of old.bsize y
     same_blocks = λ i. blocks_of score_of (first.bsize i) (same_items i)
 
-    same_entries : entries_of score_of half.bsize (numbered half.qid (kept b))
-        ≡ entries_of score_of old.bsize y
-    same_entries = λ i. entries_of score_of (first.bsize i) (same_items i)
+    same_entries : item_entries score_of half.bsize (numbered half.qid (kept b))
+        ≡ item_entries score_of old.bsize y
+    same_entries = λ i. item_entries score_of (first.bsize i) (same_items i)
 
     all_blocks_are : blocks_of score_of old.bsize x ++ blocks_of score_of old.bsize y
         ≡ blocks_of score_of old.bsize (numbered old.qid (kept (followed a b)))
@@ -118,38 +118,38 @@ module _ {S : Type 0} (does : S → Call → S → Type 0) (score_of : List ℕ 
         sym (blocks_followed score_of old.bsize x y)
         ∙ ap (blocks_of score_of old.bsize) (sym both)
 
-    all_entries_are : entries_of score_of old.bsize x ++ entries_of score_of old.bsize y
-        ≡ entries_of score_of old.bsize (numbered old.qid (kept (followed a b)))
+    all_entries_are : item_entries score_of old.bsize x ++ item_entries score_of old.bsize y
+        ≡ item_entries score_of old.bsize (numbered old.qid (kept (followed a b)))
     all_entries_are =
         sym (entries_followed score_of old.bsize x y)
-        ∙ ap (entries_of score_of old.bsize) (sym both)
+        ∙ ap (item_entries score_of old.bsize) (sym both)
 
-    unfit_is : unfit_inside (length half.path.items) (joined half.path.items) b
-        ≡ unfit_inside (length old.path.items) (joined old.path.items) (followed a b)
+    unfit_is : unfit_inside (length half.path.items) (joined_path half.path.items) b
+        ≡ unfit_inside (length old.path.items) (joined_path old.path.items) (followed a b)
     unfit_is =
-        ap (λ (p : List (List ℕ)). unfit_inside (length p) (joined p) b) first.path
-        ∙ sym (unfit_followed (length old.path.items) (joined old.path.items) a b
+        ap (λ (p : List (List ℕ)). unfit_inside (length p) (joined_path p) b) first.path
+        ∙ sym (unfit_followed (length old.path.items) (joined_path old.path.items) a b
         ∙ ap (λ (o : Option Unfit). option_or o
-        (unfit_inside (length old.path.items) (joined old.path.items) b)) first.fit)
+        (unfit_inside (length old.path.items) (joined_path old.path.items) b)) first.fit)
 
     pub part_join : (new : Walk) (to : Streams)
         → ArchivesPart does score_of mid s' half new between to b
         → ArchivesPart does score_of s s' old new from to (followed a b)
     unfolding x
     part_join new to then =
-        let es = entries_of score_of old.bsize x in
-        let fs = entries_of score_of old.bsize y in
+        let es = item_entries score_of old.bsize x in
+        let fs = item_entries score_of old.bsize y in
         record {
           fit = sym unfit_is ∙ then.fit;
           times = times_followed a b first.times then.times;
           entries =
               then.entries
-              ∙ (λ i. first.entries i ++ flat_map entry_bytes (same_entries i))
-              ∙ append_assoc from.entries.items (flat_map entry_bytes es)
-              (flat_map entry_bytes fs)
+              ∙ (λ i. first.entries i ++ flat_map tree_entry_bytes (same_entries i))
+              ∙ append_assoc from.entries.items (flat_map tree_entry_bytes es)
+              (flat_map tree_entry_bytes fs)
               ∙ ap (λ (l : List ℕ). from.entries.items ++ l)
-              (sym (flat_map-append entry_bytes es fs)
-              ∙ ap (flat_map entry_bytes) all_entries_are);
+              (sym (flat_map-append tree_entry_bytes es fs)
+              ∙ ap (flat_map tree_entry_bytes) all_entries_are);
           places = omega (
             arith,
             first.places,
@@ -183,11 +183,11 @@ module _ {S : Type 0} (does : S → Call → S → Type 0) (score_of : List ℕ 
           );
           left_out =
               then.left_out
-              ∙ (λ i. first.left_out i ++ left_out (joined (first.path i)) b)
-              ∙ append_assoc old.skipped.items (left_out (joined old.path.items) a)
-              (left_out (joined old.path.items) b)
+              ∙ (λ i. first.left_out i ++ left_out (joined_path (first.path i)) b)
+              ∙ append_assoc old.skipped.items (left_out (joined_path old.path.items) a)
+              (left_out (joined_path old.path.items) b)
               ∙ ap (λ (l : List (List ℕ)). old.skipped.items ++ l)
-              (sym (left_followed (joined old.path.items) a b));
+              (sym (left_followed (joined_path old.path.items) a b));
           path = then.path ∙ first.path;
           bsize = then.bsize ∙ first.bsize;
           put = subst (PutsBlocks does s s') all_blocks_are
@@ -219,11 +219,11 @@ module _ {S : Type 0} (does : S → Call → S → Type 0) (score_of : List ℕ 
       let blocks = ap (blocks_of score_of old.bsize) (archived_followed old.qid a b)
       ∙ blocks_followed score_of old.bsize (numbered old.qid (kept a)) (numbered n (kept b)) in
       record {
-        cause = as_unfit err (unfit_inside (length p) (joined p) a)
-            (unfit_inside (length p) (joined p) (followed a b))
-            (λ u is. unfit_followed (length p) (joined p) a b
-            ∙ or_front (unfit_inside (length p) (joined p) a)
-            (unfit_inside (length p) (joined p) b) u is) gave.cause;
+        cause = as_unfit err (unfit_inside (length p) (joined_path p) a)
+            (unfit_inside (length p) (joined_path p) (followed a b))
+            (λ u is. unfit_followed (length p) (joined_path p) a b
+            ∙ or_front (unfit_inside (length p) (joined_path p) a)
+            (unfit_inside (length p) (joined_path p) b) u is) gave.cause;
         given_up = subst (λ (bs : List Block). GivesUpBlocks does s s' bs err) (sym blocks)
             (gives_front does s s' (blocks_of score_of old.bsize (numbered old.qid (kept a)))
             (blocks_of score_of old.bsize (numbered n (kept b))) err gave.given_up);

@@ -4,14 +4,14 @@ use Rattle.std.proofs.lemmas.List.{map-append}
 use Rattle.vt_base.specs.Protocol.{Operation}
 use Rattle.vt_base.specs.declared.score.Score.{Score}
 use Rattle.vt_model.specs.History.{Block}
-use Rattle.vt_tree.specs.declared.err.BlockErr.{BlockErr}
-use Rattle.vt_tree.specs.declared.err.TreeErr.TheVariants as trees
-use Rattle.vt_tree.specs.Calls.{Call, put, asked_of, write_of}
+use Rattle.vt_tree.specs.declared.error.BlockErr.{BlockErr}
+use Rattle.vt_tree.specs.declared.error.TreeErr.TheVariants as trees
+use Rattle.vt_tree.specs.Calls.{Call, put, asked_of, write_of_block}
 use Rattle.vt_tree.specs.Making.{EndsBy}
 use Rattle.vt_tree.proofs.Appending.{accepted_join, ends_more}
 use Rattle.vt_tree.proofs.Making.{makes_more, makes_one}
-use Rattle.vac_write.specs.declared.err.VacErr.{VacErr}
-use Rattle.vac_write.specs.declared.err.VacErr.TheVariants.{Tree}
+use Rattle.vac_write.specs.declared.error.VacErr.{VacErr}
+use Rattle.vac_write.specs.declared.error.VacErr.TheVariants.{Tree}
 use Rattle.vac_write.specs.Archiving.{refusal_of}
 use Rattle.vac_write.specs.Puts.{PutsBlocks, GivesUpBlocks}
 
@@ -32,7 +32,7 @@ module _ {S : Type 0} (does : S → Call → S → Type 0) where
     accepted = accepted_join first.calls then.calls first.accepted then.accepted;
     puts = map-append asked_of first.calls then.calls
         ∙ (λ i. first.puts i ++ then.puts i)
-        ∙ sym (map-append write_of a b);
+        ∙ sym (map-append write_of_block a b);
   }
 
   -- nothing was put yet
@@ -54,12 +54,12 @@ module _ {S : Type 0} (does : S → Call → S → Type 0) where
     made = makes_more does s mid s' first.calls then.calls first.made then.made;
     refused = ends_more (refusal_of err) first.calls then.calls first.accepted then.refused;
     rest = then.rest;
-    puts = ap (λ (l : List Operation). l ++ map write_of then.rest)
+    puts = ap (λ (l : List Operation). l ++ map write_of_block then.rest)
         (map-append asked_of first.calls then.calls)
         ∙ append_assoc (map asked_of first.calls) (map asked_of then.calls)
-        (map write_of then.rest)
+        (map write_of_block then.rest)
         ∙ (λ i. first.puts i ++ then.puts i)
-        ∙ sym (map-append write_of a b);
+        ∙ sym (map-append write_of_block a b);
   }
 
   -- others were to come behind
@@ -71,10 +71,10 @@ module _ {S : Type 0} (does : S → Call → S → Type 0) where
     refused = first.refused;
     rest = first.rest ++ b;
     puts = ap (λ (l : List Operation). map asked_of first.calls ++ l)
-        (map-append write_of first.rest b)
-        ∙ sym (append_assoc (map asked_of first.calls) (map write_of first.rest) (map write_of b))
-        ∙ ap (λ (l : List Operation). l ++ map write_of b) first.puts
-        ∙ sym (map-append write_of a b);
+        (map-append write_of_block first.rest b)
+        ∙ sym (append_assoc (map asked_of first.calls) (map write_of_block first.rest) (map write_of_block b))
+        ∙ ap (λ (l : List Operation). l ++ map write_of_block b) first.puts
+        ∙ sym (map-append write_of_block a b);
   }
 
   -- these were put, and then it was given up

@@ -6,18 +6,18 @@ use Rattle.std.specs.Str.{bytes_eq}
 use Rattle.std.proofs.lemmas.Bool.{cases_Bool, false≢true}
 use Rattle.std.proofs.lemmas.Slice.Eq.{bytes_eq-Decides}
 use Rattle.vt_base.specs.Bytes.{AreBytes-none}
-use Rattle.vt_folder.specs.declared.item.Facts.{Facts}
-use Rattle.vt_folder.specs.declared.item.Item.{Item}
-use Rattle.vt_folder.specs.declared.item.ItemKind.{ItemKind}
-use Rattle.vt_folder.specs.declared.item.ItemKind.TheVariants as kinds
-use Rattle.vt_folder.specs.Items.{Items, none, file, folder, other, item_of, listing_of, bytes_of, inside_of, folder_at, file_at}
+use Rattle.vt_out.specs.declared.folder_item.Facts.{Facts}
+use Rattle.vt_out.specs.declared.folder_item.Item.{Item}
+use Rattle.vt_out.specs.declared.folder_item.ItemKind.{ItemKind}
+use Rattle.vt_out.specs.declared.folder_item.ItemKind.TheVariants as kinds
+use Rattle.vt_out.specs.FolderItems.{Items, none, file, folder, other, listed_item, listing_of, bytes_of, inside_of, folder_at, file_at}
 use Rattle.vac_model.specs.Kept.{placed, in_order}
-use Rattle.vac_model.specs.Limits.{is_bad_name, is_bad_behind, first_bad, unfit_name, unfit_listing}
+use Rattle.vac_model.specs.Limits.{is_bad_name, is_bad_behind, first_bad_item, unfit_name, unfit_listing}
 use Rattle.vac_model.proofs.InOrder.{NotBefore, AreOrdered, are_ordered}
 use Rattle.vac_model.proofs.Names.{Below, below_below, not_both, above_other}
 use Rattle.vac_write.specs.Files.{IsWholeFile}
-use Rattle.vac_write.specs.Listing.{IsSeenAt, AreListed, has_bad_owner, metadata_len, joined}
-use Rattle.vac_write.specs.Walking.{IsWholeFolder, AreItems}
+use Rattle.vac_write.specs.Listing.{IsSeenAt, AreListed, has_bad_owner, metadata_len, joined_path}
+use Rattle.vac_write.specs.Walking.{IsWholeFolder, AreItemsAt}
 use Rattle.vac_write.proofs.Followed.{followed, listing_followed}
 use Rattle.vac_write.proofs.Found.{folder_found, file_found, bytes_in_order, inside_in_order}
 use Rattle.vac_write.proofs.Listed.{bad_listed, first_bad_in, same_listing}
@@ -87,7 +87,7 @@ listed_climb tells held path items listed =
     let s : Items Facts = in_order listed.seen in
     subst (Climb None) (sym listed.ordered) (climb None (listing_of s)
     (sym (bad_listed None s)
-    ∙ no_bad (joined path) (first_bad None s) (metadata_len s) listed.fit)
+    ∙ no_bad (joined_path path) (first_bad_item None s) (metadata_len s) listed.fit)
     (stands_in_order None s (are_ordered listed.seen)))
 
 -- what is found behind a name is above it
@@ -190,25 +190,25 @@ module _ (held : Items Facts) (path : List (List ℕ)) (all : Items Facts)
 
   same_front : (last : Option (List ℕ)) (x done : Items Facts) (left : List Item)
       → listing_of x ≡ listing_of done ++ left → Climb last (listing_of x) → Looks x
-      → AreItems true held path done → Goes x done left
+      → AreItemsAt true held path done → Goes x done left
   same_front last x none left is rise looks are = record {
     rest = x;
     is = refl;
     lists = is;
   }
   same_front last none (file about bytes others) left is rise looks are =
-      let e : [] ≡ item_of about kinds.File ∷ (listing_of others ++ left) = is in
+      let e : [] ≡ listed_item about kinds.File ∷ (listing_of others ++ left) = is in
       let never : ⊥ = cc in absurd never
   same_front last none (folder about inside others) left is rise looks are =
-      let e : [] ≡ item_of about kinds.Folder ∷ (listing_of others ++ left) = is in
+      let e : [] ≡ listed_item about kinds.Folder ∷ (listing_of others ++ left) = is in
       let never : ⊥ = cc in absurd never
   same_front last none (other about others) left is rise looks are =
-      let e : [] ≡ item_of about kinds.Other ∷ (listing_of others ++ left) = is in
+      let e : [] ≡ listed_item about kinds.Other ∷ (listing_of others ++ left) = is in
       let never : ⊥ = cc in absurd never
   same_front last (file a b x) (file about bytes others) left is rise looks are =
-      let e : item_of a kinds.File ∷ listing_of x
-      ≡ item_of about kinds.File ∷ (listing_of others ++ left) = is in
-      let head : item_of a kinds.File ≡ item_of about kinds.File = cc in
+      let e : listed_item a kinds.File ∷ listing_of x
+      ≡ listed_item about kinds.File ∷ (listing_of others ++ left) = is in
+      let head : listed_item a kinds.File ≡ listed_item about kinds.File = cc in
       let tail : listing_of x ≡ listing_of others ++ left = cc in
       let same : a ≡ about = ap facts_of head in
       let here : cond (bytes_eq a.name a.name) (Some b) (bytes_of a.name x) ≡ Some b =
@@ -225,27 +225,27 @@ module _ (held : Items Facts) (path : List (List ℕ)) (all : Items Facts)
         lists = more.lists;
       }
   same_front last (file a b x) (folder about inside others) left is rise looks are =
-      let e : item_of a kinds.File ∷ listing_of x
-      ≡ item_of about kinds.Folder ∷ (listing_of others ++ left) = is in
-      let head : item_of a kinds.File ≡ item_of about kinds.Folder = cc in
+      let e : listed_item a kinds.File ∷ listing_of x
+      ≡ listed_item about kinds.Folder ∷ (listing_of others ++ left) = is in
+      let head : listed_item a kinds.File ≡ listed_item about kinds.Folder = cc in
       let kind : kinds.File ≡ kinds.Folder = ap (λ (item : Item). item.kind) head in
       let never : ⊥ = cc in absurd never
   same_front last (file a b x) (other about others) left is rise looks are =
-      let e : item_of a kinds.File ∷ listing_of x
-      ≡ item_of about kinds.Other ∷ (listing_of others ++ left) = is in
-      let head : item_of a kinds.File ≡ item_of about kinds.Other = cc in
+      let e : listed_item a kinds.File ∷ listing_of x
+      ≡ listed_item about kinds.Other ∷ (listing_of others ++ left) = is in
+      let head : listed_item a kinds.File ≡ listed_item about kinds.Other = cc in
       let kind : kinds.File ≡ kinds.Other = ap (λ (item : Item). item.kind) head in
       let never : ⊥ = cc in absurd never
   same_front last (folder a i x) (file about bytes others) left is rise looks are =
-      let e : item_of a kinds.Folder ∷ listing_of x
-      ≡ item_of about kinds.File ∷ (listing_of others ++ left) = is in
-      let head : item_of a kinds.Folder ≡ item_of about kinds.File = cc in
+      let e : listed_item a kinds.Folder ∷ listing_of x
+      ≡ listed_item about kinds.File ∷ (listing_of others ++ left) = is in
+      let head : listed_item a kinds.Folder ≡ listed_item about kinds.File = cc in
       let kind : kinds.Folder ≡ kinds.File = ap (λ (item : Item). item.kind) head in
       let never : ⊥ = cc in absurd never
   same_front last (folder a i x) (folder about inside others) left is rise looks are =
-      let e : item_of a kinds.Folder ∷ listing_of x
-      ≡ item_of about kinds.Folder ∷ (listing_of others ++ left) = is in
-      let head : item_of a kinds.Folder ≡ item_of about kinds.Folder = cc in
+      let e : listed_item a kinds.Folder ∷ listing_of x
+      ≡ listed_item about kinds.Folder ∷ (listing_of others ++ left) = is in
+      let head : listed_item a kinds.Folder ≡ listed_item about kinds.Folder = cc in
       let tail : listing_of x ≡ listing_of others ++ left = cc in
       let same : a ≡ about = ap facts_of head in
       let here : cond (bytes_eq a.name a.name) (Some i) (inside_of a.name x) ≡ Some i =
@@ -262,27 +262,27 @@ module _ (held : Items Facts) (path : List (List ℕ)) (all : Items Facts)
         lists = more.lists;
       }
   same_front last (folder a i x) (other about others) left is rise looks are =
-      let e : item_of a kinds.Folder ∷ listing_of x
-      ≡ item_of about kinds.Other ∷ (listing_of others ++ left) = is in
-      let head : item_of a kinds.Folder ≡ item_of about kinds.Other = cc in
+      let e : listed_item a kinds.Folder ∷ listing_of x
+      ≡ listed_item about kinds.Other ∷ (listing_of others ++ left) = is in
+      let head : listed_item a kinds.Folder ≡ listed_item about kinds.Other = cc in
       let kind : kinds.Folder ≡ kinds.Other = ap (λ (item : Item). item.kind) head in
       let never : ⊥ = cc in absurd never
   same_front last (other a x) (file about bytes others) left is rise looks are =
-      let e : item_of a kinds.Other ∷ listing_of x
-      ≡ item_of about kinds.File ∷ (listing_of others ++ left) = is in
-      let head : item_of a kinds.Other ≡ item_of about kinds.File = cc in
+      let e : listed_item a kinds.Other ∷ listing_of x
+      ≡ listed_item about kinds.File ∷ (listing_of others ++ left) = is in
+      let head : listed_item a kinds.Other ≡ listed_item about kinds.File = cc in
       let kind : kinds.Other ≡ kinds.File = ap (λ (item : Item). item.kind) head in
       let never : ⊥ = cc in absurd never
   same_front last (other a x) (folder about inside others) left is rise looks are =
-      let e : item_of a kinds.Other ∷ listing_of x
-      ≡ item_of about kinds.Folder ∷ (listing_of others ++ left) = is in
-      let head : item_of a kinds.Other ≡ item_of about kinds.Folder = cc in
+      let e : listed_item a kinds.Other ∷ listing_of x
+      ≡ listed_item about kinds.Folder ∷ (listing_of others ++ left) = is in
+      let head : listed_item a kinds.Other ≡ listed_item about kinds.Folder = cc in
       let kind : kinds.Other ≡ kinds.Folder = ap (λ (item : Item). item.kind) head in
       let never : ⊥ = cc in absurd never
   same_front last (other a x) (other about others) left is rise looks are =
-      let e : item_of a kinds.Other ∷ listing_of x
-      ≡ item_of about kinds.Other ∷ (listing_of others ++ left) = is in
-      let head : item_of a kinds.Other ≡ item_of about kinds.Other = cc in
+      let e : listed_item a kinds.Other ∷ listing_of x
+      ≡ listed_item about kinds.Other ∷ (listing_of others ++ left) = is in
+      let head : listed_item a kinds.Other ≡ listed_item about kinds.Other = cc in
       let tail : listing_of x ≡ listing_of others ++ left = cc in
       let same : a ≡ about = ap facts_of head in
       let more = same_front (Some a.name) x others left tail rise.1
@@ -305,7 +305,7 @@ place_first name put (other about others) rise = rw (not_both name about.name ri
 
 module _ (held : Items Facts) (path : List (List ℕ)) where
   order_of : (last : Option (List ℕ)) (x : Items Facts) → Climb last (listing_of x)
-      → AreItems false held path x → (seen : Items Facts) × (in_order seen ≡ x)
+      → AreItemsAt false held path x → (seen : Items Facts) × (in_order seen ≡ x)
   order_of last none rise are = (none, refl)
   order_of last (file about bytes others) rise are =
       let more = order_of (Some about.name) others rise.1 are.1 in (
@@ -337,7 +337,7 @@ module _ (held : Items Facts) (path : List (List ℕ)) where
   unread (item ∷ items) = put_as item.kind (facts_of item) (unread items)
 
   put_lists : (k : ItemKind) (about : Facts) (others : Items Facts)
-      → listing_of (put_as k about others) ≡ item_of about k ∷ listing_of others
+      → listing_of (put_as k about others) ≡ listed_item about k ∷ listing_of others
   unfolding put_as
   put_lists kinds.File about others = refl
   put_lists kinds.Folder about others = refl
@@ -351,7 +351,7 @@ module _ (held : Items Facts) (path : List (List ℕ)) where
       ∙ ap (λ (l : List Item). item ∷ l) (unread_lists items)
 
   put_are : (k : ItemKind) (about : Facts) (others : Items Facts)
-      → AreItems false held path others → AreItems false held path (put_as k about others)
+      → AreItemsAt false held path others → AreItemsAt false held path (put_as k about others)
   unfolding put_as
   put_are kinds.File about others are = (
     record {
@@ -370,7 +370,7 @@ module _ (held : Items Facts) (path : List (List ℕ)) where
   )
   put_are kinds.Other about others are = are
 
-  unread_are : (items : List Item) → AreItems false held path (unread items)
+  unread_are : (items : List Item) → AreItemsAt false held path (unread items)
   unfolding unread
   unread_are [] = tt
   unread_are (item ∷ items) =
@@ -379,8 +379,8 @@ module _ (held : Items Facts) (path : List (List ℕ)) where
 -- ---- either
 
 pub are_followed : (tells : Bool) (held : Items Facts) (path : List (List ℕ)) (a b : Items Facts)
-    → AreItems tells held path a → AreItems tells held path b
-    → AreItems tells held path (followed a b)
+    → AreItemsAt tells held path a → AreItemsAt tells held path b
+    → AreItemsAt tells held path (followed a b)
 are_followed tells held path none b first then = then
 are_followed tells held path (file about bytes others) b first then =
     (first.0, are_followed tells held path others b first.1 then)
@@ -391,8 +391,8 @@ are_followed tells held path (other about others) b first then =
 
 -- they are those of what it holds then too, if it tells that it holds the same
 pub are_as : (tells : Bool) (then held : Items Facts) (path : List (List ℕ)) (part : Items Facts)
-    → (IsTrue tells → then ≡ held) → AreItems tells then path part
-    → AreItems tells held path part
+    → (IsTrue tells → then ≡ held) → AreItemsAt tells then path part
+    → AreItemsAt tells held path part
 are_as tells then held path none same are = tt
 are_as tells then held path (file about bytes others) same are = (
   record {
@@ -422,11 +422,11 @@ pub record Whole (tells : Bool) (held : Items Facts) (path : List (List ℕ)) (d
   pub rest : Items Facts
   pub ordered : in_order seen ≡ followed done rest
   pub lists : listing_of rest ≡ left
-  pub fit : unfit_listing (joined path) (in_order seen) ≡ None
+  pub fit : unfit_listing (joined_path path) (in_order seen) ≡ None
 
 pub whole_of : (tells : Bool) (held : Items Facts) (path : List (List ℕ)) (items : List Item)
     (done : Items Facts) (left : List Item) → AreListed tells held path items
-    → items ≡ listing_of done ++ left → AreItems tells held path done
+    → items ≡ listing_of done ++ left → AreItemsAt tells held path done
     → Whole tells held path done left
 whole_of true held path items done left listed split are = record {
   seen = listed.seen;
@@ -476,7 +476,7 @@ whole_of false held path items done left listed split are = record {
   rest = unread held path left;
   ordered = order.1;
   lists = unread_lists held path left;
-  fit = same_listing (joined path) (in_order order.0) (in_order listed.seen)
+  fit = same_listing (joined_path path) (in_order order.0) (in_order listed.seen)
       (ap listing_of order.1 ∙ sym all ∙ listed.ordered) ∙ listed.fit;
 }
   where

@@ -2,28 +2,28 @@
 use Rattle.std.proofs.Common.{◌≡◌, ℕ, ◌+◌, ◌/◌, Bool, IsTrue, Option, Some, None, List, [], ◌∷◌, ◌++◌, length, refl, sym, ◌∙◌, ap, subst, append_assoc, append-nil}
 use Rattle.std.specs.List.{flat_map}
 use Rattle.std.specs.Option.{option_or}
-use Rattle.vt_folder.specs.declared.item.Facts.{Facts}
-use Rattle.vt_folder.specs.declared.item.Item.{Item}
-use Rattle.vt_folder.specs.declared.item.ItemKind.TheVariants as kinds
-use Rattle.vt_folder.specs.Items.{Items, none, file, folder, other, item_of, listing_of, folder_at}
+use Rattle.vt_out.specs.declared.folder_item.Facts.{Facts}
+use Rattle.vt_out.specs.declared.folder_item.Item.{Item}
+use Rattle.vt_out.specs.declared.folder_item.ItemKind.TheVariants as kinds
+use Rattle.vt_out.specs.FolderItems.{Items, none, file, folder, other, listed_item, listing_of, folder_at}
 use Rattle.vt_model.specs.History.{Block}
-use Rattle.vt_tree.specs.declared.err.TreeErr.TheVariants as trees
+use Rattle.vt_tree.specs.declared.error.TreeErr.TheVariants as trees
 use Rattle.vt_tree.specs.Calls.{Call}
-use Rattle.vt_tree.specs.Entries.{spelled as entry_bytes}
-use Rattle.vt_tree.specs.Streams.{stream_of, entry_of}
+use Rattle.vt_tree.specs.Entries.{tree_entry_bytes}
+use Rattle.vt_tree.specs.Streams.{stream_of, entry_of_stream}
 use Rattle.vac_meta.specs.Records.{all_spelled}
-use Rattle.vac_model.specs.Archives.{file_shape, directory_shape, records_of, entries_of, blocks_of, folder_blocks, metadata}
+use Rattle.vac_model.specs.Archives.{file_shape, directory_shape, records_of, item_entries, blocks_of, folder_blocks, metadata}
 use Rattle.vac_model.specs.Kept.{Numbered, in_order, kept, numbered, count, left_out}
 use Rattle.vac_model.specs.Limits.{Unfit, unfit_listing, unfit_inside, HaveTimes}
 use Rattle.vac_write.specs.declared.archiving.Walk.{Walk}
-use Rattle.vac_write.specs.declared.err.VacErr.{VacErr}
-use Rattle.vac_write.specs.declared.err.VacErr.TheVariants.{FolderFault, Tree, BadName, TooDeep, NoMemory}
+use Rattle.vac_write.specs.declared.error.VacErr.{VacErr}
+use Rattle.vac_write.specs.declared.error.VacErr.TheVariants.{FolderFault, Tree, BadName, TooDeep, NoMemory}
 use Rattle.vac_write.specs.declared.streams.FolderEntries.{FolderEntries}
 use Rattle.vac_write.specs.declared.streams.Streams.{Streams}
 use Rattle.vac_write.specs.Archiving.{IsGivenUpAs, refusal_of}
-use Rattle.vac_write.specs.Listing.{IsSeenAt, IsNotListed, IsUnfitAt, AreListed, joined}
+use Rattle.vac_write.specs.Listing.{IsSeenAt, IsNotListed, IsUnfitAt, AreListed, joined_path}
 use Rattle.vac_write.specs.Puts.{PutsBlocks, GivesUpBlocks, IsOfStore}
-use Rattle.vac_write.specs.Walking.{unfit_at, archived_from, all_blocks, streams_blocks, AreItems, ArchivesPart, GivesUpItem, WritesStreams, ArchivesItems, GivesUpItems}
+use Rattle.vac_write.specs.Walking.{unfit_at, archived_from, all_blocks, streams_blocks, AreItemsAt, ArchivesPart, GivesUpItem, WritesStreams, ArchivesItems, GivesUpItems}
 use Rattle.vac_write.proofs.Followed.{followed, followed_none, listing_followed}
 use Rattle.vac_write.proofs.Parts.{as_unfit, of_store_as, or_behind, part_then_given_up, part_given_up}
 use Rattle.vac_write.proofs.Puts.{puts_join, gives_front, gives_later, gives_none}
@@ -50,13 +50,13 @@ any_seen tells held path = of (folder_at path held) refl
 nothing_listed : (items : Items Facts) → listing_of items ≡ [] → items ≡ none
 nothing_listed none is = refl
 nothing_listed (file about bytes others) is =
-    let e : item_of about kinds.File ∷ listing_of others ≡ [] = is in
+    let e : listed_item about kinds.File ∷ listing_of others ≡ [] = is in
     let never : ⊥ = cc in absurd never
 nothing_listed (folder about inside others) is =
-    let e : item_of about kinds.Folder ∷ listing_of others ≡ [] = is in
+    let e : listed_item about kinds.Folder ∷ listing_of others ≡ [] = is in
     let never : ⊥ = cc in absurd never
 nothing_listed (other about others) is =
-    let e : item_of about kinds.Other ∷ listing_of others ≡ [] = is in
+    let e : listed_item about kinds.Other ∷ listing_of others ≡ [] = is in
     let never : ⊥ = cc in absurd never
 
 pub gave_as : {S : Type 0} (does : S → Call → S → Type 0) (score_of : List ℕ → List ℕ)
@@ -96,7 +96,7 @@ module _ {S : Type 0} (does : S → Call → S → Type 0) (score_of : List ℕ 
         let two : Some whole ≡ Some unfit.seen = sym found ∙ unfit.is telling in cc;
     cause = tells_it (unfit_at old.path.items unfit.seen)
         (ap (λ (o : Option Unfit). option_or o (unfit_inside (length old.path.items)
-        (joined old.path.items) (in_order unfit.seen))) unfit.unfit);
+        (joined_path old.path.items) (in_order unfit.seen))) unfit.unfit);
     given_up = gives_none does s
         (all_blocks score_of old.bsize (archived_from old.qid unfit.seen)) err own;
   }
@@ -123,16 +123,16 @@ module _ {S : Type 0} (does : S → Call → S → Type 0) (score_of : List ℕ 
     pub items_given_up : (s mid s' : S) (half : Walk) (from between : Streams) (done : Items Facts)
         (item : Item) (left : List Item) (err : VacErr)
         → items ≡ listing_of done ++ (item ∷ left)
-        → AreItems tells held old.path.items done
+        → AreItemsAt tells held old.path.items done
         → ArchivesPart does score_of s mid old half from between done
         → GivesUpItem does score_of mid s' tells held half item err
         → GivesUpItems does score_of s s' tells held old err
     items_given_up s mid s' half from between done item left err split are first gave =
         let path = old.path.items in
         let all : Items Facts = followed done gave.part in
-        let both : AreItems tells held path all =
+        let both : AreItemsAt tells held path all =
         are_followed tells held path done gave.part are
-        (subst (λ (p : List (List ℕ)). AreItems tells held p gave.part) first.path gave.are) in
+        (subst (λ (p : List (List ℕ)). AreItemsAt tells held p gave.part) first.path gave.are) in
         let whole = whole_of tells held path items all left listed
         (split
         ∙ ap (λ (l : List Item). listing_of done ++ (l ++ left)) (sym gave.lists)
@@ -145,11 +145,11 @@ module _ {S : Type 0} (does : S → Call → S → Type 0) (score_of : List ℕ 
           seen = whole.seen;
           is = whole.is;
           cause = as_unfit err
-              (unfit_inside (length path) (joined path) (followed all whole.rest))
+              (unfit_inside (length path) (joined_path path) (followed all whole.rest))
               (unfit_at path whole.seen)
-              (λ u is. or_behind (unfit_listing (joined path) (in_order whole.seen))
-              (unfit_inside (length path) (joined path) (in_order whole.seen)) u whole.fit
-              (ap (unfit_inside (length path) (joined path)) whole.ordered ∙ is)) gives.cause;
+              (λ u is. or_behind (unfit_listing (joined_path path) (in_order whole.seen))
+              (unfit_inside (length path) (joined_path path) (in_order whole.seen)) u whole.fit
+              (ap (unfit_inside (length path) (joined_path path)) whole.ordered ∙ is)) gives.cause;
           given_up = gives_front does s s'
               (blocks_of score_of old.bsize (archived_from old.qid whole.seen))
               (folder_blocks score_of old.bsize (archived_from old.qid whole.seen)) err
@@ -160,7 +160,7 @@ module _ {S : Type 0} (does : S → Call → S → Type 0) (score_of : List ℕ 
 
     module _ (s mid : S) (half : Walk) (from to : Streams) (done : Items Facts)
         (no_entries : from.entries.items ≡ []) (no_metadata : from.metadata.items ≡ [])
-        (all : items ≡ listing_of done) (are : AreItems tells held old.path.items done)
+        (all : items ≡ listing_of done) (are : AreItemsAt tells held old.path.items done)
         (first : ArchivesPart does score_of s mid old half from to done) where
       whole : Whole tells held old.path.items done []
       whole = whole_of tells held old.path.items items done []
@@ -175,12 +175,12 @@ module _ {S : Type 0} (does : S → Call → S → Type 0) (score_of : List ℕ 
         x_is = ap (λ (i : Items Facts). numbered old.qid (kept i)) (done_is w)
 
         entries_are : to.entries.items
-            ≡ flat_map entry_bytes (entries_of score_of old.bsize (archived_from old.qid w.seen))
+            ≡ flat_map tree_entry_bytes (item_entries score_of old.bsize (archived_from old.qid w.seen))
         entries_are =
             first.entries
-            ∙ ap (λ (l : List ℕ). l ++ flat_map entry_bytes
-            (entries_of score_of old.bsize (numbered old.qid (kept done)))) no_entries
-            ∙ ap (λ (i : Items Numbered). flat_map entry_bytes (entries_of score_of old.bsize i))
+            ∙ ap (λ (l : List ℕ). l ++ flat_map tree_entry_bytes
+            (item_entries score_of old.bsize (numbered old.qid (kept done)))) no_entries
+            ∙ ap (λ (i : Items Numbered). flat_map tree_entry_bytes (item_entries score_of old.bsize i))
             (sym x_is)
 
         metadata_is : to.metadata.items ≡ metadata (archived_from old.qid w.seen)
@@ -199,8 +199,8 @@ module _ {S : Type 0} (does : S → Call → S → Type 0) (score_of : List ℕ 
         fits : unfit_at old.path.items w.seen ≡ None
         fits =
             ap (λ (o : Option Unfit). option_or o (unfit_inside (length old.path.items)
-            (joined old.path.items) (in_order w.seen))) w.fit
-            ∙ ap (unfit_inside (length old.path.items) (joined old.path.items)) (done_is w)
+            (joined_path old.path.items) (in_order w.seen))) w.fit
+            ∙ ap (unfit_inside (length old.path.items) (joined_path old.path.items)) (done_is w)
             ∙ first.fit
 
         put_so_far : PutsBlocks does s mid
@@ -219,13 +219,13 @@ module _ {S : Type 0} (does : S → Call → S → Type 0) (score_of : List ℕ 
               fit = fits;
               times = subst HaveTimes (sym (done_is w)) first.times;
               entries = wrote.entries
-                  ∙ (λ i. entry_of score_of (directory_shape (same i)) (entries_are i));
+                  ∙ (λ i. entry_of_stream score_of (directory_shape (same i)) (entries_are i));
               metadata = wrote.metadata
-                  ∙ (λ i. entry_of score_of (file_shape (same i)) (metadata_is i));
+                  ∙ (λ i. entry_of_stream score_of (file_shape (same i)) (metadata_is i));
               qid = first.qid ∙ ap (λ (i : Items Numbered). old.qid + count i) (sym x_is);
               left_out = first.left_out
                   ∙ ap (λ (i : Items Facts). old.skipped.items
-                  ++ left_out (joined old.path.items) i) (sym (done_is w));
+                  ++ left_out (joined_path old.path.items) i) (sym (done_is w));
               path = first.path;
               bsize = first.bsize;
               put = puts_join does s mid s'

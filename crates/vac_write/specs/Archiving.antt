@@ -1,15 +1,15 @@
 -- What archiving a folder leaves (vac(1)).
 use Rattle.std.specs.Prelude.{ℕ, ◌≡◌, ◌<◌, ◌^◌, ⊤, Bool, true, false, IsTrue, Option, Some, None, List, [], ◌∷◌, ◌++◌, map}
 use Rattle.vt_base.specs.Protocol.{Operation, sync as sync_all}
-use Rattle.vt_folder.specs.declared.item.Facts.{Facts}
-use Rattle.vt_folder.specs.Items.{Items}
+use Rattle.vt_out.specs.declared.folder_item.Facts.{Facts}
+use Rattle.vt_out.specs.FolderItems.{Items}
 use Rattle.vt_out.specs.declared.files.OutErr.{OutErr}
 use Rattle.vt_out.specs.declared.files.OutErr.TheVariants.{Failed}
 use Rattle.vt_out.specs.declared.files.OutErr.TheVariants as outs
-use Rattle.vt_tree.specs.declared.err.BlockErr.{BlockErr}
-use Rattle.vt_tree.specs.declared.err.TreeErr.{TreeErr}
-use Rattle.vt_tree.specs.declared.err.TreeErr.TheVariants as trees
-use Rattle.vt_tree.specs.Calls.{Call, asked_of, write_of, refusals_of}
+use Rattle.vt_tree.specs.declared.error.BlockErr.{BlockErr}
+use Rattle.vt_tree.specs.declared.error.TreeErr.{TreeErr}
+use Rattle.vt_tree.specs.declared.error.TreeErr.TheVariants as trees
+use Rattle.vt_tree.specs.Calls.{Call, asked_of, write_of_block, refusals_of}
 use Rattle.vt_tree.specs.Making.{Makes, EndsBy, after_all}
 use Rattle.vt_tree.specs.Maps.{Maps, with_blocks}
 use Rattle.vt_tree.specs.Reading.{refusal_in}
@@ -18,17 +18,18 @@ use Rattle.vac_model.specs.Kept.{archived, count, skipped}
 use Rattle.vac_model.specs.Limits.{Unfit, bad_name, too_long, too_deep, first_unfit, HaveTimes}
 use Rattle.vac_model.specs.Trees.{IsTreeOf}
 use Rattle.vac_write.specs.declared.archived.Archived.{Archived}
-use Rattle.vac_write.specs.declared.err.VacErr.{VacErr}
-use Rattle.vac_write.specs.declared.err.VacErr.TheVariants.{FolderFault, Tree, BadName, TooDeep, NoMemory}
+use Rattle.vac_write.specs.declared.error.VacErr.{VacErr}
+use Rattle.vac_write.specs.declared.error.VacErr.TheVariants.{FolderFault, Tree, BadName, TooDeep, NoMemory}
 
 -- what was listed and read of a folder is what it tells, if it does
 abbrev pub IsSeen : (tells : Bool) → (held : Items Facts) → (seen : Items Facts) → Type 0
 IsSeen tells held seen = IsTrue tells → seen ≡ held
 
 -- what is asked of a store for an archive: its blocks are put in order, and then it is synced
-abbrev pub asked_for : (score_of : List ℕ → List ℕ) → (bsize : ℕ) → Items Facts → List Operation
-asked_for score_of bsize seen =
-    map write_of (archive_of score_of bsize seen).blocks ++ sync_all ∷ []
+abbrev pub asked_for_archive : (score_of : List ℕ → List ℕ) → (bsize : ℕ) → Items Facts
+    → List Operation
+asked_for_archive score_of bsize seen =
+    map write_of_block (archive_of score_of bsize seen).blocks ++ sync_all ∷ []
 
 -- A store that held these maps holds the blocks of an archive too, all of it is synced, and the
 -- archive's score stands for its folder.
@@ -55,7 +56,7 @@ pub record WritesArchive {S : Type 0} (does : S → Call → S → Type 0) (hold
   pub calls : List Call
   pub made : Makes does s calls s'
   pub accepted : refusals_of calls ≡ []
-  pub asked : map asked_of calls ≡ asked_for score_of bsize seen
+  pub asked : map asked_of calls ≡ asked_for_archive score_of bsize seen
   pub keeps : (m : Maps) → holds s m → KeepsArchive holds score_of s' m bsize seen
 
 -- which refusal a folder is given up for, of which this is the first thing that is unfit
@@ -112,5 +113,5 @@ pub record GivesUpArchive {S : Type 0} (does : S → Call → S → Type 0) (hol
   pub made : Makes does s calls s'
   pub refused : EndsBy (refusal_of err) calls
   pub rest : List Operation
-  pub asked : map asked_of calls ++ rest ≡ asked_for score_of bsize seen
+  pub asked : map asked_of calls ++ rest ≡ asked_for_archive score_of bsize seen
   pub keeps : (m : Maps) → holds s m → holds s' (after_all score_of calls m)

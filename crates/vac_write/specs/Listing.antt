@@ -1,26 +1,26 @@
 -- The items of a folder, as an archiver takes them: in order, and tested.
 use Rattle.std.specs.Prelude.{ℕ, ◌≡◌, ◌≤◌, ◌+◌, ◌||◌, nat_lt, ⊤, IsTrue, Bool, false, Some, None, List, [], ◌∷◌, length}
-use Rattle.vt_folder.specs.declared.item.Facts.{Facts}
-use Rattle.vt_folder.specs.declared.item.Item.{Item}
-use Rattle.vt_folder.specs.declared.item.ItemKind.{ItemKind}
-use Rattle.vt_folder.specs.declared.item.ItemKind.TheVariants.{File, Folder, Other}
-use Rattle.vt_folder.specs.Items.{Items, listing_of, folder_at}
-use Rattle.vt_tree.specs.declared.err.TreeErr.TheVariants as trees
+use Rattle.vt_out.specs.declared.folder_item.Facts.{Facts}
+use Rattle.vt_out.specs.declared.folder_item.Item.{Item}
+use Rattle.vt_out.specs.declared.folder_item.ItemKind.{ItemKind}
+use Rattle.vt_out.specs.declared.folder_item.ItemKind.TheVariants.{File, Folder, Other}
+use Rattle.vt_out.specs.FolderItems.{Items, listing_of, folder_at}
+use Rattle.vt_tree.specs.declared.error.TreeErr.TheVariants as trees
 use Rattle.vac_meta.specs.declared.TheConstants.{MAX_NAME}
-use Rattle.vac_meta.specs.Records.{IsName}
+use Rattle.vac_meta.specs.Records.{IsItemName}
 use Rattle.vac_model.specs.Archives.{metadata}
 use Rattle.vac_model.specs.Kept.{in_order, kept, numbered, path_to}
 use Rattle.vac_model.specs.Limits.{Unfit, bad_name, too_long, unfit_listing}
-use Rattle.vac_write.specs.declared.err.VacErr.{VacErr}
-use Rattle.vac_write.specs.declared.err.VacErr.TheVariants.{FolderFault, Tree, BadName, TooDeep, NoMemory}
+use Rattle.vac_write.specs.declared.error.VacErr.{VacErr}
+use Rattle.vac_write.specs.declared.error.VacErr.TheVariants.{FolderFault, Tree, BadName, TooDeep, NoMemory}
 
 -- names on a way, behind a path, with slashes between them
 abbrev pub joined_behind : (path : List ℕ) → (names : List (List ℕ)) → List ℕ
 joined_behind path [] = path
 joined_behind path (name ∷ names) = joined_behind (path_to path name) names
 
-abbrev pub joined : (names : List (List ℕ)) → List ℕ
-joined names = joined_behind [] names
+abbrev pub joined_path : (names : List (List ℕ)) → List ℕ
+joined_path names = joined_behind [] names
 
 -- how many bytes the metadata of these items has
 abbrev pub metadata_len : Items Facts → ℕ
@@ -39,14 +39,14 @@ pub record AreListed (tells : Bool) (held : Items Facts) (path : List (List ℕ)
   pub seen : Items Facts
   pub is : IsTrue tells → folder_at path held ≡ Some seen
   pub ordered : items ≡ listing_of (in_order seen)
-  pub fit : unfit_listing (joined path) (in_order seen) ≡ None
+  pub fit : unfit_listing (joined_path path) (in_order seen) ≡ None
 
 -- a folder's items were listed that aren't fit for an archive
 pub record IsUnfitAt (tells : Bool) (held : Items Facts) (path : List (List ℕ)) (why : Unfit)
     : Type 0 where
   pub seen : Items Facts
   pub is : IsTrue tells → folder_at path held ≡ Some seen
-  pub unfit : unfit_listing (joined path) (in_order seen) ≡ Some why
+  pub unfit : unfit_listing (joined_path path) (in_order seen) ≡ Some why
 
 -- why a folder's items aren't handed on
 abbrev pub IsNotListed : (tells : Bool) → (held : Items Facts) → (path : List (List ℕ)) → VacErr
@@ -63,8 +63,8 @@ IsNotListed tells held path (TooDeep name) = ⊥
 IsNotListed tells held path NoMemory = ⊤
 
 -- what the texts of an item may be that has a record
-pub record FitsItem (item : Item) : Type 0 where
-  pub name : IsName item.name
+pub record FitsArchivedItem (item : Item) : Type 0 where
+  pub name : IsItemName item.name
   pub uid : length item.uid ≤ MAX_NAME
   pub gid : length item.gid ≤ MAX_NAME
 

@@ -1,11 +1,11 @@
 -- Blocks that are put, and nothing else is asked for.
 use Rattle.std.specs.Prelude.{◌≡◌, ⊤, List, [], ◌++◌, map}
 use Rattle.vt_model.specs.History.{Block}
-use Rattle.vt_tree.specs.declared.err.TreeErr.TheVariants as trees
-use Rattle.vt_tree.specs.Calls.{Call, asked_of, write_of, refusals_of}
+use Rattle.vt_tree.specs.declared.error.TreeErr.TheVariants as trees
+use Rattle.vt_tree.specs.Calls.{Call, asked_of, write_of_block, refusals_of}
 use Rattle.vt_tree.specs.Making.{Makes, EndsBy}
-use Rattle.vac_write.specs.declared.err.VacErr.{VacErr}
-use Rattle.vac_write.specs.declared.err.VacErr.TheVariants.{FolderFault, Tree, BadName, TooDeep, NoMemory}
+use Rattle.vac_write.specs.declared.error.VacErr.{VacErr}
+use Rattle.vac_write.specs.declared.error.VacErr.TheVariants.{FolderFault, Tree, BadName, TooDeep, NoMemory}
 use Rattle.vac_write.specs.Archiving.{refusal_of}
 
 -- these blocks were put, in order, and nothing else was asked for
@@ -14,7 +14,7 @@ pub record PutsBlocks {S : Type 0} (does : S → Call → S → Type 0) (s s' : 
   pub calls : List Call
   pub made : Makes does s calls s'
   pub accepted : refusals_of calls ≡ []
-  pub puts : map asked_of calls ≡ map write_of blocks
+  pub puts : map asked_of calls ≡ map write_of_block blocks
 
 -- it is the answer to a call of the store, or want of memory
 abbrev pub IsOfStore : VacErr → Type 0
@@ -37,4 +37,4 @@ pub record GivesUpBlocks {S : Type 0} (does : S → Call → S → Type 0) (s s'
   pub made : Makes does s calls s'
   pub refused : EndsBy (refusal_of err) calls
   pub rest : List Block
-  pub puts : map asked_of calls ++ map write_of rest ≡ map write_of blocks
+  pub puts : map asked_of calls ++ map write_of_block rest ≡ map write_of_block blocks

@@ -5,21 +5,21 @@ use Rattle.std.proofs.lemmas.List.{get_or-drop}
 use Rattle.std.specs.Option.{option_and_then}
 use Rattle.std.specs.Str.{bytes_eq}
 use Rattle.vt_base.specs.Bytes.{AreBytes, AreBytes-none}
-use Rattle.vt_folder.specs.declared.item.Facts.{Facts}
-use Rattle.vt_folder.specs.Items.{Items, none, file, folder, other, IsFile, HaveBytes, inside_of, bytes_of, file_at}
+use Rattle.vt_out.specs.declared.folder_item.Facts.{Facts}
+use Rattle.vt_out.specs.FolderItems.{Items, none, file, folder, other, IsFile, HaveBytes, inside_of, bytes_of, file_at}
 
 abbrev pub or_none : Option (List ℕ) → List ℕ
 or_none None = []
 or_none (Some bytes) = bytes
 
 -- the bytes of the file at this path; none where there is no file
-abbrev pub file_of : (path : List (List ℕ)) → Items Facts → List ℕ
-file_of path items = or_none (file_at path items)
+abbrev pub bytes_at_path : (path : List (List ℕ)) → Items Facts → List ℕ
+bytes_at_path path items = or_none (file_at path items)
 
 -- what a folder holds, where it tells it
-abbrev pub told : (tells : Bool) → (held : Items Facts) → Option (Items Facts)
-told true held = Some held
-told false held = None
+abbrev pub told_items : (tells : Bool) → (held : Items Facts) → Option (Items Facts)
+told_items true held = Some held
+told_items false held = None
 
 -- ---- it has bytes
 
@@ -70,7 +70,7 @@ bytes_at (name ∷ (next ∷ path)) items have =
     (inside_of name items) (folder_bytes name items have)
 
 pub file_is : (path : List (List ℕ)) (items : Items Facts) → HaveBytes items
-    → IsFile (file_of path items)
+    → IsFile (bytes_at_path path items)
 file_is path items have = of (file_at path items) (bytes_at path items have)
   where
     of : (found : Option (List ℕ)) → IfFile found → IsFile (or_none found)
@@ -81,7 +81,7 @@ file_is path items have = of (file_at path items) (bytes_at path items have)
     of (Some bytes) is = is
 
 pub left_bytes : (path : List (List ℕ)) (items : Items Facts) → HaveBytes items
-    → (at : ℕ) → AreBytes (drop at (file_of path items))
+    → (at : ℕ) → AreBytes (drop at (bytes_at_path path items))
 left_bytes path items have at i =
     let is = file_is path items have in
-    omega (arith, get_or-drop at (file_of path items) i 0, is.are (at + i))
+    omega (arith, get_or-drop at (bytes_at_path path items) i 0, is.are (at + i))

@@ -10,11 +10,11 @@ ghost use Rattle.vac_write.specs.Puts.{PutsBlocks, GivesUpBlocks, IsOfStore};
 ghost use Rattle.vac_write.specs.Walking.{top_of, root_blocks};
 ghost use Rattle.vac_write.specs.Walking.{ArchivesItems, GivesUpItems, ArchivesItem, GivesUpItem};
 ghost use Rattle.vac_write.specs.Files.{IsWholeFile, GivesUpTree};
-ghost use Rattle.vac_write.specs.Listing.{joined, IfKept, FitsItem};
+ghost use Rattle.vac_write.specs.Listing.{joined_path, IfKept, FitsArchivedItem};
 ghost use Rattle.vac_model.specs.Archives.{file_shape, root_of};
 ghost use Rattle.vac_model.specs.Kept.{path_to};
-ghost use Rattle.vt_tree.specs.Entries.{IsEntry};
-ghost use Rattle.vt_tree.specs.Roots.{spelled as root_bytes};
+ghost use Rattle.vt_tree.specs.Entries.{IsTreeEntry};
+ghost use Rattle.vt_tree.specs.Roots.{root_bytes};
 ghost use Rattle.vt_tree.specs.Writing.{WritesStream};
 
 use crate::listing::{items_at, path_to};
@@ -24,9 +24,9 @@ use crate::{Archived, Paths, VacErr};
 use std::alloc::Global;
 use vac_meta::RecordKind;
 use vac_model::MAX_NESTING;
+use vt_base::fields::{filled, put};
 use vt_base::{Kind, Score, Text};
-use vt_fields::{filled, put};
-use vt_folder::{Folder, Item, ItemKind};
+use vt_out::{Folder, Item, ItemKind};
 use vt_tree::{Blocks, Entry, Root, write_stream};
 
 /// Archives a folder (vac(1)) in blocks of at most so many bytes, 512 to 53,248: puts the blocks of
@@ -93,7 +93,7 @@ impl Walk {
         requires deep { length self.old.path.items ≤ MAX_NESTING }
         ensures archived { IfOk result (ArchivesItems B.does B.score_of blocks.old blocks.new
             F.tells (F.holds folder.old) self.old self.new) }
-        ensures allowed { IfOk result (λ e. IsEntry e.entries × IsEntry e.metadata) }
+        ensures allowed { IfOk result (λ e. IsTreeEntry e.entries × IsTreeEntry e.metadata) }
         ensures refused { IfErr result (GivesUpItems B.does B.score_of blocks.old blocks.new
             F.tells (F.holds folder.old) self.old) }
         ensures cause { CountsFault is_folder_fault result
@@ -120,7 +120,7 @@ impl Walk {
         requires least { MIN_BLOCK_SIZE ≤ self.old.bsize }
         requires most { self.old.bsize ≤ MAX_BLOCK_SIZE }
         requires deep { length self.old.path.items ≤ MAX_NESTING }
-        requires fits { IfKept item.kind (FitsItem item) }
+        requires fits { IfKept item.kind (FitsArchivedItem item) }
         requires few { length streams.old.entries.items / 40 < 2 ^ 32 }
         ensures archived { OnOk result (ArchivesItem B.does B.score_of blocks.old blocks.new
             F.tells (F.holds folder.old) self.old self.new streams.old streams.new item) }
@@ -150,7 +150,7 @@ impl Walk {
         requires most { self.old.bsize ≤ MAX_BLOCK_SIZE }
         requires deep { length self.old.path.items ≤ MAX_NESTING }
         requires kind { item.kind ≡ ItemKind.Folder }
-        requires fits { FitsItem item }
+        requires fits { FitsArchivedItem item }
         requires few { length streams.old.entries.items / 40 < 2 ^ 32 }
         ensures archived { OnOk result (ArchivesItem B.does B.score_of blocks.old blocks.new
             F.tells (F.holds folder.old) self.old self.new streams.old streams.new item) }
@@ -182,7 +182,7 @@ impl Walk {
         requires least { MIN_BLOCK_SIZE ≤ self.old.bsize }
         requires most { self.old.bsize ≤ MAX_BLOCK_SIZE }
         requires kind { item.kind ≡ ItemKind.File }
-        requires fits { FitsItem item }
+        requires fits { FitsArchivedItem item }
         requires few { length streams.old.entries.items / 40 < 2 ^ 32 }
         ensures archived { OnOk result (ArchivesItem B.does B.score_of blocks.old blocks.new
             F.tells (F.holds folder.old) self.old self.new streams.old streams.new item) }
@@ -210,7 +210,7 @@ impl Walk {
     /// Notes an item that isn't archived.
     fn skip(&mut self, item: &Item) -> Result<(), VacErr>
         ensures noted { OnOk result (self.new.skipped.items ≡ self.old.skipped.items
-            ++ path_to (joined self.old.path.items) item.now.name ∷ []) }
+            ++ path_to (joined_path self.old.path.items) item.now.name ∷ []) }
         ensures qid { self.new.qid ≡ self.old.qid }
         ensures path { self.new.path.items ≡ self.old.path.items }
         ensures bsize { self.new.bsize ≡ self.old.bsize }
@@ -240,7 +240,7 @@ impl Walk {
     /// The path of an item of the folder at the path.
     fn path_to(&self, item: &Item) -> Result<Text, VacErr>
         ensures { MatchResult result
-            (λ text. text ≡ path_to (joined self.now.path.items) item.now.name)
+            (λ text. text ≡ path_to (joined_path self.now.path.items) item.now.name)
             (λ err. err ≡ VacErr.NoMemory) }
     {
         Ok(path_to(self.alloc, &self.path, item.name.as_slice())?)
@@ -259,7 +259,7 @@ fn write_file<F: Folder, B: Blocks>(
     requires most { bsize ≤ MAX_BLOCK_SIZE }
     ensures written { IfOk result (WritesStream B.does B.holds B.score_of blocks.old blocks.new
         (file_shape bsize) (IsWholeFile F.tells (F.holds folder.old) path.now)) }
-    ensures entry { IfOk result IsEntry }
+    ensures entry { IfOk result IsTreeEntry }
     ensures refused { IfErr result (GivesUpTree B.does B.score_of blocks.old blocks.new
         (file_shape bsize) (IsWholeFile F.tells (F.holds folder.old) path.now)) }
     ensures cause { CountsFault is_folder_fault result
@@ -283,8 +283,8 @@ fn put_root<B: Blocks>(
     bsize: u16,
     top: &FolderEntries,
 ) -> Result<Score, VacErr>
-    requires entries { IsEntry top.now.entries }
-    requires metadata { IsEntry top.now.metadata }
+    requires entries { IsTreeEntry top.now.entries }
+    requires metadata { IsTreeEntry top.now.metadata }
     ensures put { OnOk result (PutsBlocks B.does blocks.old blocks.new
         (root_blocks B.score_of bsize (top_of top.now))) }
     ensures scored { IfOk result (λ score. score.0

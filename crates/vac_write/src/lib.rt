@@ -4,11 +4,11 @@
 
 mod archived;
 mod archiving;
-mod err;
+mod error;
 mod listing;
 mod sources;
 mod streams;
 
 pub use archived::{Archived, Paths};
 pub use archiving::archive;
-pub use err::VacErr;
+pub use error::VacErr;

@@ -6,13 +6,13 @@ ghost use Rattle.std.specs.Cmp.Lexicographic.{slice_cmp};
 ghost use Rattle.std.specs.Option.{option_copied};
 ghost use Rattle.std.specs.Ordering.{nat_cmp};
 ghost use Rattle.vt_base.specs.Faults.{CountsFault};
-ghost use Rattle.vt_folder.specs.declared.item.Facts.{Facts};
-ghost use Rattle.vt_folder.specs.Items.{Items, listing_of};
+ghost use Rattle.vt_out.specs.declared.folder_item.Facts.{Facts};
+ghost use Rattle.vt_out.specs.FolderItems.{Items, listing_of};
 ghost use Rattle.vac_meta.specs.Records.{is_barred};
 ghost use Rattle.vac_model.specs.Kept.{path_to};
-ghost use Rattle.vac_model.specs.Limits.{first_bad, is_bad_name, is_bad_behind};
+ghost use Rattle.vac_model.specs.Limits.{first_bad_item, is_bad_name, is_bad_behind};
 ghost use Rattle.vac_write.specs.Archiving.{is_folder_fault};
-ghost use Rattle.vac_write.specs.Listing.{AreListed, joined, metadata_len, IsNotListed};
+ghost use Rattle.vac_write.specs.Listing.{AreListed, joined_path, metadata_len, IsNotListed};
 ghost use Rattle.vac_write.specs.Listing.{has_bad_owner, record_len};
 
 use crate::VacErr;
@@ -21,7 +21,7 @@ use std::cmp::Ordering;
 use vac_meta::MAX_NAME;
 use vac_model::MAX_METADATA;
 use vt_base::Text;
-use vt_folder::{Folder, Item, ItemKind};
+use vt_out::{Folder, Item, ItemKind};
 use vt_tree::TreeErr;
 
 /// How many bytes a record has beside its texts.
@@ -62,7 +62,7 @@ fn by_name(a: &Item, b: &Item) -> Ordering
 /// The name of the first item that can't stand in an archive.
 fn first_bad(items: &[Item]) -> Option<&[u8]>
     ensures { (seen : Items Facts) → items.now ≡ listing_of seen
-        → option_copied result ≡ first_bad None seen }
+        → option_copied result ≡ first_bad_item None seen }
 {
     let mut last: Option<&[u8]> = None;
     for item in items {
@@ -139,7 +139,7 @@ fn record_len(item: &Item) -> usize
 
 /// The path of an item of this name in the folder at this path, with slashes between the names.
 pub(crate) fn path_to(alloc: Global, path: &[Text], name: &[u8]) -> Result<Text, AllocError>
-    ensures { IfOk result (λ text. text ≡ path_to (joined path.now) name.now) }
+    ensures { IfOk result (λ text. text ≡ path_to (joined_path path.now) name.now) }
 {
     let mut whole = Vec::new(alloc);
     for above in path {

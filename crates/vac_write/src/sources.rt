@@ -4,8 +4,7 @@ ghost use Rattle.std.specs.Prelude.{◌≤◌, length};
 ghost use Rattle.vt_base.specs.Bytes.{AreBytes};
 
 use vt_base::{Failed, Text};
-use vt_folder::Folder;
-use vt_out::Source;
+use vt_out::{Folder, Source};
 
 /// The bytes of a file of a folder, front to back.
 #[derive(Drop)]
@@ -18,21 +17,22 @@ pub(crate) struct FileSource<'a, 'b, F: Folder> {
 
 impl<'a, 'b, F: Folder> Source for FileSource<'a, 'b, F> {
     ghost use Rattle.std.specs.Prelude.{ℕ, Option, List, take, drop};
-    ghost use Rattle.vt_folder.specs.declared.item.Facts.{Facts};
-    ghost use Rattle.vt_folder.specs.Items.{Items};
-    ghost use Rattle.vac_write.specs.Sources.{file_of, left_bytes, told};
+    ghost use Rattle.vt_out.specs.declared.folder_item.Facts.{Facts};
+    ghost use Rattle.vt_out.specs.FolderItems.{Items};
+    ghost use Rattle.vac_write.specs.Sources.{bytes_at_path, left_bytes, told_items};
 
     ghost tells = { F.tells };
 
-    ghost given = { λ s. take s.at (file_of s.path.now (F.holds s.folder.now)) };
+    ghost given = { λ s. take s.at (bytes_at_path s.path.now (F.holds s.folder.now)) };
 
-    ghost left = { λ s. drop s.at (file_of s.path.now (F.holds s.folder.now)) };
+    ghost left = { λ s. drop s.at (bytes_at_path s.path.now (F.holds s.folder.now)) };
 
     ghost faults = { λ s. F.faults s.folder.now };
 
     ghost Kept = { ℕ × List (List ℕ) × Option (Items Facts) };
 
-    ghost kept = { λ s. (s.folder.ghost_name, s.path.now, told F.tells (F.holds s.folder.now)) };
+    ghost kept = { λ s.
+        (s.folder.ghost_name, s.path.now, told_items F.tells (F.holds s.folder.now)) };
 
     ghost left_bytes = { λ s.
         left_bytes s.path.now (F.holds s.folder.now) (F.holds_bytes s.folder.now) s.at };

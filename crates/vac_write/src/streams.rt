@@ -2,20 +2,20 @@
 
 ghost use Rattle.std.specs.Prelude.{◌≡◌, ◌*◌, ◌/◌, ◌≤◌, ◌<◌, ◌^◌, ◌++◌, [], IfOk, IfErr, OnOk};
 ghost use Rattle.std.specs.Prelude.{length, bit_and};
-ghost use Rattle.vt_tree.specs.Entries.{IsEntry, spelled as entry_bytes};
-ghost use Rattle.vt_tree.specs.Streams.{stream_of, entry_of};
+ghost use Rattle.vt_tree.specs.Entries.{IsTreeEntry, tree_entry_bytes};
+ghost use Rattle.vt_tree.specs.Streams.{stream_of, entry_of_stream};
 ghost use Rattle.vac_meta.specs.declared.record.Record.{Record};
-ghost use Rattle.vac_meta.specs.Records.{spelled as record_bytes};
+ghost use Rattle.vac_meta.specs.Records.{record_bytes};
 ghost use Rattle.vac_model.specs.declared.TheConstants.{MIN_BLOCK_SIZE, MAX_BLOCK_SIZE};
-ghost use Rattle.vac_write.specs.Listing.{FitsItem};
+ghost use Rattle.vac_write.specs.Listing.{FitsArchivedItem};
 ghost use Rattle.vac_write.specs.Puts.{PutsBlocks, GivesUpBlocks, IsOfStore};
-ghost use Rattle.vac_write.specs.Walking.{WritesStreams, streams_blocks, shape_of};
+ghost use Rattle.vac_write.specs.Walking.{WritesStreams, streams_blocks, item_shape};
 
 use crate::VacErr;
 use crate::sources::SliceSource;
 use std::alloc::Global;
 use vac_meta::{Record, RecordKind, encode};
-use vt_folder::Item;
+use vt_out::Item;
 use vt_tree::{Blocks, ENTRY_LEN, Entry, write_stream};
 
 /// The bytes of a folder's entries and of its metadata, as far as its items were archived.
@@ -51,7 +51,7 @@ impl Streams {
         kind: RecordKind,
         qid: u64,
     ) -> Result<(), VacErr>
-        requires fits { FitsItem item }
+        requires fits { FitsArchivedItem item }
         requires few { length self.old.entries.items / 40 < 2 ^ 32 }
         ensures written { let written : Record = record {
           name = item.name;
@@ -84,9 +84,9 @@ impl Streams {
 
     /// Puts an entry behind the others.
     pub(crate) fn add_entry(&mut self, entry: &Entry) -> Result<(), VacErr>
-        requires { IsEntry entry.now }
+        requires { IsTreeEntry entry.now }
         ensures written { OnOk result (self.new.entries.items
-            ≡ self.old.entries.items ++ entry_bytes entry.now) }
+            ≡ self.old.entries.items ++ tree_entry_bytes entry.now) }
         ensures metadata { self.new.metadata.items ≡ self.old.metadata.items }
         ensures err { IfErr result (λ err. err ≡ VacErr.NoMemory) }
     {
@@ -107,7 +107,7 @@ impl Streams {
         requires metadata { length self.now.metadata.items ≤ 2 ^ 40 }
         ensures written { IfOk result (WritesStreams B.does B.score_of blocks.old blocks.new
             bsize self.now) }
-        ensures allowed { IfOk result (λ e. IsEntry e.entries × IsEntry e.metadata) }
+        ensures allowed { IfOk result (λ e. IsTreeEntry e.entries × IsTreeEntry e.metadata) }
         ensures refused { IfErr result (GivesUpBlocks B.does blocks.old blocks.new
             (streams_blocks B.score_of bsize self.now)) }
         ensures plain { IfErr result IsOfStore }
@@ -130,11 +130,12 @@ fn write_bytes<B: Blocks>(
     requires most { bsize ≤ MAX_BLOCK_SIZE }
     requires short { length bytes.now ≤ 2 ^ 40 }
     ensures written { OnOk result (PutsBlocks B.does blocks.old blocks.new
-        (stream_of B.score_of (shape_of bsize is_dir) bytes.now).blocks) }
-    ensures entry { IfOk result (λ e. (e ≡ entry_of B.score_of (shape_of bsize is_dir) bytes.now)
-        × IsEntry e) }
+        (stream_of B.score_of (item_shape bsize is_dir) bytes.now).blocks) }
+    ensures entry { IfOk result (λ e. (e
+        ≡ entry_of_stream B.score_of (item_shape bsize is_dir) bytes.now)
+        × IsTreeEntry e) }
     ensures refused { IfErr result (GivesUpBlocks B.does blocks.old blocks.new
-        (stream_of B.score_of (shape_of bsize is_dir) bytes.now).blocks) }
+        (stream_of B.score_of (item_shape bsize is_dir) bytes.now).blocks) }
     ensures plain { IfErr result IsOfStore }
 {
     let mut source = SliceSource::new(bytes);
@@ -153,7 +154,7 @@ pub(crate) fn pointer_len(bsize: u16) -> u16
 
 /// How many bytes a leaf has at most: a directory's has whole entries.
 fn leaf_len(bsize: u16, is_dir: bool) -> u16
-    ensures { result ≡ (shape_of bsize is_dir).dsize }
+    ensures { result ≡ (item_shape bsize is_dir).dsize }
 {
     // 40: the bytes of an entry.
     if is_dir { bsize / 40 * 40 } else { bsize }

@@ -8,7 +8,7 @@ use Rattle.vt_disk.specs.Members.{DiskOf}
 use Rattle.vt_model.specs.History.{History}
 use Rattle.vt_core.specs.Core.{CoreState, stops_of}
 use Rattle.vt_core.specs.Sound.{IsSound}
-use Rattle.vt_drive.specs.Answers.{KeepsAll}
+use Rattle.vt_requests.specs.Answers.{KeepsAll}
 use Rattle.vt_use.specs.Causes.{FailsFor, NoCallFails}
 use Rattle.vt_use.specs.Stores.{MakesRun}
 use Rattle.vt_use.specs.Uses.{Asks}

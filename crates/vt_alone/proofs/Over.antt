@@ -9,17 +9,17 @@ use Rattle.vt_model.specs.History.{History}
 use Rattle.vt_session.specs.declared.Ended.{Ended}
 use Rattle.vt_session.specs.declared.Ended.TheVariants.{Goodbye, Closed, Cut, Malformed, Spent, ReadFault, WriteFault, NoMemory}
 use Rattle.vt_session.specs.Heard.{Item, Heard}
-use Rattle.vt_session.specs.Turns.{Turn, cause_of, causes_of, items_of, item_of_turn}
+use Rattle.vt_session.specs.Turns.{Turn, cause_of, causes_of, items_of_turns, item_of_turn}
 use Rattle.vt_session.specs.Answered.{AreToldBy}
 use Rattle.vt_session.specs.Talk.{Carries, spent_len}
 use Rattle.vt_session.proofs.Causes.{told_front}
 use Rattle.vt_session.proofs.Turns.{turns_part}
-use Rattle.vt_answer.specs.declared.serving.Served.{Served}
-use Rattle.vt_answer.specs.Links.{AnswersLink, SaysOver, since}
-use Rattle.vt_answer.specs.Taking.{DoesCalls}
+use Rattle.vt_handler.specs.declared.serving.Served.{Served}
+use Rattle.vt_handler.specs.Links.{AnswersLink, SaysOver, since}
+use Rattle.vt_handler.specs.Taking.{DoesCalls}
 use Rattle.vt_core.specs.Core.{CoreState, setup_of}
-use Rattle.vt_drive.specs.Driven.{DrivenState}
-use Rattle.vt_drive.specs.Ending.{Ends}
+use Rattle.vt_requests.specs.Driven.{DrivenState}
+use Rattle.vt_requests.specs.Ending.{Ends}
 use Rattle.vt_alone.specs.declared.serving.StoreServed.{StoreServed}
 use Rattle.vt_use.specs.Causes.{TellsStops}
 use Rattle.vt_use.specs.Stores.{Exchange, at_time, store_on}
@@ -33,10 +33,10 @@ use Rattle.vt_alone.proofs.Quiet.{only_memory}
 cut_carries : (input output : List ℕ) (turns unsaid : List Turn)
     → SaysOver WriteFault input turns unsaid output → Carries input output turns WriteFault
 cut_carries input output turns unsaid says =
-    let items : items_of (turns ++ unsaid) ++ says.0 ≡ items_of turns ++ (items_of unsaid ++ says.0) =
+    let items : items_of_turns (turns ++ unsaid) ++ says.0 ≡ items_of_turns turns ++ (items_of_turns unsaid ++ says.0) =
     ap (λ (i : List Item). i ++ says.0) (map-append item_of_turn turns unsaid)
-    ∙ append_assoc (items_of turns) (items_of unsaid) says.0 in (
-      items_of unsaid ++ says.0,
+    ∙ append_assoc (items_of_turns turns) (items_of_turns unsaid) says.0 in (
+      items_of_turns unsaid ++ says.0,
       says.1,
       subst (λ (i : List Item). Heard input i says.1) items says.2,
       says.3,

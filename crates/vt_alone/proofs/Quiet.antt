@@ -10,11 +10,11 @@ use Rattle.vt_model.specs.Places.{Setup}
 use Rattle.vt_model.specs.Causes.{Part, Cause, disk_fault, stopped, damaged, no_memory, NoneFell, OneRose}
 use Rattle.vt_session.specs.Turns.{Turn, told, served, failed, causes_of}
 use Rattle.vt_session.specs.Answered.{AnsweredAlone, AreToldBy, CountsRise, IsKnownStop}
-use Rattle.vt_answer.specs.Condition.{IsNoDamage, IsNoFault}
+use Rattle.vt_handler.specs.Condition.{IsNoDamage, IsNoFault}
 use Rattle.vt_shard.specs.Shard.{ShardState}
 use Rattle.vt_core.specs.Core.{CoreState, each_of, setup_of, stops_of}
-use Rattle.vt_drive.specs.Driven.{section_stops, stops_in}
-use Rattle.vt_drive.proofs.Risen.{AllFit, fell_then}
+use Rattle.vt_requests.specs.Driven.{section_stops, stops_in}
+use Rattle.vt_requests.proofs.Risen.{AllFit, fell_then}
 use Rattle.vt_use.specs.Causes.{NoCallFails, TellsStops}
 use Rattle.vt_use.proofs.Tells.{all_fit, rose_within}
 use Rattle.vt_alone.specs.Sessions.{OnlyMemory, faults_over}

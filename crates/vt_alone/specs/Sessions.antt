@@ -10,20 +10,20 @@ use Rattle.vt_model.specs.Places.{Setup}
 use Rattle.vt_session.specs.declared.Ended.{Ended}
 use Rattle.vt_session.specs.declared.Ended.TheVariants.{WriteFault, NoMemory}
 use Rattle.vt_session.specs.Heard.{Item, Heard}
-use Rattle.vt_session.specs.Turns.{Turn, items_of, causes_of, first_why, synced_numbers}
+use Rattle.vt_session.specs.Turns.{Turn, items_of_turns, causes_of, first_why, synced_numbers}
 use Rattle.vt_session.specs.Answered.{AnsweredAlone, Faults, AreToldBy}
 use Rattle.vt_session.specs.Talk.{Alone, Took, spent_len}
-use Rattle.vt_answer.specs.declared.serving.Served.{Served}
-use Rattle.vt_answer.specs.Condition.{IsNoDamage}
-use Rattle.vt_answer.specs.Links.{AnswersLink, ReadCause, since}
-use Rattle.vt_answer.specs.Sessions.{SinkCause}
-use Rattle.vt_answer.specs.Taking.{DoesEach, DoesSome, first_told}
+use Rattle.vt_handler.specs.declared.serving.Served.{Served}
+use Rattle.vt_handler.specs.Condition.{IsNoDamage}
+use Rattle.vt_handler.specs.Links.{AnswersLink, ReadCause, since}
+use Rattle.vt_handler.specs.Sessions.{SinkCause}
+use Rattle.vt_handler.specs.Taking.{DoesEach, DoesSome, first_told}
 use Rattle.vt_core.specs.Core.{CoreState, devices_of, each_of, setup_of}
 use Rattle.vt_core.specs.Mounting.{AllStandFor, EachStands}
 use Rattle.vt_core.specs.Sound.{IsSound}
-use Rattle.vt_drive.specs.Answers.{KeepsAll}
-use Rattle.vt_drive.specs.Driven.{stops_in}
-use Rattle.vt_drive.specs.Ending.{AreMarkedAt, Ends}
+use Rattle.vt_requests.specs.Answers.{KeepsAll}
+use Rattle.vt_requests.specs.Driven.{stops_in}
+use Rattle.vt_requests.specs.Ending.{AreMarkedAt, Ends}
 pub use Rattle.vt_use.specs.Causes.{FailsFor, NoCallFails, TellsStops}
 pub use Rattle.vt_use.specs.Stores.{MakesRun, at_time, store_on}
 pub use Rattle.vt_use.specs.Uses.{AreMarkedOn}
@@ -47,7 +47,7 @@ pub record AreUnsaid (score : List ℕ → List ℕ) (c : Setup) (input : List �
     (turns unsaid : List Turn) (ended : Ended) (between last : History) : Type 0 where
   pub none : ended ≢ WriteFault → unsaid ≡ []
   pub heard : ended ≡ WriteFault → (later : List Item) × (end : Ended)
-      × Heard input (items_of (turns ++ unsaid) ++ later) end
+      × Heard input (items_of_turns (turns ++ unsaid) ++ later) end
   pub answered : AnsweredAlone score c between unsaid last
 
 -- memory is all that is wanting

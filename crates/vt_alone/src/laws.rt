@@ -4,7 +4,7 @@ ghost use Rattle.std.specs.Prelude.{◌≡◌, ℕ, ◌++◌, Bool, IsTrue, List
 ghost use Rattle.std.specs.List.{All};
 ghost use Rattle.vt_core.specs.Core.{CoreState, stops_of};
 ghost use Rattle.vt_core.specs.Sound.{IsSound};
-ghost use Rattle.vt_drive.specs.Answers.{KeepsAll};
+ghost use Rattle.vt_requests.specs.Answers.{KeepsAll};
 ghost use Rattle.vt_model.specs.History.{History};
 ghost use Rattle.vt_alone.specs.Sessions.{EndsWell, LeavesAll, MakesRun, NeedsMemory, NoCallFails, ServesStore, TellsCauses, TellsStops};
 ghost use Rattle.vt_alone.specs.declared.serving.StoreServed.{StoreServed};

@@ -1,19 +1,19 @@
 //! Serving a session over a store on devices.
 
 ghost use Rattle.std.specs.Prelude.{◌≡◌, ◌≤◌, ◌++◌, ℕ, [], None, IsTrue, length};
-ghost use Rattle.vt_answer.specs.Links.{AnswersLink, ReadCause, since};
-ghost use Rattle.vt_answer.specs.Sessions.{SinkCause};
-ghost use Rattle.vt_answer.specs.Taking.{DoesSome};
+ghost use Rattle.vt_handler.specs.Links.{AnswersLink, ReadCause, since};
+ghost use Rattle.vt_handler.specs.Sessions.{SinkCause};
+ghost use Rattle.vt_handler.specs.Taking.{DoesSome};
 ghost use Rattle.vt_core.specs.Machine.{WaitsForNone};
 ghost use Rattle.vt_model.specs.History.{History};
 ghost use Rattle.vt_alone.specs.Sessions.{ServesStore};
 ghost use Rattle.vt_session.specs.Talk.{Took, spent_len};
 
 use std::alloc::Global;
-use vt_answer::{Answering, Client, Served, Store};
 use vt_base::{Scorer, Why};
 use vt_core::Core;
 use vt_disk::Disk;
+use vt_handler::{Answering, Client, Served, Store};
 use vt_session::Ended;
 use vt_use::{Job, use_core};
 

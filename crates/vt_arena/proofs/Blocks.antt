@@ -6,15 +6,15 @@ use Rattle.byteorder.specs.Endian.{big_bytes}
 use Rattle.byteorder.specs.Numbers.{big_number-reads_back}
 use Rattle.vt_disk.specs.declared.region.Region.{Region}
 use Rattle.vt_disk.specs.Disk.{part}
-use Rattle.vt_clump.specs.Spelling.{Stored, IsStored, header, spelled, size_in}
+use Rattle.vt_clump.specs.Spelling.{Stored, IsStoredBlock, clump_header, clump_bytes, size_in}
 use Rattle.vt_model.specs.declared.TheConstants.{ARENA_HEAD_LEN}
-use Rattle.vt_arena.specs.Layout.{Content, IsContent, HasBlocks, StandsAt, entry_of, clumps_of, directory_of, directory_place, used_of}
+use Rattle.vt_arena.specs.Layout.{Content, IsArenaContent, HasBlocks, BytesStandAt, arena_entry, clumps_of, directory_of, directory_place, used_of}
 use Rattle.vt_arena.specs.Places.{block_room, directory_room, offset_of}
 use Rattle.vt_arena.specs.Reading.{HasHeader, header_at, clump_at}
 use Rattle.vt_arena.proofs.Layouts.{part-part, flat_map-append, length-clumps, length-directory, length-entry, spelled_len, directory-append, used-append, used-cons, content_fits}
 
 -- what stands in the middle of what stands somewhere
-pub stands-part : (place : ℕ) (low mid high file : List ℕ) → StandsAt place (low ++ (mid ++ high)) file → StandsAt (place + length low) mid file
+pub stands-part : (place : ℕ) (low mid high file : List ℕ) → BytesStandAt place (low ++ (mid ++ high)) file → BytesStandAt (place + length low) mid file
 stands-part place low mid high file stands =
     sym (part-part place (length (low ++ (mid ++ high))) (length low) (length mid) file (omega (arith, length-append low (mid ++ high), length-append mid high)))
     ∙ ap (λ (l : List ℕ). part (length low) (length mid) l) stands
@@ -31,22 +31,22 @@ module _ {X : Type 0} (P : X → Type 0) where
   all_back (x ∷ xs) ys all = all_back xs ys (λ k d below. all (suc k) d (omega (arith, below)))
 
 -- the header says how long the block is
-spelled_header : (score_of : List ℕ → List ℕ) (s : Stored) → IsStored score_of s → take 38 (spelled s) ≡ header s
-unfolding spelled
-spelled_header score_of s is = take_at (header s) s.block 38 (omega (arith, is.score_len, is.creator_len, length-append s.score (1 ∷ (s.creator ++ big_bytes 4 s.time)), length-append s.creator (big_bytes 4 s.time)))
+spelled_header : (score_of : List ℕ → List ℕ) (s : Stored) → IsStoredBlock score_of s → take 38 (clump_bytes s) ≡ clump_header s
+unfolding clump_bytes
+spelled_header score_of s is = take_at (clump_header s) s.block 38 (omega (arith, is.score_len, is.creator_len, length-append s.score (1 ∷ (s.creator ++ big_bytes 4 s.time)), length-append s.creator (big_bytes 4 s.time)))
 
-header_size : (score_of : List ℕ → List ℕ) (s : Stored) → IsStored score_of s → size_in (header s) ≡ length s.block
+header_size : (score_of : List ℕ → List ℕ) (s : Stored) → IsStoredBlock score_of s → size_in (clump_header s) ≡ length s.block
 header_size score_of s is =
     big_number-reads_back 2 (length s.block) (big_bytes 2 (length s.block) ++ (s.score ++ (1 ∷ (s.creator ++ big_bytes 4 s.time)))) (omega (arith, is.most))
 
 -- a block, and those before it and behind it
 module _ (score_of : List ℕ → List ℕ) (region : Region) (old : Content) (before behind : List Stored) (s : Stored) (file : List ℕ)
-    (content : IsContent score_of region.len old) (blocks : HasBlocks region old.stored file) (is : old.stored ≡ before ++ s ∷ behind) where
-  all : All (IsStored score_of) (before ++ s ∷ behind)
-  all = subst (λ (l : List Stored). All (IsStored score_of) l) is content.stored
+    (content : IsArenaContent score_of region.len old) (blocks : HasBlocks region old.stored file) (is : old.stored ≡ before ++ s ∷ behind) where
+  all : All (IsStoredBlock score_of) (before ++ s ∷ behind)
+  all = subst (λ (l : List Stored). All (IsStoredBlock score_of) l) is content.stored
 
-  pub stored : IsStored score_of s
-  stored = all_back (IsStored score_of) before (s ∷ behind) all 0 s (omega arith)
+  pub stored : IsStoredBlock score_of s
+  stored = all_back (IsStoredBlock score_of) before (s ∷ behind) all 0 s (omega arith)
 
   pub used_split : used_of old.stored ≡ used_of before + (block_room (length s.block) + used_of behind)
   used_split = ap used_of is ∙ used-append before (s ∷ behind) ∙ ap (λ (n : ℕ). used_of before + n) (used-cons s behind)
@@ -54,46 +54,46 @@ module _ (score_of : List ℕ → List ℕ) (region : Region) (old : Content) (b
   pub count_split : length old.stored ≡ length before + (length behind + 1)
   count_split = ap (λ (l : List Stored). length l) is ∙ length-append before (s ∷ behind) ∙ omega arith
 
-  pub clump_stands : StandsAt (region.start + offset_of before) (spelled s) file
+  pub clump_stands : BytesStandAt (region.start + offset_of before) (clump_bytes s) file
   clump_stands =
-      subst (λ (at : ℕ). StandsAt at (spelled s) file)
-      (omega (arith, length-clumps score_of before (all_front (IsStored score_of) before (s ∷ behind) all)))
-      (stands-part (region.start + ARENA_HEAD_LEN) (clumps_of before) (spelled s) (clumps_of behind) file
-      (subst (λ (l : List ℕ). StandsAt (region.start + ARENA_HEAD_LEN) l file)
-      (ap clumps_of is ∙ flat_map-append spelled before (s ∷ behind)) blocks.clumps))
+      subst (λ (at : ℕ). BytesStandAt at (clump_bytes s) file)
+      (omega (arith, length-clumps score_of before (all_front (IsStoredBlock score_of) before (s ∷ behind) all)))
+      (stands-part (region.start + ARENA_HEAD_LEN) (clumps_of before) (clump_bytes s) (clumps_of behind) file
+      (subst (λ (l : List ℕ). BytesStandAt (region.start + ARENA_HEAD_LEN) l file)
+      (ap clumps_of is ∙ flat_map-append clump_bytes before (s ∷ behind)) blocks.clumps))
 
-  entries : directory_of old.stored ≡ directory_of behind ++ (entry_of s ++ directory_of before)
+  entries : directory_of old.stored ≡ directory_of behind ++ (arena_entry s ++ directory_of before)
   entries =
       ap directory_of is
       ∙ directory-append before (s ∷ behind)
       ∙ ap (λ (l : List ℕ). l ++ directory_of before) (directory-append (s ∷ []) behind)
-      ∙ append_assoc (directory_of behind) (entry_of s ++ []) (directory_of before)
-      ∙ ap (λ (l : List ℕ). directory_of behind ++ (l ++ directory_of before)) (append-nil (entry_of s))
+      ∙ append_assoc (directory_of behind) (arena_entry s ++ []) (directory_of before)
+      ∙ ap (λ (l : List ℕ). directory_of behind ++ (l ++ directory_of before)) (append-nil (arena_entry s))
 
-  pub entry_stands : part (directory_place region (length before + 1)) 25 file ≡ entry_of s
+  pub entry_stands : part (directory_place region (length before + 1)) 25 file ≡ arena_entry s
   entry_stands =
-      let len : length (entry_of s) ≡ 25 = length-entry score_of s stored in
+      let len : length (arena_entry s) ≡ 25 = length-entry score_of s stored in
       let fits = content_fits score_of region.len old content in
       let rest : length (directory_of behind) ≡ directory_room (length behind) =
-      length-directory score_of behind (all_back (IsStored score_of) (s ∷ []) behind (all_back (IsStored score_of) before (s ∷ behind) all)) in
+      length-directory score_of behind (all_back (IsStoredBlock score_of) (s ∷ []) behind (all_back (IsStoredBlock score_of) before (s ∷ behind) all)) in
       ap (λ (n : ℕ). part (directory_place region (length before + 1)) n file) (sym len)
-      ∙ subst (λ (at : ℕ). StandsAt at (entry_of s) file) (omega (arith, rest, count_split, fits))
-      (stands-part (directory_place region (length old.stored)) (directory_of behind) (entry_of s) (directory_of before) file
-      (subst (λ (l : List ℕ). StandsAt (directory_place region (length old.stored)) l file) entries blocks.directory))
+      ∙ subst (λ (at : ℕ). BytesStandAt at (arena_entry s) file) (omega (arith, rest, count_split, fits))
+      (stands-part (directory_place region (length old.stored)) (directory_of behind) (arena_entry s) (directory_of before) file
+      (subst (λ (l : List ℕ). BytesStandAt (directory_place region (length old.stored)) l file) entries blocks.directory))
 
-  clump_len : length (spelled s) ≡ block_room (length s.block)
+  clump_len : length (clump_bytes s) ≡ block_room (length s.block)
   clump_len = spelled_len score_of s stored
 
   -- what a read of it finds
   pub has_header : HasHeader region.len (offset_of before)
   has_header = (omega arith, omega (arith, content_fits score_of region.len old content, used_split))
 
-  pub clump_there : clump_at region (offset_of before) file ≡ spelled s
+  pub clump_there : clump_at region (offset_of before) file ≡ clump_bytes s
   clump_there =
-      let head : header_at region (offset_of before) file ≡ header s =
-      sym (part-part (region.start + offset_of before) (length (spelled s)) 0 38 file (omega (arith, clump_len)) ∙ ap (λ (p : ℕ). part p 38 file) (omega arith))
+      let head : header_at region (offset_of before) file ≡ clump_header s =
+      sym (part-part (region.start + offset_of before) (length (clump_bytes s)) 0 38 file (omega (arith, clump_len)) ∙ ap (λ (p : ℕ). part p 38 file) (omega arith))
       ∙ ap (λ (l : List ℕ). take 38 l) clump_stands ∙ spelled_header score_of s stored in
       let size : size_in (header_at region (offset_of before) file) ≡ length s.block = ap size_in head ∙ header_size score_of s stored in
-      let len : min (38 + size_in (header_at region (offset_of before) file)) (region.len - offset_of before) ≡ length (spelled s) =
+      let len : min (38 + size_in (header_at region (offset_of before) file)) (region.len - offset_of before) ≡ length (clump_bytes s) =
       omega (arith, size, clump_len, content_fits score_of region.len old content, used_split) in
       ap (λ (n : ℕ). part (region.start + offset_of before) n file) len ∙ clump_stands

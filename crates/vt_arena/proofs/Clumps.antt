@@ -12,19 +12,19 @@ use Rattle.vt_disk.specs.declared.region.Region.{Region}
 use Rattle.vt_disk.specs.Disk.{part}
 use Rattle.vt_clump.specs.declared.reading.ClumpBad.{ClumpBad}
 use Rattle.vt_clump.specs.declared.reading.ClumpBad.TheVariants.{Short, Magic, Kind, Encoding, Size, Score, NoMemory as ClumpNoMemory}
-use Rattle.vt_clump.specs.Faults.{or_else, bad_header, bad_score, first_bad}
-use Rattle.vt_clump.specs.Spelling.{Stored, IsStored, BeginsWith, spelled, size_in, stored_in}
+use Rattle.vt_clump.specs.Faults.{first_fault, bad_header, bad_score, first_bad_clump}
+use Rattle.vt_clump.specs.Spelling.{Stored, IsStoredBlock, BeginsWithClump, clump_bytes, size_in, stored_in}
 use Rattle.vt_clump.proofs.ReadBack.{Passes, passed}
-use Rattle.vt_arena.specs.declared.bad.ReadBad.{ReadBad}
-use Rattle.vt_arena.specs.declared.bad.ReadBad.TheVariants.{Fault, Damaged, NoMemory}
-use Rattle.vt_arena.specs.Layout.{Content, IsContent, HasBlocks}
+use Rattle.vt_arena.specs.declared.error.ReadBad.{ReadBad}
+use Rattle.vt_arena.specs.declared.error.ReadBad.TheVariants.{Fault, Damaged, NoMemory}
+use Rattle.vt_arena.specs.Layout.{Content, IsArenaContent, HasBlocks}
 use Rattle.vt_arena.specs.Places.{offset_of}
-use Rattle.vt_arena.specs.Reading.{HasHeader, header_at, clump_at, damage_of, ReadsAs}
+use Rattle.vt_arena.specs.Reading.{HasHeader, header_at, clump_at, damage_of_clump, ReadsClumpAs}
 use Rattle.vt_arena.proofs.Blocks.{stored, clump_there}
 use Rattle.vt_arena.proofs.Layouts.{part-sum}
 
 -- a fault and want of memory say nothing of the bytes
-pub reads_nothing : (score_of : List ℕ → List ℕ) (bytes : List ℕ) (bad : ReadBad) → (bad ≡ Fault) ⊎ (bad ≡ NoMemory) → ReadsAs score_of bytes (Err bad)
+pub reads_nothing : (score_of : List ℕ → List ℕ) (bytes : List ℕ) (bad : ReadBad) → (bad ≡ Fault) ⊎ (bad ≡ NoMemory) → ReadsClumpAs score_of bytes (Err bad)
 reads_nothing score_of bytes Fault is = tt
 reads_nothing score_of bytes NoMemory is = tt
 reads_nothing score_of bytes (Damaged want found) (inl is) = cc
@@ -32,18 +32,18 @@ reads_nothing score_of bytes (Damaged want found) (inr is) = cc
 
 -- the first test that fails says how the bytes are damaged
 module _ (score_of : List ℕ → List ℕ) (bytes : List ℕ) where
-  damaged : (bad : ClumpBad) (answer : ReadBad) → first_bad score_of bytes ≡ Some bad
-      → answer ≡ Damaged (damage_of bad).0 (damage_of bad).1
-      → ReadsAs score_of bytes (Err answer)
+  damaged : (bad : ClumpBad) (answer : ReadBad) → first_bad_clump score_of bytes ≡ Some bad
+      → answer ≡ Damaged (damage_of_clump bad).0 (damage_of_clump bad).1
+      → ReadsClumpAs score_of bytes (Err answer)
   damaged bad answer first is =
-      subst (λ (a : ReadBad). ReadsAs score_of bytes (Err a)) (sym is) (bad, first, refl)
+      subst (λ (a : ReadBad). ReadsClumpAs score_of bytes (Err a)) (sym is) (bad, first, refl)
 
-  pub reads_refusal : (bad : ClumpBad) (answer : ReadBad) → first_bad score_of bytes ≡ Some bad
-      → (¬ (bad ≡ ClumpNoMemory) → answer ≡ Damaged (damage_of bad).0 (damage_of bad).1)
+  pub reads_refusal : (bad : ClumpBad) (answer : ReadBad) → first_bad_clump score_of bytes ≡ Some bad
+      → (¬ (bad ≡ ClumpNoMemory) → answer ≡ Damaged (damage_of_clump bad).0 (damage_of_clump bad).1)
       → (bad ≡ ClumpNoMemory → answer ≡ NoMemory)
-      → ReadsAs score_of bytes (Err answer)
+      → ReadsClumpAs score_of bytes (Err answer)
   reads_refusal ClumpNoMemory answer first found memory =
-      subst (λ (a : ReadBad). ReadsAs score_of bytes (Err a)) (sym (memory refl)) tt
+      subst (λ (a : ReadBad). ReadsClumpAs score_of bytes (Err a)) (sym (memory refl)) tt
   reads_refusal Short answer first found memory =
       damaged Short answer first (found (λ is. cc))
   reads_refusal (Magic it) answer first found memory =
@@ -136,7 +136,7 @@ moved_front bytes k long few =
         zeroth : n ≡ 0 + n
         zeroth = omega arith
 
-none_first : (first later : Option ClumpBad) → or_else first later ≡ None
+none_first : (first later : Option ClumpBad) → first_fault first later ≡ None
     → (first ≡ None) × (later ≡ None)
 none_first (Some bad) later none = absurd (cc)
 none_first None later none = (refl, none)
@@ -155,8 +155,8 @@ module _ (score_of : List ℕ → List ℕ) (header block : List ℕ) (len : len
       ∙ get_or_append_left header block 0 (34 + k) (omega (arith, len, below))))
       (are (34 + k))
 
-  pub good_stored : first_bad score_of (header ++ block) ≡ None
-      → IsStored score_of (stored_in (header ++ block))
+  pub good_stored : first_bad_clump score_of (header ++ block) ≡ None
+      → IsStoredBlock score_of (stored_in (header ++ block))
   good_stored good =
       let bytes : List ℕ = header ++ block in
       let s : Stored = stored_in bytes in
@@ -191,7 +191,7 @@ module _ (score_of : List ℕ → List ℕ) (header block : List ℕ) (len : len
       ∙ sym (get_or-drop 5 header k 0)
 
   -- whose block has as many bytes as the header says
-  pub good_len : first_bad score_of (header ++ block) ≡ None
+  pub good_len : first_bad_clump score_of (header ++ block) ≡ None
       → size_in header ≡ length (stored_in (header ++ block)).block
   good_len good =
       let bytes : List ℕ = header ++ block in
@@ -207,12 +207,12 @@ module _ (score_of : List ℕ → List ℕ) (header block : List ℕ) (len : len
 
 -- at its place stands the clump of a block
 pub begins_there : (score_of : List ℕ → List ℕ) (region : Region) (old : Content) (before behind : List Stored) (s : Stored) (file bytes : List ℕ) (offset : ℕ)
-    → IsContent score_of region.len old → HasBlocks region old.stored file → old.stored ≡ before ++ s ∷ behind → offset ≡ offset_of before
-    → bytes ≡ clump_at region offset file → BeginsWith score_of s bytes
+    → IsArenaContent score_of region.len old → HasBlocks region old.stored file → old.stored ≡ before ++ s ∷ behind → offset ≡ offset_of before
+    → bytes ≡ clump_at region offset file → BeginsWithClump score_of s bytes
 begins_there score_of region old before behind s file bytes offset content blocks split offset_is is = record {
   stored = stored score_of region old before behind s file content blocks split;
   spelling = (
     [],
-    is ∙ ap (λ (n : ℕ). clump_at region n file) offset_is ∙ clump_there score_of region old before behind s file content blocks split ∙ sym (append-nil (spelled s)),
+    is ∙ ap (λ (n : ℕ). clump_at region n file) offset_is ∙ clump_there score_of region old before behind s file content blocks split ∙ sym (append-nil (clump_bytes s)),
   );
 }

@@ -10,70 +10,70 @@ use Rattle.vt_twin.specs.declared.step.Step.TheVariants.{More, Done}
 use Rattle.vt_twin.specs.Frames.{current_frame}
 use Rattle.vt_disk.specs.DeviceCalls.DeviceCall.{sync}
 use Rattle.vt_twin.specs.Calls.{call_at}
-use Rattle.vt_twin.specs.Twin.{TwinState, Advances as TwinAdvances, calls_made, next_call, next_frame, with_change, without_spare, after_last as twin_after_last}
-use Rattle.vt_twin.specs.Sound.{IsSound as IsSoundTwin, frame_after}
+use Rattle.vt_twin.specs.Twin.{TwinState, TwinAdvances, twin_calls_made, next_call, next_frame, with_change, without_spare, twin_after_last}
+use Rattle.vt_twin.specs.Sound.{IsSoundTwin, frame_after}
 use Rattle.vt_twin.proofs.Sound.{sound_moved}
 use Rattle.vt_twin.proofs.Changes.{none_made, begun_made, is_changing}
 use Rattle.vt_twin.proofs.Steps.{sound_gives}
 use Rattle.vt_clump.specs.declared.packed.Packed.{Packed}
-use Rattle.vt_clump.specs.Spelling.{Stored, spelled}
+use Rattle.vt_clump.specs.Spelling.{Stored, clump_bytes}
 use Rattle.vt_clump.specs.Clumps.{stored_of}
 use Rattle.vt_model.specs.declared.TheConstants.{ARENA_HEAD_LEN}
 use Rattle.vt_arena.specs.declared.TheConstants.{FRAME_LEN, FIELDS_LEN}
 use Rattle.vt_arena.specs.declared.head.ArenaHead.{ArenaHead}
-use Rattle.vt_arena.specs.Arena.{ArenaState, added_by, next_content, pieces, after_last, content_after, HeadAdvances, PieceAdvances}
-use Rattle.vt_arena.specs.Heads.{fields_of, frame_of}
-use Rattle.vt_arena.specs.Layout.{Content, IsContent, IsArena, HasBlocks, StandsAt, InHead, clumps_of, directory_of, clumps_place, directory_place, head_place, used_of, head_of}
+use Rattle.vt_arena.specs.Arena.{ArenaState, added_by_commit, next_content, pieces, after_last, content_after, HeadAdvances, PieceAdvances}
+use Rattle.vt_arena.specs.Heads.{fields_of, head_frame}
+use Rattle.vt_arena.specs.Layout.{Content, IsArenaContent, IsArena, HasBlocks, BytesStandAt, InHead, clumps_of, directory_of, clumps_place, directory_place, head_place, used_of, arena_head}
 use Rattle.vt_arena.specs.Places.{directory_room, arena_room}
-use Rattle.vt_arena.specs.Sound.{IsSound, HasPieces, GivesOldOrNext, HasBegunSelector, clumps_made}
+use Rattle.vt_arena.specs.Sound.{IsSoundArena, HasPieces, GivesOldOrNext, HasBegunSelector, clumps_made}
 use Rattle.vt_arena.proofs.Layouts.{stands-sum, stands_same, flat_map-append, directory-append, length-clumps, length-directory, content_fits, All-stored}
 
 -- the fields of a frame
 pub length-fields : (h : ArenaHead) → length h.chain.0 ≡ 20 → length (fields_of h) ≡ FIELDS_LEN
 length-fields h chain = omega (arith, chain)
 
-pub frame_fields : (h : ArenaHead) → length h.chain.0 ≡ 20 → take FIELDS_LEN (frame_of h) ≡ fields_of h
+pub frame_fields : (h : ArenaHead) → length h.chain.0 ≡ 20 → take FIELDS_LEN (head_frame h) ≡ fields_of h
 frame_fields h chain = take_at (fields_of h) (replicate (FRAME_LEN - FIELDS_LEN) 0) FIELDS_LEN (length-fields h chain)
 
 -- old and new clumps, old and new entries
 module _ (score_of : List ℕ → List ℕ) (a : ArenaState) (region : Region) (old : Content) (read : List ℕ) (images : List ℕ → Type 0)
-    (sound : IsSound score_of a region old read images) (written : a.written ≡ pieces a) where
-  count : length (added_by a) ≡ length a.staged
+    (sound : IsSoundArena score_of a region old read images) (written : a.written ≡ pieces a) where
+  count : length (added_by_commit a) ≡ length a.staged
   count = length-map a.staged stored_of
 
-  all_clumps : clumps_made a ≡ added_by a
-  all_clumps = take_all a.written (added_by a) (omega (arith, written, count))
+  all_clumps : clumps_made a ≡ added_by_commit a
+  all_clumps = take_all a.written (added_by_commit a) (omega (arith, written, count))
 
-  entries : (file : List ℕ) → HasPieces a region old file → StandsAt (directory_place region (length old.stored + length (added_by a))) (directory_of (added_by a)) file
-  entries file made = subst (λ (n : ℕ). StandsAt (directory_place region (length old.stored + n)) (directory_of (added_by a)) file) (sym count) (at a.staged refl)
+  entries : (file : List ℕ) → HasPieces a region old file → BytesStandAt (directory_place region (length old.stored + length (added_by_commit a))) (directory_of (added_by_commit a)) file
+  entries file made = subst (λ (n : ℕ). BytesStandAt (directory_place region (length old.stored + n)) (directory_of (added_by_commit a)) file) (sym count) (at a.staged refl)
     where
-      at : (ps : List Packed) → a.staged ≡ ps → StandsAt (directory_place region (length old.stored + length a.staged)) (directory_of (added_by a)) file
-      at [] is = subst (λ (ps : List Packed). StandsAt (directory_place region (length old.stored + length a.staged)) (directory_of (map stored_of ps)) file) (sym is) refl
+      at : (ps : List Packed) → a.staged ≡ ps → BytesStandAt (directory_place region (length old.stored + length a.staged)) (directory_of (added_by_commit a)) file
+      at [] is = subst (λ (ps : List Packed). BytesStandAt (directory_place region (length old.stored + length a.staged)) (directory_of (map stored_of ps)) file) (sym is) refl
       at (p ∷ ps) is = made.directory (omega (arith, written, ap (λ (l : List Packed). length l) is))
 
   pub joined : (file : List ℕ) → HasBlocks region old.stored file → HasPieces a region old file → HasBlocks region (next_content a old).stored file
   joined file blocks made =
-      let more : List Stored = added_by a in
+      let more : List Stored = added_by_commit a in
       let fits = content_fits score_of region.len (next_content a old) sound.next_content_is in
       let counted : length (old.stored ++ more) ≡ length old.stored + length more = length-append old.stored more in
       let clumps_len : length (clumps_of old.stored) ≡ used_of old.stored = length-clumps score_of old.stored sound.content.stored in
       let more_len : length (directory_of more) ≡ directory_room (length more) =
       length-directory score_of more (All-stored score_of a.staged sound.packed) in
-      let clumps : StandsAt (clumps_place region old.stored) (clumps_of more) file =
-      subst (λ (l : List Stored). StandsAt (clumps_place region old.stored) (clumps_of l) file) all_clumps made.clumps in
+      let clumps : BytesStandAt (clumps_place region old.stored) (clumps_of more) file =
+      subst (λ (l : List Stored). BytesStandAt (clumps_place region old.stored) (clumps_of l) file) all_clumps made.clumps in
       record {
-        clumps = subst (λ (l : List ℕ). StandsAt (region.start + ARENA_HEAD_LEN) l file) (sym (flat_map-append spelled old.stored more))
+        clumps = subst (λ (l : List ℕ). BytesStandAt (region.start + ARENA_HEAD_LEN) l file) (sym (flat_map-append clump_bytes old.stored more))
             (stands-sum (region.start + ARENA_HEAD_LEN) (clumps_of old.stored) (clumps_of more) file blocks.clumps
-            (subst (λ (at : ℕ). StandsAt at (clumps_of more) file) (omega (arith, clumps_len)) clumps));
-        directory = subst (λ (l : List ℕ). StandsAt (directory_place region (length (old.stored ++ more))) l file) (sym (directory-append old.stored more))
-            (subst (λ (k : ℕ). StandsAt (directory_place region k) (directory_of more ++ directory_of old.stored) file) (sym counted)
+            (subst (λ (at : ℕ). BytesStandAt at (clumps_of more) file) (omega (arith, clumps_len)) clumps));
+        directory = subst (λ (l : List ℕ). BytesStandAt (directory_place region (length (old.stored ++ more))) l file) (sym (directory-append old.stored more))
+            (subst (λ (k : ℕ). BytesStandAt (directory_place region k) (directory_of more ++ directory_of old.stored) file) (sym counted)
             (stands-sum (directory_place region (length old.stored + length more)) (directory_of more) (directory_of old.stored) file (entries file made)
-            (subst (λ (at : ℕ). StandsAt at (directory_of old.stored) file) (omega (arith, more_len, fits, counted)) blocks.directory)));
+            (subst (λ (at : ℕ). BytesStandAt at (directory_of old.stored) file) (omega (arith, more_len, fits, counted)) blocks.directory)));
       }
 
 -- What a crash between two calls leaves.
 module _ (score_of : List ℕ → List ℕ) (a : ArenaState) (region : Region) (old : Content) (read : List ℕ) (images : List ℕ → Type 0)
-    (sound : IsSound score_of a region old read images) (c : List ℕ) (left : images c) where
+    (sound : IsSoundArena score_of a region old read images) (c : List ℕ) (left : images c) where
   at_frame : {frame : List ℕ} → current_frame region a.twin.frame_len c ≡ frame → current_frame region FRAME_LEN c ≡ frame
   at_frame {frame} is = subst (λ (n : ℕ). current_frame region n c ≡ frame) sound.frame_len is
 
@@ -84,7 +84,7 @@ module _ (score_of : List ℕ → List ℕ) (a : ArenaState) (region : Region) (
     blocks = sound.kept c left;
   }
 
-  gives_next : 2 ≤ calls_made a.twin → current_frame region a.twin.frame_len c ≡ next_frame a.twin → IsArena score_of region a.number (next_content a old) c
+  gives_next : 2 ≤ twin_calls_made a.twin → current_frame region a.twin.frame_len c ≡ next_frame a.twin → IsArena score_of region a.number (next_content a old) c
   gives_next made is =
       let begun = sound.begun (is_changing a.twin (omega (arith, made))) in record {
         content = sound.next_content_is;
@@ -102,8 +102,8 @@ module _ (score_of : List ℕ → List ℕ) (a : ArenaState) (region : Region) (
 
 -- the head's change is begun
 pub begin_sound : (score_of : List ℕ → List ℕ) (a : ArenaState) (region : Region) (old : Content) (read : List ℕ) (images : List ℕ → Type 0)
-    → a.twin.change ≡ None → a.written ≡ pieces a → IsSound score_of a region old read images
-    → IsSound score_of (record a { twin = with_change (frame_of a.next) a.twin }) region old read images
+    → a.twin.change ≡ None → a.written ≡ pieces a → IsSoundArena score_of a region old read images
+    → IsSoundArena score_of (record a { twin = with_change (head_frame a.next) a.twin }) region old read images
 begin_sound score_of a region old read images rest written sound = record {
   len = sound.len;
   frame_len = sound.frame_len;
@@ -132,14 +132,14 @@ begin_sound score_of a region old read images rest written sound = record {
 -- a call of it, which changes the head alone
 module _ (score_of : List ℕ → List ℕ) (a : ArenaState) (region : Region) (old : Content) (read reads : List ℕ) (before after : List ℕ → Type 0)
     (least : 32768 ≤ region.len) (changes : ChangesAt (InHead region) before after) (same : SameBut (InHead region) read reads)
-    (sound : IsSound score_of a region old read before) where
+    (sound : IsSoundArena score_of a region old read before) where
   fits : used_of (next_content a old).stored + directory_room (length (next_content a old).stored) ≤ arena_room region.len
   fits = content_fits score_of region.len (next_content a old) sound.next_content_is
 
-  counted : length (old.stored ++ added_by a) ≡ length old.stored + length (added_by a)
-  counted = length-append old.stored (added_by a)
+  counted : length (old.stored ++ added_by_commit a) ≡ length old.stored + length (added_by_commit a)
+  counted = length-append old.stored (added_by_commit a)
 
-  stays : (place : ℕ) (bytes file files : List ℕ) → region.start + ARENA_HEAD_LEN ≤ place → SameBut (InHead region) file files → StandsAt place bytes file → StandsAt place bytes files
+  stays : (place : ℕ) (bytes file files : List ℕ) → region.start + ARENA_HEAD_LEN ≤ place → SameBut (InHead region) file files → BytesStandAt place bytes file → BytesStandAt place bytes files
   stays place bytes file files behind but = stands_same (InHead region) place bytes file files but (λ i above below here. omega (arith, above, behind, here.1))
 
   blocks_after : (c : List ℕ) → after c → HasBlocks region old.stored c
@@ -154,21 +154,21 @@ module _ (score_of : List ℕ → List ℕ) (a : ArenaState) (region : Region) (
   pieces_after file files but made = record {
     clumps = stays (clumps_place region old.stored) (clumps_of (clumps_made a)) file files (omega arith) but made.clumps;
     directory = λ written.
-        stays (directory_place region (length old.stored + length a.staged)) (directory_of (added_by a)) file files
+        stays (directory_place region (length old.stored + length a.staged)) (directory_of (added_by_commit a)) file files
         (omega (arith, fits, counted, least, length-map a.staged stored_of)) but (made.directory written);
   }
 
   read_after : HasPieces a region old reads
   read_after = pieces_after read reads same sound.written
 
-  synced_after : 2 ≤ calls_made a.twin → (c : List ℕ) → after c → HasPieces a region old c
+  synced_after : 2 ≤ twin_calls_made a.twin → (c : List ℕ) → after c → HasPieces a region old c
   synced_after made c left = let from = changes c left in pieces_after from.0 c from.2 (sound.synced made from.0 from.1)
 
   -- one that isn't the last, or fails
   pub head_sound : (later : TwinState) (b : Bool) → IsSoundTwin later region sound.frame reads after → later.frame_len ≡ a.twin.frame_len
       → IsSome a.twin.change → next_frame later ≡ next_frame a.twin
-      → (2 ≤ calls_made later → (2 ≤ calls_made a.twin) ⊎ Only reads after)
-      → IsSound score_of (record a { twin = later; failed = b }) region old reads after
+      → (2 ≤ twin_calls_made later → (2 ≤ twin_calls_made a.twin) ⊎ Only reads after)
+      → IsSoundArena score_of (record a { twin = later; failed = b }) region old reads after
   head_sound later b twin frame_len some next_is settles = record {
     len = sound.len;
     frame_len = frame_len ∙ sound.frame_len;
@@ -189,25 +189,25 @@ module _ (score_of : List ℕ → List ℕ) (a : ArenaState) (region : Region) (
         (λ settled. let is = settled c left in record {
           clumps = ap (λ (l : List ℕ). part (clumps_place region old.stored) (length (clumps_of (clumps_made a))) l) is ∙ read_after.clumps;
           directory = λ written.
-              ap (λ (l : List ℕ). part (directory_place region (length old.stored + length a.staged)) (length (directory_of (added_by a))) l) is ∙ read_after.directory written;
+              ap (λ (l : List ℕ). part (directory_place region (length old.stored + length a.staged)) (length (directory_of (added_by_commit a))) l) is ∙ read_after.directory written;
         })
         (settles made);
   }
 
   -- the last one: what was staged is committed
-  pub done_sound : IsSoundTwin (without_spare (twin_after_last a.twin)) region (next_frame a.twin) reads after → 2 ≤ calls_made a.twin
-      → IsSound score_of (after_last a) region (next_content a old) reads after
+  pub done_sound : IsSoundTwin (without_spare (twin_after_last a.twin)) region (next_frame a.twin) reads after → 2 ≤ twin_calls_made a.twin
+      → IsSoundArena score_of (after_last a) region (next_content a old) reads after
   done_sound twin made =
       let begun = sound.begun (is_changing a.twin (omega (arith, made))) in
       let all : (next_content a old).stored ++ [] ≡ (next_content a old).stored = append-nil (next_content a old).stored in record {
         len = sound.len;
         frame_len = sound.frame_len;
         head = sound.next;
-        next = sound.next ∙ (λ i. head_of score_of a.number (record { sealed = a.next.sealed; stored = sym all i }));
+        next = sound.next ∙ (λ i. arena_head score_of a.number (record { sealed = a.next.sealed; stored = sym all i }));
         chain = sound.chain;
         packed = λ j d below. absurd (omega (arith, below));
         content = sound.next_content_is;
-        next_content_is = subst (λ (l : List Stored). IsContent score_of region.len (record { sealed = a.next.sealed; stored = l })) (sym all)
+        next_content_is = subst (λ (l : List Stored). IsArenaContent score_of region.len (record { sealed = a.next.sealed; stored = l })) (sym all)
             (record { stored = sound.next_content_is.stored; fit = sound.next_content_is.fit });
         begun = λ some. cc;
         frame = next_frame a.twin;
@@ -219,14 +219,14 @@ module _ (score_of : List ℕ → List ℕ) (a : ArenaState) (region : Region) (
       }
 
   -- what the last one leaves is the next arena
-  pub done_gives : IsSound score_of (after_last a) region (next_content a old) reads after
+  pub done_gives : IsSoundArena score_of (after_last a) region (next_content a old) reads after
       → (c : List ℕ) → after c → IsArena score_of region a.number (next_content a old) c
   done_gives later c left = rest_gives score_of (after_last a) region (next_content a old) reads after later c left refl
 
 -- a call of the head's change, whatever came of it
 module _ {E : Type 0} (score_of : List ℕ → List ℕ) (a : ArenaState) (region : Region) (old : Content) (read reads : List ℕ) (before after : List ℕ → Type 0)
     (least : 32768 ≤ region.len) (changes : ChangesAt (InHead region) before after) (same : SameBut (InHead region) read reads)
-    (sound : IsSound score_of a region old read before) (some : IsSome a.twin.change) (t : TwinState) (len : t.frame_len ≡ a.twin.frame_len) where
+    (sound : IsSoundArena score_of a region old read before) (some : IsSome a.twin.change) (t : TwinState) (len : t.frame_len ≡ a.twin.frame_len) where
   moved : (result : Result Step E)
       → ((frame : List ℕ) → IsSoundTwin a.twin (head_place region) frame read before
       → IsSoundTwin t (head_place region) (frame_after result a.twin frame) reads after)
@@ -236,31 +236,31 @@ module _ {E : Type 0} (score_of : List ℕ → List ℕ) (a : ArenaState) (regio
       (twin sound.frame (sound_moved a.twin region (head_place region) sound.frame _ _ refl sound.twin))
 
   pub head_step : (result : Result Step E) (new : ArenaState) → HeadAdvances result a new → TwinAdvances result a.twin t
-      → IfOk result (λ step. (step ≡ Done) ↔ (calls_made a.twin ≡ 3))
+      → IfOk result (λ step. (step ≡ Done) ↔ (twin_calls_made a.twin ≡ 3))
       → OnOk result (next_call a.twin (head_place region) ≡ sync → Only reads after)
       → ((frame : List ℕ) → IsSoundTwin a.twin (head_place region) frame read before
       → IsSoundTwin t (head_place region) (frame_after result a.twin frame) reads after)
-      → IsSound score_of new region (content_after result a old) reads after
+      → IsSoundArena score_of new region (content_after result a old) reads after
   head_step (Err e) new steps twin_steps done settled twin =
-      subst (λ (s : ArenaState). IsSound score_of s region old reads after) (sym steps)
-      (subst (λ (u : TwinState). IsSound score_of (record a { twin = u; failed = true }) region old reads after) twin_steps
+      subst (λ (s : ArenaState). IsSoundArena score_of s region old reads after) (sym steps)
+      (subst (λ (u : TwinState). IsSoundArena score_of (record a { twin = u; failed = true }) region old reads after) twin_steps
       (head_sound score_of a region old read reads before after least changes same sound t true (moved (Err e) twin) len some
       (ap (λ (u : TwinState). next_frame u) twin_steps)
-      (λ made. inl (subst (λ (u : TwinState). 2 ≤ calls_made u) twin_steps made))))
+      (λ made. inl (subst (λ (u : TwinState). 2 ≤ twin_calls_made u) twin_steps made))))
   head_step (Ok More) new steps twin_steps done settled twin =
-      subst (λ (s : ArenaState). IsSound score_of s region old reads after) (sym steps)
-      (subst (λ (u : TwinState). IsSound score_of (record a { twin = u }) region old reads after) twin_steps
+      subst (λ (s : ArenaState). IsSoundArena score_of s region old reads after) (sym steps)
+      (subst (λ (u : TwinState). IsSoundArena score_of (record a { twin = u }) region old reads after) twin_steps
       (head_sound score_of a region old read reads before after least changes same sound t a.failed (moved (Ok More) twin) len some
       (ap (λ (u : TwinState). next_frame u) twin_steps)
-      (λ made. second (subst (λ (u : TwinState). 2 ≤ calls_made u) twin_steps made))))
+      (λ made. second (subst (λ (u : TwinState). 2 ≤ twin_calls_made u) twin_steps made))))
     where
-      second : 2 ≤ calls_made a.twin + 1 → (2 ≤ calls_made a.twin) ⊎ Only reads after
+      second : 2 ≤ twin_calls_made a.twin + 1 → (2 ≤ twin_calls_made a.twin) ⊎ Only reads after
       second made = ⊎_elim
-          (λ (first : calls_made a.twin ≡ 1). inr (settled (ap (λ (n : ℕ). call_at n (head_place region) a.twin.frame_len a.twin.current (next_frame a.twin)) first)))
-          (λ (other : calls_made a.twin ≡ 1 → ⊥). inl (omega (arith, made, other)))
-          (cases_eq (calls_made a.twin) 1)
+          (λ (first : twin_calls_made a.twin ≡ 1). inr (settled (ap (λ (n : ℕ). call_at n (head_place region) a.twin.frame_len a.twin.current (next_frame a.twin)) first)))
+          (λ (other : twin_calls_made a.twin ≡ 1 → ⊥). inl (omega (arith, made, other)))
+          (cases_eq (twin_calls_made a.twin) 1)
   head_step (Ok Done) new steps twin_steps done settled twin =
-      subst (λ (s : ArenaState). IsSound score_of s region (next_content a old) reads after) (sym steps)
+      subst (λ (s : ArenaState). IsSoundArena score_of s region (next_content a old) reads after) (sym steps)
       (done_sound score_of a region old read reads before after least changes same sound
       (record { number = ends.number; kept = ends.kept; named = ends.named; written = ends.written; synced = ends.synced; selected = ends.selected })
       (omega (arith, done.0 refl)))

@@ -4,11 +4,11 @@ use Rattle.std.specs.Prelude.{IfOk, nat_lt}
 use Rattle.vt_disk.specs.declared.region.Region.{Region}
 use Rattle.vt_twin.specs.declared.step.Step.{Step}
 use Rattle.vt_twin.specs.declared.step.Step.TheVariants.{More, Done}
-use Rattle.vt_twin.specs.Twin.{TwinState, calls_made as twin_calls_made, calls_begun, with_change, after_call, after_fault as twin_after_fault}
-use Rattle.vt_arena.specs.Arena.{ArenaState, pieces, commit_calls, calls_made, changing, next_content, after_piece, after_head, after_last, with_failure, Advances, content_after}
-use Rattle.vt_arena.specs.Heads.{frame_of}
+use Rattle.vt_twin.specs.Twin.{TwinState, twin_calls_made, calls_begun, with_change, after_call, twin_after_fault}
+use Rattle.vt_arena.specs.Arena.{ArenaState, pieces, commit_calls, calls_made, changing, next_content, after_piece, after_head, after_last, with_failure, ArenaAdvances, content_after}
+use Rattle.vt_arena.specs.Heads.{head_frame}
 use Rattle.vt_arena.specs.Layout.{Content, IsArena}
-use Rattle.vt_arena.specs.Sound.{IsSound, HasBegunSelector, GivesOldOrNext}
+use Rattle.vt_arena.specs.Sound.{IsSoundArena, HasBegunSelector, GivesOldOrNext}
 use Rattle.vt_twin.proofs.Changes.{begun_made, is_changing}
 use Rattle.vt_arena.proofs.Commits.{arena_gives, rest_gives}
 
@@ -25,7 +25,7 @@ begun_running : (t : TwinState) → t.failed ≡ false → 3 ≤ calls_begun (af
 begun_running t is begun = let more : 3 ≤ twin_calls_made t + 1 + 0 = subst (λ (b : Bool). 3 ≤ twin_calls_made t + 1 + (if b then 1 else 0)) is begun in omega (arith, more)
 
 module _ (score_of : List ℕ → List ℕ) (a : ArenaState) (region : Region) (old : Content) (read reads : List ℕ) (before after : List ℕ → Type 0)
-    (sound : IsSound score_of a region old read before) (c : List ℕ) where
+    (sound : IsSoundArena score_of a region old read before) (c : List ℕ) where
   abbrev Gives : Type 0
   Gives = GivesOldOrNext (commit_calls a ≤ calls_made a + 2) score_of region a.number old (next_content a old) c
 
@@ -38,7 +38,7 @@ module _ (score_of : List ℕ → List ℕ) (a : ArenaState) (region : Region) (
 
   module _ (runs : a.twin.failed ≡ false) (left : after c) where
     later_gives : (later : ArenaState) → later.number ≡ a.number → next_content later old ≡ next_content a old → (HasBegunSelector later → 2 ≤ twin_calls_made a.twin)
-        → IsSound score_of later region old reads after → Gives
+        → IsSoundArena score_of later region old reads after → Gives
     later_gives later number next begun kept = ⊎_elim
         (λ gives. inl (subst (λ (n : ℕ). IsArena score_of region n old c) number gives))
         (λ gives. inr (
@@ -47,34 +47,34 @@ module _ (score_of : List ℕ → List ℕ) (a : ArenaState) (region : Region) (
         ))
         (arena_gives score_of later region old reads after kept c left)
 
-    step_gives : (b : Bool) → IsSound score_of (if b then after_piece a else after_head a) region old reads after → Gives
+    step_gives : (b : Bool) → IsSoundArena score_of (if b then after_piece a else after_head a) region old reads after → Gives
     step_gives true kept = later_gives (after_piece a) refl refl (begun_made a.twin) kept
     step_gives false kept = later_gives (after_head a) refl refl
-        (λ begun. made_before (is_some a.twin.change) (frame_of a.next) a.twin
-        (begun_running (changing a) (runs_on (is_some a.twin.change) (frame_of a.next) a.twin ∙ runs) begun)) kept
+        (λ begun. made_before (is_some a.twin.change) (head_frame a.next) a.twin
+        (begun_running (changing a) (runs_on (is_some a.twin.change) (head_frame a.next) a.twin ∙ runs) begun)) kept
 
-    fault_gives : (b : Bool) → IsSound score_of (if b then with_failure a else record (with_failure a) { twin = twin_after_fault (changing a) }) region old reads after → Gives
+    fault_gives : (b : Bool) → IsSoundArena score_of (if b then with_failure a else record (with_failure a) { twin = twin_after_fault (changing a) }) region old reads after → Gives
     fault_gives true kept = later_gives (with_failure a) refl refl (begun_made a.twin) kept
     fault_gives false kept = later_gives (record (with_failure a) { twin = twin_after_fault (changing a) }) refl refl
-        (λ begun. made_before (is_some a.twin.change) (frame_of a.next) a.twin (omega (arith, begun))) kept
+        (λ begun. made_before (is_some a.twin.change) (head_frame a.next) a.twin (omega (arith, begun))) kept
 
     -- and at its end
-    pub gives_after : {E : Type 0} (r : Result Step E) (later : ArenaState) → Advances r a later
-        → IfOk r (λ step. (step ≡ Done) ↔ (calls_made a + 1 ≡ commit_calls a)) → IsSound score_of later region (content_after r a old) reads after → Gives
+    pub gives_after : {E : Type 0} (r : Result Step E) (later : ArenaState) → ArenaAdvances r a later
+        → IfOk r (λ step. (step ≡ Done) ↔ (calls_made a + 1 ≡ commit_calls a)) → IsSoundArena score_of later region (content_after r a old) reads after → Gives
     gives_after (Ok More) later steps done kept =
-        step_gives (nat_lt a.written (pieces a)) (subst (λ (s : ArenaState). IsSound score_of s region old reads after) steps kept)
+        step_gives (nat_lt a.written (pieces a)) (subst (λ (s : ArenaState). IsSoundArena score_of s region old reads after) steps kept)
     gives_after (Ok Done) later steps done kept =
         inr (
           omega (arith, done.0 refl),
-          rest_gives score_of (after_last a) region (next_content a old) reads after (subst (λ (s : ArenaState). IsSound score_of s region (next_content a old) reads after) steps kept) c left refl,
+          rest_gives score_of (after_last a) region (next_content a old) reads after (subst (λ (s : ArenaState). IsSoundArena score_of s region (next_content a old) reads after) steps kept) c left refl,
         )
     gives_after (Err e) later steps done kept =
-        fault_gives (nat_lt a.written (pieces a)) (subst (λ (s : ArenaState). IsSound score_of s region old reads after) steps kept)
+        fault_gives (nat_lt a.written (pieces a)) (subst (λ (s : ArenaState). IsSoundArena score_of s region old reads after) steps kept)
 
 -- after the last call
 pub gives_last : {E : Type 0} (score_of : List ℕ → List ℕ) (a later : ArenaState) (region : Region) (old : Content) (reads : List ℕ) (after : List ℕ → Type 0) (r : Result Step E) → r ≡ Ok Done
-    → Advances r a later → IsSound score_of later region (content_after r a old) reads after → (c : List ℕ) → after c → IsArena score_of region a.number (next_content a old) c
+    → ArenaAdvances r a later → IsSoundArena score_of later region (content_after r a old) reads after → (c : List ℕ) → after c → IsArena score_of region a.number (next_content a old) c
 gives_last {E} score_of a later region old reads after r is steps kept c left =
-    let last : Advances {E = E} (Ok Done) a later = subst (λ (q : Result Step E). Advances q a later) is steps in
-    let ends : IsSound score_of later region (next_content a old) reads after = subst (λ (q : Result Step E). IsSound score_of later region (content_after q a old) reads after) is kept in
-    rest_gives score_of (after_last a) region (next_content a old) reads after (subst (λ (s : ArenaState). IsSound score_of s region (next_content a old) reads after) last ends) c left refl
+    let last : ArenaAdvances {E = E} (Ok Done) a later = subst (λ (q : Result Step E). ArenaAdvances q a later) is steps in
+    let ends : IsSoundArena score_of later region (next_content a old) reads after = subst (λ (q : Result Step E). IsSoundArena score_of later region (content_after q a old) reads after) is kept in
+    rest_gives score_of (after_last a) region (next_content a old) reads after (subst (λ (s : ArenaState). IsSoundArena score_of s region (next_content a old) reads after) last ends) c left refl

@@ -8,8 +8,8 @@ use Rattle.vt_twin.specs.Frames.{frame_of as frame_at, current_frame, selector_s
 use Rattle.vt_model.specs.declared.TheConstants.{ARENA_HEAD_LEN}
 use Rattle.vt_arena.specs.declared.TheConstants.{FRAME_LEN, FIELDS_LEN}
 use Rattle.vt_arena.specs.declared.head.ArenaHead.{ArenaHead}
-use Rattle.vt_arena.specs.Heads.{fields_of, frame_of}
-use Rattle.vt_arena.specs.Layout.{IsArena, StandsAt, head_of, empty}
+use Rattle.vt_arena.specs.Heads.{fields_of, head_frame}
+use Rattle.vt_arena.specs.Layout.{IsArena, BytesStandAt, arena_head, empty}
 
 pub on_ok : {T E : Type 0} (r : Result T E) {P Q : Type 0} → (P → Q) → OnOk r P → OnOk r Q
 on_ok (Ok it) gives p = gives p
@@ -20,7 +20,7 @@ on_both (Ok it) gives p q = gives p q
 on_both (Err e) gives p q = p
 
 -- the frame that is written
-pub written_frame : (h : ArenaHead) (frame : List ℕ) → take FIELDS_LEN frame ≡ fields_of h → drop FIELDS_LEN frame ≡ drop FIELDS_LEN (replicate FRAME_LEN 0) → frame ≡ frame_of h
+pub written_frame : (h : ArenaHead) (frame : List ℕ) → take FIELDS_LEN frame ≡ fields_of h → drop FIELDS_LEN frame ≡ drop FIELDS_LEN (replicate FRAME_LEN 0) → frame ≡ head_frame h
 written_frame h frame fields rest =
     sym (take-append-drop FIELDS_LEN frame) ∙ (λ i. fields i ++ (rest ∙ drop-replicate {X = ℕ} FIELDS_LEN FRAME_LEN 0) i)
 
@@ -33,7 +33,7 @@ module _ (region : Region) (n : ℕ) (n_is : n ≡ FRAME_LEN) (file : List ℕ) 
   current_there i = part (region.start + sym n_is i * (slice_index file (region.start + 2 * sym n_is i) % 2)) (sym n_is i) file
 
   pub selector_there : part (region.start + 2 * n) (ARENA_HEAD_LEN - 2 * n) file ≡ selector_bytes 0 (ARENA_HEAD_LEN - 2 * n)
-      → StandsAt (selector_start region FRAME_LEN) (selector_bytes 0 (ARENA_HEAD_LEN - 2 * FRAME_LEN)) file
+      → BytesStandAt (selector_start region FRAME_LEN) (selector_bytes 0 (ARENA_HEAD_LEN - 2 * FRAME_LEN)) file
   selector_there is =
       let whole : length (selector_bytes 0 (ARENA_HEAD_LEN - 2 * FRAME_LEN)) ≡ ARENA_HEAD_LEN - 2 * n = omega (arith, length-replicate {A = ℕ} 8191 0, n_is) in
       let short : ARENA_HEAD_LEN - 2 * n ≡ ARENA_HEAD_LEN - 2 * FRAME_LEN = omega (arith, n_is) in
@@ -41,7 +41,7 @@ module _ (region : Region) (n : ℕ) (n_is : n ≡ FRAME_LEN) (file : List ℕ) 
 
 -- the empty arena
 pub empty_arena : (score_of : List ℕ → List ℕ) (region : Region) (number : ℕ) (file frame : List ℕ) → 32768 ≤ region.len
-    → current_frame region FRAME_LEN file ≡ frame → take FIELDS_LEN frame ≡ fields_of (head_of score_of number empty) → IsArena score_of region number empty file
+    → current_frame region FRAME_LEN file ≡ frame → take FIELDS_LEN frame ≡ fields_of (arena_head score_of number empty) → IsArena score_of region number empty file
 empty_arena score_of region number file frame least current fields = record {
   content = record { stored = λ k d below. absurd (omega (arith, below)); fit = omega arith };
   head = ap (λ (l : List ℕ). take FIELDS_LEN l) current ∙ fields;

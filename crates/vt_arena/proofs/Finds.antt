@@ -9,11 +9,11 @@ use Rattle.vt_disk.specs.declared.region.Region.{Region}
 use Rattle.vt_disk.specs.Disk.{part}
 use Rattle.vt_twin.specs.Frames.{named_number}
 use Rattle.vt_arena.specs.declared.TheConstants.{FRAME_LEN, FIELDS_LEN}
-use Rattle.vt_arena.specs.Faults.{bad_value, first_bad, Finds, Mounts}
-use Rattle.vt_arena.specs.declared.bad.ArenaBad.{ArenaBad}
-use Rattle.vt_arena.specs.declared.bad.ArenaBad.TheVariants.{NotFormatted, Torn, Fault, NoMemory}
-use Rattle.vt_arena.specs.Heads.{fields_of, flag_of, number_in, clumps_in, used_in}
-use Rattle.vt_arena.specs.Layout.{Content, IsContent, fields_at, head_of, used_of, chain_of}
+use Rattle.vt_arena.specs.Faults.{bad_value, first_bad_head, FindsArena, MountsArena}
+use Rattle.vt_arena.specs.declared.error.ArenaBad.{ArenaBad}
+use Rattle.vt_arena.specs.declared.error.ArenaBad.TheVariants.{NotFormatted, Torn, Fault, NoMemory}
+use Rattle.vt_arena.specs.Heads.{fields_of, flag_of, number_in, clump_count_in, used_in}
+use Rattle.vt_arena.specs.Layout.{Content, IsArenaContent, fields_at, arena_head, used_of, chain_of_blocks}
 use Rattle.vt_arena.specs.Places.{directory_room, arena_room}
 use Rattle.vt_arena.proofs.Layouts.{content_fits}
 use Rattle.vt_arena.proofs.Unique.{read_clumps, read_used}
@@ -45,23 +45,23 @@ flag_most : (b : Bool) → flag_of b ≤ 1
 flag_most true = omega arith
 flag_most false = omega arith
 
-pub arena_passes : (score_of : List ℕ → List ℕ) (len number : ℕ) (a : Content) → number < 2 ^ 32 → len ≤ 2 ^ 30 → IsContent score_of len a
-    → first_bad number len (fields_of (head_of score_of number a)) ≡ None
+pub arena_passes : (score_of : List ℕ → List ℕ) (len number : ℕ) (a : Content) → number < 2 ^ 32 → len ≤ 2 ^ 30 → IsArenaContent score_of len a
+    → first_bad_head number len (fields_of (arena_head score_of number a)) ≡ None
 arena_passes score_of len number a fits most is =
-    let numbered : number_in (fields_of (head_of score_of number a)) ≡ number =
-    big_number-reads_back 4 number (flag_of a.sealed ∷ (big_bytes 4 (length a.stored) ++ (big_bytes 8 (used_of a.stored) ++ chain_of score_of a.stored))) fits in
-    value_passes number len 1 (number_in (fields_of (head_of score_of number a))) (flag_of a.sealed)
-    (used_in (fields_of (head_of score_of number a)) + directory_room (clumps_in (fields_of (head_of score_of number a)))) refl numbered (flag_most a.sealed)
+    let numbered : number_in (fields_of (arena_head score_of number a)) ≡ number =
+    big_number-reads_back 4 number (flag_of a.sealed ∷ (big_bytes 4 (length a.stored) ++ (big_bytes 8 (used_of a.stored) ++ chain_of_blocks score_of a.stored))) fits in
+    value_passes number len 1 (number_in (fields_of (arena_head score_of number a))) (flag_of a.sealed)
+    (used_in (fields_of (arena_head score_of number a)) + directory_room (clump_count_in (fields_of (arena_head score_of number a)))) refl numbered (flag_most a.sealed)
     (omega (arith, content_fits score_of len a is, read_used score_of len number most a is, ap directory_room (read_clumps score_of len number most a is)))
 
-pub finds_bad : (number len : ℕ) (fields : List ℕ) (bad : ArenaBad) → first_bad number len fields ≡ Some bad → ¬ (bad ≡ NoMemory) → Finds number len fields (Err bad)
+pub finds_bad : (number len : ℕ) (fields : List ℕ) (bad : ArenaBad) → first_bad_head number len fields ≡ Some bad → ¬ (bad ≡ NoMemory) → FindsArena number len fields (Err bad)
 finds_bad number len fields NotFormatted is memory = is
 finds_bad number len fields (Torn field found want) is memory = is
 finds_bad number len fields Fault is memory = tt
 finds_bad number len fields NoMemory is memory = memory refl
 
 -- what finding answers, mounting does
-pub mounts_bad : (number len : ℕ) (fields : List ℕ) (bad : ArenaBad) → Finds number len fields (Err bad) → Mounts number len fields (Err bad)
+pub mounts_bad : (number len : ℕ) (fields : List ℕ) (bad : ArenaBad) → FindsArena number len fields (Err bad) → MountsArena number len fields (Err bad)
 mounts_bad number len fields NotFormatted finds = finds
 mounts_bad number len fields (Torn field found want) finds = finds
 mounts_bad number len fields Fault finds = tt

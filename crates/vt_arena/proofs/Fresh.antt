@@ -13,8 +13,8 @@ use Rattle.vt_arena.specs.declared.head.ArenaHead.{ArenaHead}
 use Rattle.vt_arena.specs.Arena.{fresh_arena}
 use Rattle.vt_arena.specs.Faults.{CanStand}
 use Rattle.vt_arena.specs.Heads.{fields_of}
-use Rattle.vt_arena.specs.Layout.{Content, IsContent, IsArena, head_of}
-use Rattle.vt_arena.specs.Sound.{IsRegion, IsSettled, IsSound}
+use Rattle.vt_arena.specs.Layout.{Content, IsArenaContent, IsArena, arena_head}
+use Rattle.vt_arena.specs.Sound.{IsRegion, IsSettled, IsSoundArena}
 use Rattle.vt_arena.proofs.Regions.{frame_in_region, named_in_region, blocks_in_region}
 
 pub settled_elsewhere : (region other : Region) (read reads : List ℕ) (before after : List ℕ → Type 0) → ((i : ℕ) → Inside other i → ¬ Inside region i)
@@ -28,17 +28,17 @@ settled_elsewhere region other read reads before after apart same changes settle
 
 pub fresh_sound : (score_of : List ℕ → List ℕ) (region : Region) (size number current : ℕ) (old : Content) (head : ArenaHead) (read : List ℕ) (images : List ℕ → Type 0)
     → IsRegion region size → IsSettled region read images → IsArena score_of region number old read → current ≡ named_number region FRAME_LEN read
-    → head ≡ head_of score_of number old → CanStand number region.len head
-    → IsSound score_of (fresh_arena region.len current head) region old read images
+    → head ≡ arena_head score_of number old → CanStand number region.len head
+    → IsSoundArena score_of (fresh_arena region.len current head) region old read images
 fresh_sound score_of region size number current old head read images is settled arena current_is head_is stand = record {
   len = refl;
   frame_len = refl;
   head = own;
-  next = own ∙ (λ i. head_of score_of head.number (same i));
+  next = own ∙ (λ i. arena_head score_of head.number (same i));
   chain = stand.chain;
   packed = λ k d below. absurd (omega (arith, below));
   content = arena.content;
-  next_content_is = subst (λ (c : Content). IsContent score_of region.len c) same arena.content;
+  next_content_is = subst (λ (c : Content). IsArenaContent score_of region.len c) same arena.content;
   begun = λ some. cc;
   frame = current_frame region FRAME_LEN read;
   twin = record {
@@ -62,8 +62,8 @@ fresh_sound score_of region size number current old head read images is settled 
     two : current < 2
     two = omega (arith, current_is, mod-lt (slice_index read (region.start + 2 * FRAME_LEN)) {m = 2} (omega arith))
 
-    own : head ≡ head_of score_of head.number old
-    own = head_is ∙ ap (λ (n : ℕ). head_of score_of n old) (sym stand.number_is)
+    own : head ≡ arena_head score_of head.number old
+    own = head_is ∙ ap (λ (n : ℕ). arena_head score_of n old) (sym stand.number_is)
 
     same : old ≡ record { sealed = head.sealed; stored = old.stored ++ [] }
     same i = record { sealed = sym (ap (λ (h : ArenaHead). h.sealed) head_is) i; stored = sym (append-nil old.stored) i }

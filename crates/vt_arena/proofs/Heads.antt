@@ -3,7 +3,7 @@ use Rattle.std.proofs.Common.{◌≡◌, ℕ, zero, suc, ◌<◌, ◌≤◌, Lis
 use Rattle.std.specs.Prelude.{codes, nat_eq, slice_index}
 use Rattle.std.proofs.lemmas.List.{take_all}
 use Rattle.byteorder.specs.Endian.{big_bytes}
-use Rattle.vt_fields.specs.Fields.{drop-byte, drop-number}
+use Rattle.vt_base.specs.Fields.{drop-byte, drop-number}
 use Rattle.vt_arena.specs.declared.head.ArenaHead.{ArenaHead}
 use Rattle.vt_arena.specs.Heads.{flag_of, fields_of, IsHeadOf}
 

@@ -9,10 +9,10 @@ use Rattle.vt_disk.specs.Disk.{Touches, SameBut, part}
 use Rattle.vt_disk.specs.Region.{region_bytes}
 use Rattle.vt_disk.proofs.Bytes.{part_same}
 use Rattle.vt_clump.specs.declared.packed.Packed.{Packed}
-use Rattle.vt_clump.specs.Spelling.{Stored, IsStored, spelled}
+use Rattle.vt_clump.specs.Spelling.{Stored, IsStoredBlock, clump_bytes}
 use Rattle.vt_clump.specs.Clumps.{IsPacked, stored_of}
 use Rattle.vt_clump.proofs.ReadBack.{length-spelled}
-use Rattle.vt_arena.specs.Layout.{Content, IsContent, StandsAt, entry_bytes, entry_of, clumps_of, directory_of, used_of}
+use Rattle.vt_arena.specs.Layout.{Content, IsArenaContent, BytesStandAt, entry_bytes, arena_entry, clumps_of, directory_of, used_of}
 use Rattle.vt_arena.specs.Places.{block_room, directory_room, arena_room, lengths_of, Fit}
 use Rattle.vt_arena.specs.Whole.{staged_room, staged_directory}
 
@@ -38,12 +38,12 @@ part-part start len place n file fits =
     split : len ≡ place + (len - place)
     split = omega (arith, fits)
 
-pub stands-sum : (place : ℕ) (low high file : List ℕ) → StandsAt place low file → StandsAt (place + length low) high file → StandsAt place (low ++ high) file
+pub stands-sum : (place : ℕ) (low high file : List ℕ) → BytesStandAt place low file → BytesStandAt (place + length low) high file → BytesStandAt place (low ++ high) file
 stands-sum place low high file first second =
     ap (λ (k : ℕ). part place k file) (length-append low high) ∙ part-sum place (length low) (length high) file ∙ (λ i. first i ++ second i)
 
 -- bytes stay where nothing touches them
-pub stands_same : (P : ℕ → Type 0) (place : ℕ) (bytes old new : List ℕ) → SameBut P old new → ((i : ℕ) → place ≤ i → i < place + length bytes → ¬ P i) → StandsAt place bytes old → StandsAt place bytes new
+pub stands_same : (P : ℕ → Type 0) (place : ℕ) (bytes old new : List ℕ) → SameBut P old new → ((i : ℕ) → place ≤ i → i < place + length bytes → ¬ P i) → BytesStandAt place bytes old → BytesStandAt place bytes new
 stands_same P place bytes old new same free stands = part_same P place (length bytes) old new same free ∙ stands
 
 -- what lies in a region is told by the region's bytes
@@ -65,7 +65,7 @@ module _ (region : Region) (old new : List ℕ) (same : region_bytes region new 
       at : (file : List ℕ) → slice_index (region_bytes region file) place ≡ slice_index file (region.start + place)
       at file = get_or-take region.len (drop region.start file) place 0 below ∙ get_or-drop region.start file place 0
 
-  pub stands_inside : (place : ℕ) (bytes : List ℕ) → region.start ≤ place → place + length bytes ≤ region.start + region.len → StandsAt place bytes old → StandsAt place bytes new
+  pub stands_inside : (place : ℕ) (bytes : List ℕ) → region.start ≤ place → place + length bytes ≤ region.start + region.len → BytesStandAt place bytes old → BytesStandAt place bytes new
   stands_inside place bytes above below stands = part_inside place (length bytes) above below ∙ stands
 
 pub flat_map-append : {X : Type 0} (f : X → List ℕ) (xs ys : List X) → flat_map f (xs ++ ys) ≡ flat_map f xs ++ flat_map f ys
@@ -77,7 +77,7 @@ reversed-append : {X : Type 0} (f : X → List ℕ) (xs ys : List X) → flat_ma
 reversed-append {X = X} f xs ys = ap (λ (l : List X). flat_map f l) (reverse-append xs ys) ∙ flat_map-append f (reverse ys) (reverse xs)
 
 pub directory-append : (xs ys : List Stored) → directory_of (xs ++ ys) ≡ directory_of ys ++ directory_of xs
-directory-append = reversed-append entry_of
+directory-append = reversed-append arena_entry
 
 abbrev pub packed_entry : Packed → List ℕ
 packed_entry p = entry_bytes p.kind p.len p.score.0
@@ -108,37 +108,37 @@ used_take n xs =
     omega (arith, ap used_of (sym (take-append-drop n xs)), used-append (take n xs) (drop n xs))
 
 -- the room of a content
-pub content_fits : (score_of : List ℕ → List ℕ) (len : ℕ) (a : Content) → IsContent score_of len a → used_of a.stored + directory_room (length a.stored) ≤ arena_room len
+pub content_fits : (score_of : List ℕ → List ℕ) (len : ℕ) (a : Content) → IsArenaContent score_of len a → used_of a.stored + directory_room (length a.stored) ≤ arena_room len
 content_fits score_of len a is = omega (arith, is.fit, length-map a.stored (λ (s : Stored). length s.block))
 
 pub fit_of : (len : ℕ) (stored : List Stored) → used_of stored + directory_room (length stored) ≤ arena_room len → Fit len stored
 fit_of len stored fits = omega (arith, fits, length-map stored (λ (s : Stored). length s.block))
 
 module _ (score_of : List ℕ → List ℕ) where
-  pub spelled_len : (s : Stored) → IsStored score_of s → length (spelled s) ≡ block_room (length s.block)
-  spelled_len s is = ap (λ (l : List ℕ). length l) (sym (append-nil (spelled s))) ∙ omega (arith, length-spelled score_of s [] is)
+  pub spelled_len : (s : Stored) → IsStoredBlock score_of s → length (clump_bytes s) ≡ block_room (length s.block)
+  spelled_len s is = ap (λ (l : List ℕ). length l) (sym (append-nil (clump_bytes s))) ∙ omega (arith, length-spelled score_of s [] is)
 
-  pub length-clumps : (ss : List Stored) → All (IsStored score_of) ss → length (clumps_of ss) ≡ used_of ss
+  pub length-clumps : (ss : List Stored) → All (IsStoredBlock score_of) ss → length (clumps_of ss) ≡ used_of ss
   length-clumps [] all = refl
   length-clumps (s ∷ ss) all =
-      length-append (spelled s) (clumps_of ss)
-      ∙ (λ i. spelled_len s (all_head (IsStored score_of) s ss all) i + length-clumps ss (all_tail (IsStored score_of) s ss all) i)
+      length-append (clump_bytes s) (clumps_of ss)
+      ∙ (λ i. spelled_len s (all_head (IsStoredBlock score_of) s ss all) i + length-clumps ss (all_tail (IsStoredBlock score_of) s ss all) i)
       ∙ sym (used-cons s ss)
 
-  pub length-entry : (s : Stored) → IsStored score_of s → length (entry_of s) ≡ 25
+  pub length-entry : (s : Stored) → IsStoredBlock score_of s → length (arena_entry s) ≡ 25
   length-entry s is = omega (arith, is.score_len)
 
-  pub length-directory : (ss : List Stored) → All (IsStored score_of) ss → length (directory_of ss) ≡ directory_room (length ss)
+  pub length-directory : (ss : List Stored) → All (IsStoredBlock score_of) ss → length (directory_of ss) ≡ directory_room (length ss)
   length-directory [] all = refl
   length-directory (s ∷ ss) all =
       let from : reverse (s ∷ ss) ≡ reverse ss ++ (s ∷ []) = reverse-append (s ∷ []) ss in
-      let split : directory_of (s ∷ ss) ≡ directory_of ss ++ (entry_of s ++ []) = ap (λ (l : List Stored). flat_map entry_of l) from ∙ flat_map-append entry_of (reverse ss) (s ∷ []) in
-      let entry : length (entry_of s) ≡ 25 = length-entry s (all_head (IsStored score_of) s ss all) in
-      let rest : length (directory_of ss) ≡ directory_room (length ss) = length-directory ss (all_tail (IsStored score_of) s ss all) in
+      let split : directory_of (s ∷ ss) ≡ directory_of ss ++ (arena_entry s ++ []) = ap (λ (l : List Stored). flat_map arena_entry l) from ∙ flat_map-append arena_entry (reverse ss) (s ∷ []) in
+      let entry : length (arena_entry s) ≡ 25 = length-entry s (all_head (IsStoredBlock score_of) s ss all) in
+      let rest : length (directory_of ss) ≡ directory_room (length ss) = length-directory ss (all_tail (IsStoredBlock score_of) s ss all) in
       ap (λ (l : List ℕ). length l) split
-      ∙ omega (arith, length-append (directory_of ss) (entry_of s ++ []), length-append (entry_of s) [], entry, rest)
+      ∙ omega (arith, length-append (directory_of ss) (arena_entry s ++ []), length-append (arena_entry s) [], entry, rest)
 
-  pub All-stored : (ps : List Packed) → All (IsPacked score_of) ps → All (IsStored score_of) (map stored_of ps)
+  pub All-stored : (ps : List Packed) → All (IsPacked score_of) ps → All (IsStoredBlock score_of) (map stored_of ps)
   All-stored [] all k d below = absurd (omega arith)
   All-stored (p ∷ ps) all zero d below = (all_head (IsPacked score_of) p ps all).stored
   All-stored (p ∷ ps) all (suc k) d below = All-stored ps (all_tail (IsPacked score_of) p ps all) k d (omega arith)
@@ -150,7 +150,7 @@ module _ (score_of : List ℕ → List ℕ) where
       ∙ (λ i. block_room (sym (all_head (IsPacked score_of) p ps all).len i) + used-packed ps (all_tail (IsPacked score_of) p ps all) i)
       ∙ sym (sum_by-cons (λ (q : Packed). block_room q.len) p ps)
 
-  pub entry_is : (p : Packed) → IsPacked score_of p → packed_entry p ≡ entry_of (stored_of p)
+  pub entry_is : (p : Packed) → IsPacked score_of p → packed_entry p ≡ arena_entry (stored_of p)
   entry_is p is i = entry_bytes (is.kind i) (is.len i) (is.score i)
 
   pub directory-packed : (ps : List Packed) → All (IsPacked score_of) ps → staged_directory ps ≡ directory_of (map stored_of ps)
@@ -161,6 +161,6 @@ module _ (score_of : List ℕ → List ℕ) where
       ∙ sym (directory-append (stored_of p ∷ []) (map stored_of ps))
 
 -- one more
-pub clumps-push : (ss : List Stored) (s : Stored) → clumps_of (ss ++ s ∷ []) ≡ clumps_of ss ++ spelled s
-clumps-push [] s = append-nil (spelled s)
-clumps-push (t ∷ ts) s = ap (λ (l : List ℕ). spelled t ++ l) (clumps-push ts s) ∙ sym (append_assoc (spelled t) (clumps_of ts) (spelled s))
+pub clumps-push : (ss : List Stored) (s : Stored) → clumps_of (ss ++ s ∷ []) ≡ clumps_of ss ++ clump_bytes s
+clumps-push [] s = append-nil (clump_bytes s)
+clumps-push (t ∷ ts) s = ap (λ (l : List ℕ). clump_bytes t ++ l) (clumps-push ts s) ∙ sym (append_assoc (clump_bytes t) (clumps_of ts) (clump_bytes s))

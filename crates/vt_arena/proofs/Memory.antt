@@ -7,28 +7,28 @@ use Rattle.std.proofs.lemmas.Bool.Decides.{nat_tests}
 use Rattle.std.proofs.lemmas.List.Sums.{sum_by_more_le, sum_by_push}
 use Rattle.std.specs.Option.{ForSome, option_map_or}
 use Rattle.vt_base.specs.declared.score.Score.{Score}
-use Rattle.vt_twin.specs.Twin.{TwinState, Change, fresh, after_call, after_fault, calls_made}
+use Rattle.vt_twin.specs.Twin.{TwinState, FrameChange, fresh, after_call, twin_after_fault, twin_calls_made}
 use Rattle.vt_clump.specs.declared.packed.Packed.{Packed}
 use Rattle.vt_model.specs.declared.TheConstants.{ARENA_HEAD_LEN}
 use Rattle.vt_arena.specs.declared.TheConstants.{FRAME_LEN, FIELDS_LEN, STAGED_MAX}
 use Rattle.vt_arena.specs.declared.head.ArenaHead.{ArenaHead}
 use Rattle.vt_arena.specs.declared.arena.Arena.TheInside.{Inside}
 use Rattle.vt_arena.specs.Places.{IsArenaLen, block_room, directory_room, arena_room}
-use Rattle.vt_arena.specs.Arena.{pieces_of, fits, is_committing}
-use Rattle.vt_arena.specs.Whole.{IsWhole, IsBuffer, HasDirectory, state_of, staged_room, staged_directory}
+use Rattle.vt_arena.specs.Arena.{commit_pieces, fits, is_committing}
+use Rattle.vt_arena.specs.Whole.{IsWholeArena, IsBuffer, HasDirectory, state_of, staged_room, staged_directory}
 use Rattle.vt_arena.proofs.Layouts.{packed_entry, staged-push}
 use Rattle.vt_arena.proofs.Stage.{resting}
 
 -- no change is under way while pieces are to be written
-pub at_rest : (a : Inside) → IsWhole a → a.written < pieces_of (length a.staged.items) → a.twin.change ≡ None
+pub at_rest : (a : Inside) → IsWholeArena a → a.written < commit_pieces (length a.staged.items) → a.twin.change ≡ None
 at_rest a is below = rest a.twin.change is.begun
   where
-    rest : (change : Option Change) → (IsSome change → a.written ≡ pieces_of (length a.staged.items)) → change ≡ None
+    rest : (change : Option FrameChange) → (IsSome change → a.written ≡ commit_pieces (length a.staged.items)) → change ≡ None
     rest None begun = refl
     rest (Some it) begun = absurd (omega (arith, below, begun refl))
 
 -- the next clump fits behind what was written
-pub clump_room : (a : Inside) → IsWhole a → (p : Packed) → a.written < length a.staged.items → p ≡ get_or a.staged.items a.written p
+pub clump_room : (a : Inside) → IsWholeArena a → (p : Packed) → a.written < length a.staged.items → p ≡ get_or a.staged.items a.written p
     → a.end + length p.bytes + directory_room a.head.clumps + ARENA_HEAD_LEN ≤ a.len
 clump_room a whole p below is =
     let more : staged_room (take a.written a.staged.items) + block_room (get_or a.staged.items a.written p).len ≤ staged_room a.staged.items =
@@ -37,15 +37,15 @@ clump_room a whole p below is =
     omega (arith, more, same, whole.room, whole.used, whole.clumps, whole.end_is, whole.len_is.0, p.whole)
 
 -- the entries of what is staged fit below those that stand
-pub entry_room : (a : Inside) → IsWhole a → directory_room (a.head.clumps + length a.staged.items) + a.head.used + staged_room a.staged.items + ARENA_HEAD_LEN ≤ a.len
+pub entry_room : (a : Inside) → IsWholeArena a → directory_room (a.head.clumps + length a.staged.items) + a.head.used + staged_room a.staged.items + ARENA_HEAD_LEN ≤ a.len
 entry_room a whole = omega (arith, whole.room, whole.used, whole.clumps, whole.len_is.0)
 
 -- as the next write of a piece needs it, in a region of that length
-pub piece_room : (a : Inside) → IsWhole a → (len : ℕ) → len ≡ a.len → (p : Packed) → a.written < length a.staged.items → p ≡ get_or a.staged.items a.written p
+pub piece_room : (a : Inside) → IsWholeArena a → (len : ℕ) → len ≡ a.len → (p : Packed) → a.written < length a.staged.items → p ≡ get_or a.staged.items a.written p
     → a.head.used + staged_room (take a.written a.staged.items) + length p.bytes + directory_room a.head.clumps + ARENA_HEAD_LEN ≤ len
 piece_room a whole len same p below is = omega (arith, clump_room a whole p below is, whole.end_is, same)
 
-pub entries_room : (a : Inside) → IsWhole a → (len : ℕ) → len ≡ a.len
+pub entries_room : (a : Inside) → IsWholeArena a → (len : ℕ) → len ≡ a.len
     → directory_room (a.head.clumps + length a.staged.items) + a.head.used + staged_room a.staged.items + ARENA_HEAD_LEN ≤ len
 entries_room a whole len same = omega (arith, entry_room a whole, same)
 
@@ -71,9 +71,9 @@ directory_more staged p entry old new place was few place_is entry_is len same f
     rest = omega (arith, place_is, few, len)
 
 -- after one more was staged
-pub staged_whole : (a : Inside) (p : Packed) (staged : Vec Packed Global) (directory : Vec ℕ Global) (room : ℕ) (chain : Score) → IsWhole a → IsFalse (is_committing (state_of a)) → IsTrue (fits (state_of a) p.len)
+pub staged_whole : (a : Inside) (p : Packed) (staged : Vec Packed Global) (directory : Vec ℕ Global) (room : ℕ) (chain : Score) → IsWholeArena a → IsFalse (is_committing (state_of a)) → IsTrue (fits (state_of a) p.len)
     → length a.staged.items < STAGED_MAX → staged.items ≡ a.staged.items ++ p ∷ [] → STAGED_MAX ≤ vec_capacity staged → room ≡ block_room p.len → HasDirectory (a.staged.items ++ p ∷ []) directory.items
-    → IsWhole (record a { next = record a.next { clumps = a.next.clumps + 1; used = a.next.used + room; chain = chain }; staged = staged; directory = directory })
+    → IsWholeArena (record a { next = record a.next { clumps = a.next.clumps + 1; used = a.next.used + room; chain = chain }; staged = staged; directory = directory })
 staged_whole a p staged directory room chain whole rest fits few items capacity room_is has =
     let rests = resting (state_of a) rest in
     let count : length staged.items ≡ length a.staged.items + 1 = ap (λ (l : List Packed). length l) items ∙ length-append a.staged.items (p ∷ []) in
@@ -96,7 +96,7 @@ staged_whole a p staged directory room chain whole rest fits few items capacity 
       directory = subst (λ (ps : List Packed). HasDirectory ps directory.items) (sym items) has;
     }
   where
-    none_some : (change : Option Change) → change ≡ None → IsSome change → ⊥
+    none_some : (change : Option FrameChange) → change ≡ None → IsSome change → ⊥
     none_some None off some = cc
     none_some (Some it) off some = cc
 
@@ -107,7 +107,7 @@ end_for n buffer = take (length buffer - (1600 - n * 25)) (drop (1600 - n * 25) 
 end_is : (n : ℕ) (buffer : List ℕ) → end_for n buffer ≡ drop (1600 - n * 25) buffer
 end_is n buffer = take_all (length buffer - (1600 - n * 25)) (drop (1600 - n * 25) buffer) (omega (arith, length-drop (1600 - n * 25) buffer))
 
-module _ (a : Inside) (whole : IsWhole a) (n : ℕ) (buffer : List ℕ) (n_is : n ≡ vec_len a.staged) (is : buffer ≡ a.directory.items) where
+module _ (a : Inside) (whole : IsWholeArena a) (n : ℕ) (buffer : List ℕ) (n_is : n ≡ vec_len a.staged) (is : buffer ≡ a.directory.items) where
   from : 1600 - n * 25 ≡ (STAGED_MAX - length a.staged.items) * 25
   from = omega (arith, n_is, whole.few)
 
@@ -119,21 +119,21 @@ module _ (a : Inside) (whole : IsWhole a) (n : ℕ) (buffer : List ℕ) (n_is : 
       ap (λ (l : List ℕ). length l) (end_is n buffer)
       ∙ omega (arith, length-drop (1600 - n * 25) buffer, ap (λ (l : List ℕ). length l) is, whole.directory.0, n_is, whole.few)
 
-pub entries_length : (a : Inside) → IsWhole a → length (staged_directory a.staged.items) ≡ directory_room (length a.staged.items)
+pub entries_length : (a : Inside) → IsWholeArena a → length (staged_directory a.staged.items) ≡ directory_room (length a.staged.items)
 entries_length a whole =
     ap (λ (l : List ℕ). length l) (sym (directory_is a whole (vec_len a.staged) a.directory.items refl refl))
     ∙ directory_len a whole (vec_len a.staged) a.directory.items refl refl
 
 -- the buffer is the frame of the change under way
-next_buffer : (change : Option Change) → IsSome change → ForSome change (λ it. IsBuffer it.frame) → IsBuffer (option_map_or (λ it. it.frame) change [])
+next_buffer : (change : Option FrameChange) → IsSome change → ForSome change (λ it. IsBuffer it.frame) → IsBuffer (option_map_or (λ it. it.frame) change [])
 next_buffer None some is = cc
 next_buffer (Some it) some is = is it refl
 
 -- after a call of the head's change that isn't the last
-pub more_whole : (a : Inside) (t : TwinState) → t ≡ after_call a.twin → IsSome a.twin.change → ¬ (calls_made a.twin ≡ 3) → IsWhole a
-    → IsWhole (record a { twin = t; head_calls = a.head_calls + 1 })
+pub more_whole : (a : Inside) (t : TwinState) → t ≡ after_call a.twin → IsSome a.twin.change → ¬ (twin_calls_made a.twin ≡ 3) → IsWholeArena a
+    → IsWholeArena (record a { twin = t; head_calls = a.head_calls + 1 })
 more_whole a t is some going whole =
-    subst (λ (t : TwinState). IsWhole (record a { twin = t; head_calls = a.head_calls + 1 })) (sym is) record {
+    subst (λ (t : TwinState). IsWholeArena (record a { twin = t; head_calls = a.head_calls + 1 })) (sym is) record {
       frame_len = whole.frame_len;
       runs = whole.runs;
       len_is = whole.len_is;
@@ -145,7 +145,7 @@ more_whole a t is some going whole =
       written_most = whole.written_most;
       end_is = whole.end_is;
       buffer = λ none. cc;
-      frame = λ it later. subst (λ (change : Option Change). IsBuffer (option_map_or (λ change. change.frame) change [])) later
+      frame = λ it later. subst (λ (change : Option FrameChange). IsBuffer (option_map_or (λ change. change.frame) change [])) later
           (next_buffer a.twin.change some whole.frame);
       head_calls_is = ap (λ (n : ℕ). n + 1) whole.head_calls_is;
       head_calls_most = omega (arith, whole.head_calls_is, whole.head_calls_most, going);
@@ -154,9 +154,9 @@ more_whole a t is some going whole =
     }
 
 -- and after one that failed
-pub failed_whole : (a : Inside) (t : TwinState) → t ≡ after_fault a.twin → IsWhole a → IsWhole (record a { twin = t; failed = true })
+pub failed_whole : (a : Inside) (t : TwinState) → t ≡ twin_after_fault a.twin → IsWholeArena a → IsWholeArena (record a { twin = t; failed = true })
 failed_whole a t is whole =
-    subst (λ (t : TwinState). IsWhole (record a { twin = t; failed = true })) (sym is) record {
+    subst (λ (t : TwinState). IsWholeArena (record a { twin = t; failed = true })) (sym is) record {
       frame_len = whole.frame_len;
       runs = λ runs. cc;
       len_is = whole.len_is;
@@ -178,9 +178,9 @@ failed_whole a t is whole =
 -- before the first commit
 pub fresh_whole : (number len current : ℕ) (twin : TwinState) (head : ArenaHead) (staged : Vec Packed Global) (directory : Vec ℕ Global) (buffer : List ℕ) → twin ≡ fresh FRAME_LEN current → IsArenaLen len
     → head.used + directory_room head.clumps ≤ arena_room len → staged.items ≡ [] → STAGED_MAX ≤ vec_capacity staged → directory.items ≡ replicate 1600 0 → buffer ≡ replicate FRAME_LEN 0
-    → IsWhole (record { number = number; len = len; twin = twin; head = head; next = head; staged = staged; directory = directory; written = 0; end = head.used; buffer = Some buffer; head_calls = 0; failed = false })
+    → IsWholeArena (record { number = number; len = len; twin = twin; head = head; next = head; staged = staged; directory = directory; written = 0; end = head.used; buffer = Some buffer; head_calls = 0; failed = false })
 fresh_whole number len current twin head staged directory buffer is len_is fit none capacity blank zeros =
-    subst (λ (t : TwinState). IsWhole (record { number = number; len = len; twin = t; head = head; next = head; staged = staged; directory = directory; written = 0; end = head.used; buffer = Some buffer; head_calls = 0; failed = false })) (sym is) record {
+    subst (λ (t : TwinState). IsWholeArena (record { number = number; len = len; twin = t; head = head; next = head; staged = staged; directory = directory; written = 0; end = head.used; buffer = Some buffer; head_calls = 0; failed = false })) (sym is) record {
       frame_len = refl;
       runs = λ runs. refl;
       len_is = len_is;

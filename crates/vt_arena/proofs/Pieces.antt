@@ -8,26 +8,26 @@ use Rattle.vt_disk.specs.Calls.{WritesAt, WritesWithin}
 use Rattle.vt_disk.specs.Members.{DiskOf}
 use Rattle.vt_disk.specs.Region.{Inside}
 use Rattle.vt_disk.proofs.Calls.{writes_wider}
-use Rattle.vt_twin.specs.Frames.{HasRoom}
-use Rattle.vt_twin.specs.Twin.{TwinState, Change}
-use Rattle.vt_twin.specs.Sound.{IsSound as IsSoundTwin}
+use Rattle.vt_twin.specs.Frames.{FitsTwin}
+use Rattle.vt_twin.specs.Twin.{TwinState, FrameChange}
+use Rattle.vt_twin.specs.Sound.{IsSoundTwin}
 use Rattle.vt_twin.proofs.Changes.{none_made}
 use Rattle.vt_twin.proofs.Sound.{sound_elsewhere}
 use Rattle.vt_clump.specs.declared.packed.Packed.{Packed}
-use Rattle.vt_clump.specs.Spelling.{Stored, IsStored, spelled}
+use Rattle.vt_clump.specs.Spelling.{Stored, IsStoredBlock, clump_bytes}
 use Rattle.vt_clump.specs.Clumps.{IsPacked, stored_of}
 use Rattle.vt_model.specs.declared.TheConstants.{ARENA_HEAD_LEN}
 use Rattle.vt_arena.specs.declared.TheConstants.{FRAME_LEN}
-use Rattle.vt_arena.specs.Arena.{ArenaState, added_by, after_piece, with_failure}
-use Rattle.vt_arena.specs.Layout.{Content, HasBlocks, StandsAt, clumps_of, directory_of, clumps_place, directory_place, head_place, used_of}
+use Rattle.vt_arena.specs.Arena.{ArenaState, added_by_commit, after_piece, with_failure}
+use Rattle.vt_arena.specs.Layout.{Content, HasBlocks, BytesStandAt, clumps_of, directory_of, clumps_place, directory_place, head_place, used_of}
 use Rattle.vt_arena.specs.Places.{directory_room}
-use Rattle.vt_arena.specs.Sound.{IsRegion, IsSound, HasPieces, clumps_made}
+use Rattle.vt_arena.specs.Sound.{IsRegion, IsSoundArena, HasPieces, clumps_made}
 use Rattle.vt_arena.specs.Whole.{staged_room, staged_directory}
 use Rattle.vt_arena.proofs.Layouts.{touched_within, stands-sum, stands_same, length-clumps, length-directory, directory-packed, used-packed, All-stored, all_take, clumps-push}
 
 -- the head's twin has its place
-pub head_room : (region : Region) (size n : ℕ) → IsRegion region size → n ≡ FRAME_LEN → HasRoom (head_place region) n size
-head_room region size n is n_is = subst (λ (k : ℕ). HasRoom (head_place region) k size) (sym n_is) record {
+pub head_room : (region : Region) (size n : ℕ) → IsRegion region size → n ≡ FRAME_LEN → FitsTwin (head_place region) n size
+head_room region size n is n_is = subst (λ (k : ℕ). FitsTwin (head_place region) k size) (sym n_is) record {
   within = omega (arith, is.within, is.len.0);
   least = omega arith;
   most = omega arith;
@@ -54,7 +54,7 @@ module _ (score_of : List ℕ → List ℕ) (s : ArenaState) (region : Region) (
     (changes : ChangesAt (Touches place n) before after) (same : SameBut (Touches place n) read reads) (few : s.written ≤ length s.staged)
     (low : clumps_place region old.stored + length (clumps_of (clumps_made s)) ≤ place)
     (high : place + n ≤ directory_place region (length old.stored))
-    (sound : IsSound score_of s region old read before) where
+    (sound : IsSoundArena score_of s region old read before) where
   twin_stays : IsSoundTwin s.twin region sound.frame reads after
   twin_stays = twin_elsewhere s.twin region size is_region sound.frame_len (Touches place n)
       (λ i touched above below. omega (arith, (touched_within place n i touched).0, low, below))
@@ -70,12 +70,12 @@ module _ (score_of : List ℕ → List ℕ) (s : ArenaState) (region : Region) (
             (λ i over under touched. omega (arith, over, (touched_within place n i touched).1, high)) blocks.directory;
       }
 
-  pub clumps_stay : StandsAt (clumps_place region old.stored) (clumps_of (clumps_made s)) reads
+  pub clumps_stay : BytesStandAt (clumps_place region old.stored) (clumps_of (clumps_made s)) reads
   clumps_stay = stands_same (Touches place n) (clumps_place region old.stored) (clumps_of (clumps_made s)) read reads same
       (λ i over under touched. omega (arith, under, (touched_within place n i touched).0, low)) sound.written.clumps
 
   -- a write that failed
-  pub write_failed : IsSound score_of (with_failure s) region old reads after
+  pub write_failed : IsSoundArena score_of (with_failure s) region old reads after
   write_failed = record {
     len = sound.len;
     frame_len = sound.frame_len;
@@ -95,7 +95,7 @@ module _ (score_of : List ℕ → List ℕ) (s : ArenaState) (region : Region) (
   }
 
   -- one that wrote the next piece
-  pub write_made : (w : ℕ) → HasPieces (record s { written = w }) region old reads → IsSound score_of (record s { written = w }) region old reads after
+  pub write_made : (w : ℕ) → HasPieces (record s { written = w }) region old reads → IsSoundArena score_of (record s { written = w }) region old reads after
   write_made w made = record {
     len = sound.len;
     frame_len = sound.frame_len;
@@ -114,7 +114,7 @@ module _ (score_of : List ℕ → List ℕ) (s : ArenaState) (region : Region) (
     synced = λ calls. absurd (omega (arith, calls, none_made s.twin rest));
   }
     where
-      none_some : (change : Option Change) → change ≡ None → IsSome change → ⊥
+      none_some : (change : Option FrameChange) → change ≡ None → IsSome change → ⊥
       none_some None is some = cc
       none_some (Some it) is some = cc
 
@@ -129,12 +129,12 @@ added_more staged w p below is =
 -- how many bytes the clumps are that were written
 pub made_len : (score_of : List ℕ → List ℕ) (staged : List Packed) (w : ℕ) → All (IsPacked score_of) staged → length (clumps_of (take w (map stored_of staged))) ≡ staged_room (take w staged)
 made_len score_of staged w packed =
-    length-clumps score_of (take w (map stored_of staged)) (all_take (IsStored score_of) w (map stored_of staged) (All-stored score_of staged packed))
+    length-clumps score_of (take w (map stored_of staged)) (all_take (IsStoredBlock score_of) w (map stored_of staged) (All-stored score_of staged packed))
     ∙ ap used_of (take-map stored_of w staged)
     ∙ used-packed score_of (take w staged) (all_take (IsPacked score_of) w staged packed)
 
 -- the numbers of a sound arena's head
-pub head_used : (score_of : List ℕ → List ℕ) (s : ArenaState) (region : Region) (old : Content) (read : List ℕ) (images : List ℕ → Type 0) → IsSound score_of s region old read images
+pub head_used : (score_of : List ℕ → List ℕ) (s : ArenaState) (region : Region) (old : Content) (read : List ℕ) (images : List ℕ → Type 0) → IsSoundArena score_of s region old read images
     → (s.head.used ≡ used_of old.stored) × (s.head.clumps ≡ length old.stored)
 head_used score_of s region old read images sound = ((λ i. (sound.head i).used), (λ i. (sound.head i).clumps))
 
@@ -142,7 +142,7 @@ head_used score_of s region old read images sound = ((λ i. (sound.head i).used)
 module _ (score_of : List ℕ → List ℕ) (s : ArenaState) (region : Region) (size : ℕ) (old : Content) (read reads : List ℕ) (before after : List ℕ → Type 0)
     (is_region : IsRegion region size) (rest : s.twin.change ≡ None) (place n : ℕ)
     (changes : ChangesAt (Touches place n) before after) (same : SameBut (Touches place n) read reads)
-    (sound : IsSound score_of s region old read before)
+    (sound : IsSoundArena score_of s region old read before)
     (below : s.written < length s.staged) (p : Packed) (is : p ≡ get_or s.staged s.written p) (n_is : n ≡ length p.bytes)
     (end room : ℕ) (end_is : end ≡ s.head.used + staged_room (take s.written s.staged))
     (place_is : place ≡ region.start + (ARENA_HEAD_LEN + end))
@@ -153,24 +153,24 @@ module _ (score_of : List ℕ → List ℕ) (s : ArenaState) (region : Region) (
   clump_high : place + n ≤ directory_place region (length old.stored)
   clump_high = omega (arith, (head_used score_of s region old read before sound).1, place_is, n_is, fits)
 
-  pub clump_failed : IsSound score_of (with_failure s) region old reads after
+  pub clump_failed : IsSoundArena score_of (with_failure s) region old reads after
   clump_failed = write_failed score_of s region size old read reads before after is_region rest place n changes same (omega (arith, below)) clump_low clump_high sound
 
-  pub clump_made : part place n reads ≡ p.bytes → IsSound score_of (after_piece s) region old reads after
+  pub clump_made : part place n reads ≡ p.bytes → IsSoundArena score_of (after_piece s) region old reads after
   clump_made new =
       let is_packed : IsPacked score_of p = subst (λ (q : Packed). IsPacked score_of q) (sym is) (sound.packed s.written p below) in
       let low : length (clumps_of (clumps_made s)) ≡ staged_room (take s.written s.staged) = made_len score_of s.staged s.written sound.packed in
       let used = (head_used score_of s region old read before sound).0 in
-      let piece : StandsAt place p.bytes reads = ap (λ (m : ℕ). part place m reads) (sym n_is) ∙ new in
-      let further : StandsAt (clumps_place region old.stored + length (clumps_of (clumps_made s))) (spelled (stored_of p)) reads =
-      subst (λ (at : ℕ). StandsAt at (spelled (stored_of p)) reads) (omega (arith, place_is, end_is, used, low))
-      (subst (λ (l : List ℕ). StandsAt place l reads) is_packed.bytes piece) in
-      let both : clumps_of (take (s.written + 1) (added_by s)) ≡ clumps_of (clumps_made s) ++ spelled (stored_of p) =
+      let piece : BytesStandAt place p.bytes reads = ap (λ (m : ℕ). part place m reads) (sym n_is) ∙ new in
+      let further : BytesStandAt (clumps_place region old.stored + length (clumps_of (clumps_made s))) (clump_bytes (stored_of p)) reads =
+      subst (λ (at : ℕ). BytesStandAt at (clump_bytes (stored_of p)) reads) (omega (arith, place_is, end_is, used, low))
+      (subst (λ (l : List ℕ). BytesStandAt place l reads) is_packed.bytes piece) in
+      let both : clumps_of (take (s.written + 1) (added_by_commit s)) ≡ clumps_of (clumps_made s) ++ clump_bytes (stored_of p) =
       ap clumps_of (added_more s.staged s.written p below is) ∙ clumps-push (clumps_made s) (stored_of p) in
       let stays = clumps_stay score_of s region size old read reads before after is_region rest place n changes same (omega (arith, below)) clump_low clump_high sound in
       write_made score_of s region size old read reads before after is_region rest place n changes same (omega (arith, below)) clump_low clump_high sound (s.written + 1) (record {
-        clumps = subst (λ (l : List ℕ). StandsAt (clumps_place region old.stored) l reads) (sym both)
-            (stands-sum (clumps_place region old.stored) (clumps_of (clumps_made s)) (spelled (stored_of p)) reads stays further);
+        clumps = subst (λ (l : List ℕ). BytesStandAt (clumps_place region old.stored) l reads) (sym both)
+            (stands-sum (clumps_place region old.stored) (clumps_of (clumps_made s)) (clump_bytes (stored_of p)) reads stays further);
         directory = λ more. absurd (omega (arith, below, more));
       })
 
@@ -178,7 +178,7 @@ module _ (score_of : List ℕ → List ℕ) (s : ArenaState) (region : Region) (
 module _ (score_of : List ℕ → List ℕ) (s : ArenaState) (region : Region) (size : ℕ) (old : Content) (read reads : List ℕ) (before after : List ℕ → Type 0)
     (is_region : IsRegion region size) (rest : s.twin.change ≡ None) (place n : ℕ)
     (changes : ChangesAt (Touches place n) before after) (same : SameBut (Touches place n) read reads)
-    (sound : IsSound score_of s region old read before) (written : s.written ≡ length s.staged)
+    (sound : IsSoundArena score_of s region old read before) (written : s.written ≡ length s.staged)
     (n_is : n ≡ directory_room (length s.staged)) (place_is : place ≡ region.start + (region.len - directory_room (s.head.clumps + length s.staged)))
     (fits : directory_room (s.head.clumps + length s.staged) + s.head.used + staged_room s.staged + ARENA_HEAD_LEN ≤ region.len) where
   directory_low : clumps_place region old.stored + length (clumps_of (clumps_made s)) ≤ place
@@ -189,21 +189,21 @@ module _ (score_of : List ℕ → List ℕ) (s : ArenaState) (region : Region) (
   directory_high : place + n ≤ directory_place region (length old.stored)
   directory_high = omega (arith, (head_used score_of s region old read before sound).1, place_is, n_is, fits)
 
-  pub directory_failed : IsSound score_of (with_failure s) region old reads after
+  pub directory_failed : IsSoundArena score_of (with_failure s) region old reads after
   directory_failed = write_failed score_of s region size old read reads before after is_region rest place n changes same (omega (arith, written)) directory_low directory_high sound
 
-  pub directory_made : part place n reads ≡ staged_directory s.staged → IsSound score_of (after_piece s) region old reads after
+  pub directory_made : part place n reads ≡ staged_directory s.staged → IsSoundArena score_of (after_piece s) region old reads after
   directory_made new =
-      let count : length (added_by s) ≡ length s.staged = length-map s.staged stored_of in
+      let count : length (added_by_commit s) ≡ length s.staged = length-map s.staged stored_of in
       let numbers = head_used score_of s region old read before sound in
-      let is : staged_directory s.staged ≡ directory_of (added_by s) = directory-packed score_of s.staged sound.packed in
-      let len : length (directory_of (added_by s)) ≡ n = omega (arith, length-directory score_of (added_by s) (All-stored score_of s.staged sound.packed), count, n_is) in
-      let same_clumps : clumps_made s ≡ take (s.written + 1) (added_by s) =
-      take_all s.written (added_by s) (omega (arith, count, written)) ∙ sym (take_all (s.written + 1) (added_by s) (omega (arith, count, written))) in
+      let is : staged_directory s.staged ≡ directory_of (added_by_commit s) = directory-packed score_of s.staged sound.packed in
+      let len : length (directory_of (added_by_commit s)) ≡ n = omega (arith, length-directory score_of (added_by_commit s) (All-stored score_of s.staged sound.packed), count, n_is) in
+      let same_clumps : clumps_made s ≡ take (s.written + 1) (added_by_commit s) =
+      take_all s.written (added_by_commit s) (omega (arith, count, written)) ∙ sym (take_all (s.written + 1) (added_by_commit s) (omega (arith, count, written))) in
       write_made score_of s region size old read reads before after is_region rest place n changes same (omega (arith, written)) directory_low directory_high sound (s.written + 1) (record {
-        clumps = subst (λ (l : List Stored). StandsAt (clumps_place region old.stored) (clumps_of l) reads) same_clumps
+        clumps = subst (λ (l : List Stored). BytesStandAt (clumps_place region old.stored) (clumps_of l) reads) same_clumps
             (clumps_stay score_of s region size old read reads before after is_region rest place n changes same (omega (arith, written)) directory_low directory_high sound);
-        directory = λ made. subst (λ (at : ℕ). StandsAt at (directory_of (added_by s)) reads) (omega (arith, place_is, numbers.1, fits))
+        directory = λ made. subst (λ (at : ℕ). BytesStandAt at (directory_of (added_by_commit s)) reads) (omega (arith, place_is, numbers.1, fits))
             (ap (λ (m : ℕ). part place m reads) len ∙ new ∙ is);
       })
 

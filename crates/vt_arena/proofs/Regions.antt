@@ -7,7 +7,7 @@ use Rattle.vt_disk.specs.Region.{region_bytes}
 use Rattle.vt_twin.specs.Frames.{current_frame, frame_of, named_number}
 use Rattle.vt_model.specs.declared.TheConstants.{ARENA_HEAD_LEN}
 use Rattle.vt_arena.specs.declared.TheConstants.{FRAME_LEN}
-use Rattle.vt_arena.specs.Layout.{Content, IsContent, IsArena, HasBlocks, clumps_of, directory_of, directory_place}
+use Rattle.vt_arena.specs.Layout.{Content, IsArenaContent, IsArena, HasBlocks, clumps_of, directory_of, directory_place}
 use Rattle.vt_arena.proofs.Layouts.{part_inside, byte_inside, stands_inside, length-clumps, length-directory, content_fits}
 
 module _ (region : Region) (old new : List ℕ) (least : ARENA_HEAD_LEN ≤ region.len) (same : region_bytes region new ≡ region_bytes region old) where
@@ -25,7 +25,7 @@ module _ (region : Region) (old new : List ℕ) (least : ARENA_HEAD_LEN ≤ regi
       ∙ frame_in_region (named_number region FRAME_LEN old) (mod-lt (slice_index old (region.start + 2 * FRAME_LEN)) (omega arith))
 
 pub blocks_in_region : (score_of : List ℕ → List ℕ) (region : Region) (a : Content) (old new : List ℕ) → ARENA_HEAD_LEN ≤ region.len
-    → region_bytes region new ≡ region_bytes region old → IsContent score_of region.len a → HasBlocks region a.stored old → HasBlocks region a.stored new
+    → region_bytes region new ≡ region_bytes region old → IsArenaContent score_of region.len a → HasBlocks region a.stored old → HasBlocks region a.stored new
 blocks_in_region score_of region a old new least same content blocks =
     let fits = content_fits score_of region.len a content in record {
       clumps = stands_inside region old new same (region.start + ARENA_HEAD_LEN) (clumps_of a.stored) (omega arith)

@@ -6,11 +6,11 @@ use Rattle.vt_disk.specs.Region.{Inside, ChangesWithin, region_bytes}
 use Rattle.vt_disk.proofs.Bytes.{part_same}
 use Rattle.std.proofs.Common.{length-append}
 use Rattle.std.proofs.lemmas.List.{length-map}
-use Rattle.vt_clump.specs.Spelling.{IsStored}
+use Rattle.vt_clump.specs.Spelling.{IsStoredBlock}
 use Rattle.vt_clump.specs.Clumps.{stored_of}
-use Rattle.vt_arena.specs.Arena.{ArenaState, added_by, next_content}
+use Rattle.vt_arena.specs.Arena.{ArenaState, added_by_commit, next_content}
 use Rattle.vt_arena.specs.Layout.{Content, clumps_of, directory_of, clumps_place, directory_place}
-use Rattle.vt_arena.specs.Sound.{IsRegion, IsSound, HasPieces, clumps_made}
+use Rattle.vt_arena.specs.Sound.{IsRegion, IsSoundArena, HasPieces, clumps_made}
 use Rattle.vt_arena.proofs.Layouts.{stands_inside, length-clumps, length-directory, used-append, content_fits, All-stored, all_take, used_take}
 use Rattle.vt_arena.proofs.Regions.{blocks_in_region}
 use Rattle.vt_arena.proofs.Pieces.{twin_elsewhere}
@@ -18,7 +18,7 @@ use Rattle.vt_arena.proofs.Pieces.{twin_elsewhere}
 module _ (score_of : List ℕ → List ℕ) (a : ArenaState) (region : Region) (size : ℕ) (old : Content) (is_region : IsRegion region size)
     (other : Region) (apart : (i : ℕ) → Inside other i → ¬ Inside region i)
     (read reads : List ℕ) (before after : List ℕ → Type 0) (same : SameBut (Inside other) read reads) (changes : ChangesWithin other before after)
-    (sound : IsSound score_of a region old read before) where
+    (sound : IsSoundArena score_of a region old read before) where
   bytes_stay : (file files : List ℕ) → SameBut (Inside other) file files → region_bytes region files ≡ region_bytes region file
   bytes_stay file files but = part_same (Inside other) region.start region.len file files but (λ i above below there. apart i there (above, below))
 
@@ -26,20 +26,20 @@ module _ (score_of : List ℕ → List ℕ) (a : ArenaState) (region : Region) (
   pieces_stay file files but made =
       let news = All-stored score_of a.staged sound.packed in
       let fits = content_fits score_of region.len (next_content a old) sound.next_content_is in
-      let used = used-append old.stored (added_by a) in
-      let count = length-append old.stored (added_by a) in
+      let used = used-append old.stored (added_by_commit a) in
+      let count = length-append old.stored (added_by_commit a) in
       let staged = length-map a.staged stored_of in
-      let clumps_len = length-clumps score_of (clumps_made a) (all_take (IsStored score_of) a.written (added_by a) news) in
-      let entries_len = length-directory score_of (added_by a) news in record {
+      let clumps_len = length-clumps score_of (clumps_made a) (all_take (IsStoredBlock score_of) a.written (added_by_commit a) news) in
+      let entries_len = length-directory score_of (added_by_commit a) news in record {
         clumps = stands_inside region file files (bytes_stay file files but) (clumps_place region old.stored) (clumps_of (clumps_made a)) (omega arith)
-            (omega (arith, fits, used, is_region.len.0, clumps_len, used_take a.written (added_by a))) made.clumps;
+            (omega (arith, fits, used, is_region.len.0, clumps_len, used_take a.written (added_by_commit a))) made.clumps;
         directory = λ written.
-            stands_inside region file files (bytes_stay file files but) (directory_place region (length old.stored + length a.staged)) (directory_of (added_by a))
+            stands_inside region file files (bytes_stay file files but) (directory_place region (length old.stored + length a.staged)) (directory_of (added_by_commit a))
             (omega (arith, fits, used, count, staged, is_region.len.0))
             (omega (arith, fits, used, count, staged, is_region.len.0, entries_len)) (made.directory written);
       }
 
-  pub arena_elsewhere : IsSound score_of a region old reads after
+  pub arena_elsewhere : IsSoundArena score_of a region old reads after
   arena_elsewhere = record {
     len = sound.len;
     frame_len = sound.frame_len;

@@ -8,16 +8,16 @@ use Rattle.byteorder.specs.Numbers.{big_number-reads_back}
 use Rattle.vt_base.specs.Kind.{is_kind}
 use Rattle.vt_base.specs.declared.place.Info.{Info}
 use Rattle.vt_disk.specs.Disk.{part}
-use Rattle.vt_clump.specs.Spelling.{Stored, IsStored}
-use Rattle.vt_arena.specs.declared.bad.BackBad.{BackBad}
-use Rattle.vt_arena.specs.declared.bad.BackBad.TheVariants.{Fault, Damaged}
+use Rattle.vt_clump.specs.Spelling.{Stored, IsStoredBlock}
+use Rattle.vt_arena.specs.declared.error.BackBad.{BackBad}
+use Rattle.vt_arena.specs.declared.error.BackBad.TheVariants.{Fault, Damaged}
 use Rattle.vt_arena.specs.declared.directory.At.{At}
-use Rattle.vt_arena.specs.Directory.{first_bad, Walks, kind_in, size_in, uncsize_in, is_out_of_sum, IsInfoOf, IsAt, IsInfo}
-use Rattle.vt_arena.specs.Layout.{entry_of, used_of}
+use Rattle.vt_arena.specs.Directory.{first_bad_entry, WalksEntry, kind_in, size_in_entry, uncsize_in_entry, is_out_of_sum, IsInfoOf, IsAtBlock, IsInfoOfBlock}
+use Rattle.vt_arena.specs.Layout.{arena_entry, used_of}
 use Rattle.vt_arena.specs.Places.{block_room}
 
-passes : (used : ℕ) (at : At) (entry : List ℕ) (size : ℕ) → is_kind (kind_in entry) ≡ true → size_in entry ≡ size → uncsize_in entry ≡ size
-    → 0 < size → size ≤ 57344 → is_out_of_sum at size ≡ false → first_bad used at entry ≡ None
+passes : (used : ℕ) (at : At) (entry : List ℕ) (size : ℕ) → is_kind (kind_in entry) ≡ true → size_in_entry entry ≡ size → uncsize_in_entry entry ≡ size
+    → 0 < size → size ≤ 57344 → is_out_of_sum at size ≡ false → first_bad_entry used at entry ≡ None
 passes used at entry size kind size_is uncsize_is some most sum =
     let is_some : size == 0 ≡ false = grind (arith, nat_tests) in
     let is_most : nat_lt 57344 size ≡ false = grind (arith, nat_tests) in
@@ -36,23 +36,23 @@ in_sum index end room least first =
         rw (is, same) refl
     all false is = rw is refl
 
-module _ (score_of : List ℕ → List ℕ) (before : List Stored) (s : Stored) (is : IsStored score_of s) (at : At) (stands : IsAt before s at) where
-  size : size_in (entry_of s) ≡ length s.block
+module _ (score_of : List ℕ → List ℕ) (before : List Stored) (s : Stored) (is : IsStoredBlock score_of s) (at : At) (stands : IsAtBlock before s at) where
+  size : size_in_entry (arena_entry s) ≡ length s.block
   size = big_number-reads_back 2 (length s.block) (big_bytes 2 (length s.block) ++ s.score) (omega (arith, is.most))
 
-  uncsize : uncsize_in (entry_of s) ≡ length s.block
+  uncsize : uncsize_in_entry (arena_entry s) ≡ length s.block
   uncsize = big_number-reads_back 2 (length s.block) s.score (omega (arith, is.most))
 
   first_one : (xs : List Stored) → length xs + 1 ≡ 1 → used_of xs ≡ 0
   first_one [] one = refl
   first_one (x ∷ xs) one = absurd (omega (arith, one))
 
-  pub entry_passes : (used : ℕ) → first_bad used at (entry_of s) ≡ None
-  entry_passes used = passes used at (entry_of s) (length s.block) is.kind size uncsize is.some is.most
+  pub entry_passes : (used : ℕ) → first_bad_entry used at (arena_entry s) ≡ None
+  entry_passes used = passes used at (arena_entry s) (length s.block) is.kind size uncsize is.some is.most
       (in_sum at.index at.end (block_room (length s.block)) (omega (arith, stands.end))
       (λ one. omega (arith, stands.end, first_one before (sym stands.index ∙ one))))
 
-  pub entry_info : (number : ℕ) (info : Info) → IsInfoOf number at (entry_of s) info → IsInfo number before s info
+  pub entry_info : (number : ℕ) (info : Info) → IsInfoOf number at (arena_entry s) info → IsInfoOfBlock number before s info
   entry_info number info says = record {
     kind = says.kind;
     score = says.score ∙ take_all 20 s.score (omega (arith, is.score_len));
@@ -62,7 +62,7 @@ module _ (score_of : List ℕ → List ℕ) (before : List Stored) (s : Stored) 
     number_is = says.number_is ∙ omega (arith, stands.index);
   }
 
-pub walks_bad : (number used : ℕ) (at : At) (entry : List ℕ) (bad : BackBad) → first_bad used at entry ≡ Some bad → Walks number used at entry (Err bad)
+pub walks_bad : (number used : ℕ) (at : At) (entry : List ℕ) (bad : BackBad) → first_bad_entry used at entry ≡ Some bad → WalksEntry number used at entry (Err bad)
 walks_bad number used at entry Fault is = tt
 walks_bad number used at entry (Damaged want found) is = is
 

@@ -13,16 +13,16 @@ use Rattle.vt_disk.specs.Members.{DiskOf}
 use Rattle.vt_disk.proofs.Bytes.{part-with_bytes}
 use Rattle.vt_twin.specs.declared.step.Step.{Step}
 use Rattle.vt_twin.specs.Calls.{call_at}
-use Rattle.vt_twin.specs.Twin.{Change, calls_made, next_call as next_head_call, next_frame, with_change}
+use Rattle.vt_twin.specs.Twin.{FrameChange, twin_calls_made, next_call as next_head_call, next_frame, with_change}
 use Rattle.vt_clump.specs.declared.packed.Packed.{Packed}
 use Rattle.vt_model.specs.declared.TheConstants.{ARENA_HEAD_LEN}
 use Rattle.vt_arena.specs.Arena.{ArenaState, PieceAdvances, changing, pieces}
-use Rattle.vt_arena.specs.Heads.{frame_of}
+use Rattle.vt_arena.specs.Heads.{head_frame}
 use Rattle.vt_arena.specs.Layout.{Content, directory_place, head_place}
 use Rattle.vt_arena.specs.Places.{directory_room}
-use Rattle.vt_arena.specs.Sound.{IsRegion, IsSound}
+use Rattle.vt_arena.specs.Sound.{IsRegion, IsSoundArena}
 use Rattle.vt_arena.specs.Whole.{staged_room, staged_directory}
-use Rattle.vt_arena.specs.Written.{clump_at, next_piece, next_call}
+use Rattle.vt_arena.specs.Written.{clump_at, next_piece, next_commit_call}
 use Rattle.vt_arena.proofs.Pieces.{clump_failed, clump_made, directory_failed, directory_made, writes_in_region}
 
 pub test_true : (x y : ℕ) → x < y → nat_lt x y ≡ true
@@ -58,26 +58,26 @@ module _ (a : ArenaState) (region : Region) where
   pub is_directory : length a.staged ≤ a.written → next_piece a region ≡ Directory
   is_directory all = ap (λ (b : Bool). if b then Clump else Directory) (test_false a.written (length a.staged) all)
 
-  pub is_piece : a.written < pieces a → next_piece a region ≡ next_call a region
+  pub is_piece : a.written < pieces a → next_piece a region ≡ next_commit_call a region
   is_piece below = sym (ap (λ (b : Bool). if b then next_piece a region else next_head_call (changing a) (head_place region)) (test_true a.written (pieces a) below))
 
   -- behind the pieces comes the head
-  pub is_head : pieces a ≤ a.written → next_head_call (changing a) (head_place region) ≡ next_call a region
+  pub is_head : pieces a ≤ a.written → next_head_call (changing a) (head_place region) ≡ next_commit_call a region
   is_head all = sym (ap (λ (b : Bool). if b then next_piece a region else next_head_call (changing a) (head_place region)) (test_false a.written (pieces a) all))
 
   -- whose last call is a sync
-  pub is_sync : a.written ≤ pieces a → calls_made (changing a) ≤ 3 → a.written + calls_made (changing a) ≡ pieces a + 3 → next_call a region ≡ sync
+  pub is_sync : a.written ≤ pieces a → twin_calls_made (changing a) ≤ 3 → a.written + twin_calls_made (changing a) ≡ pieces a + 3 → next_commit_call a region ≡ sync
   is_sync most few last =
-      let third : calls_made (changing a) ≡ 3 = omega (arith, most, few, last) in
+      let third : twin_calls_made (changing a) ≡ 3 = omega (arith, most, few, last) in
       sym (is_head (omega (arith, third, last)))
       ∙ ap (λ (n : ℕ). call_at n (head_place region) (changing a).frame_len (changing a).current (next_frame (changing a))) third
 
 -- the head's twin, where its change has begun and where it begins
 pub changing_begun : (a : ArenaState) → IsSome a.twin.change → changing a ≡ a.twin
-changing_begun a some = ap (λ (b : Bool). if b then a.twin else with_change (frame_of a.next) a.twin) some
+changing_begun a some = ap (λ (b : Bool). if b then a.twin else with_change (head_frame a.next) a.twin) some
 
-pub changing_first : (a : ArenaState) → a.twin.change ≡ None → changing a ≡ with_change (frame_of a.next) a.twin
-changing_first a none = ap (λ (o : Option Change). if is_some o then a.twin else with_change (frame_of a.next) a.twin) none
+pub changing_first : (a : ArenaState) → a.twin.change ≡ None → changing a ≡ with_change (head_frame a.next) a.twin
+changing_first a none = ap (λ (o : Option FrameChange). if is_some o then a.twin else with_change (head_frame a.next) a.twin) none
 
 -- A write of a piece lies on the disk.
 module _ (a : ArenaState) (region : Region) (size : ℕ) (is_region : IsRegion region size)
@@ -131,20 +131,20 @@ module _ {D E : Type 0} (disk : DiskOf D) (a : ArenaState) (region : Region) (be
 
     pub clump_sound : (new : ArenaState) → PieceAdvances result a new → (score_of : List ℕ → List ℕ) (old : Content)
         → a.twin.change ≡ None → IsTrue disk.tells → length (disk.bytes before) ≡ disk.size before
-        → IsSound score_of a region old (disk.bytes before) (disk.images before)
-        → IsSound score_of new region old (disk.bytes after) (disk.images after)
+        → IsSoundArena score_of a region old (disk.bytes before) (disk.images before)
+        → IsSoundArena score_of new region old (disk.bytes after) (disk.images after)
     clump_sound new steps score_of old rest told fits sound = by result steps clump.written
       where
         by : (r : Result Step E) → PieceAdvances r a new
             → OnOk r (IsTrue disk.tells → disk.bytes after ≡ with_bytes place p.bytes (disk.bytes before))
-            → IsSound score_of new region old (disk.bytes after) (disk.images after)
+            → IsSoundArena score_of new region old (disk.bytes after) (disk.images after)
         by (Err e) steps written =
-            subst (λ (s : ArenaState). IsSound score_of s region old (disk.bytes after) (disk.images after)) (sym steps)
+            subst (λ (s : ArenaState). IsSoundArena score_of s region old (disk.bytes after) (disk.images after)) (sym steps)
             (clump_failed score_of a region (disk.size before) old (disk.bytes before) (disk.bytes after) (disk.images before) (disk.images after)
             is_region rest place (length p.bytes) clump.writes.images (clump.writes.bytes told) sound below p is refl
             (a.head.used + staged_room (take a.written a.staged)) 0 refl place_is (room p below is))
         by (Ok step) steps written =
-            subst (λ (s : ArenaState). IsSound score_of s region old (disk.bytes after) (disk.images after)) (sym steps.1)
+            subst (λ (s : ArenaState). IsSoundArena score_of s region old (disk.bytes after) (disk.images after)) (sym steps.1)
             (clump_made score_of a region (disk.size before) old (disk.bytes before) (disk.bytes after) (disk.images before) (disk.images after)
             is_region rest place (length p.bytes) clump.writes.images (clump.writes.bytes told) sound below p is refl
             (a.head.used + staged_room (take a.written a.staged)) 0 refl place_is (room p below is)
@@ -170,20 +170,20 @@ module _ {D E : Type 0} (disk : DiskOf D) (a : ArenaState) (region : Region) (be
 
     pub directory_sound : (new : ArenaState) → PieceAdvances result a new → (score_of : List ℕ → List ℕ) (old : Content)
         → a.twin.change ≡ None → IsTrue disk.tells → length (disk.bytes before) ≡ disk.size before
-        → IsSound score_of a region old (disk.bytes before) (disk.images before)
-        → IsSound score_of new region old (disk.bytes after) (disk.images after)
+        → IsSoundArena score_of a region old (disk.bytes before) (disk.images before)
+        → IsSoundArena score_of new region old (disk.bytes after) (disk.images after)
     directory_sound new steps score_of old rest told fits sound = by result steps directory.written
       where
         by : (r : Result Step E) → PieceAdvances r a new
             → OnOk r (IsTrue disk.tells → disk.bytes after ≡ with_bytes there (staged_directory a.staged) (disk.bytes before))
-            → IsSound score_of new region old (disk.bytes after) (disk.images after)
+            → IsSoundArena score_of new region old (disk.bytes after) (disk.images after)
         by (Err e) steps written =
-            subst (λ (s : ArenaState). IsSound score_of s region old (disk.bytes after) (disk.images after)) (sym steps)
+            subst (λ (s : ArenaState). IsSoundArena score_of s region old (disk.bytes after) (disk.images after)) (sym steps)
             (directory_failed score_of a region (disk.size before) old (disk.bytes before) (disk.bytes after) (disk.images before) (disk.images after)
             is_region rest there (length (staged_directory a.staged)) directory.writes.images (directory.writes.bytes told) sound
             (omega (arith, all, next)) entries_len there_is (omega (arith, entries)))
         by (Ok step) steps written =
-            subst (λ (s : ArenaState). IsSound score_of s region old (disk.bytes after) (disk.images after)) (sym steps.1)
+            subst (λ (s : ArenaState). IsSoundArena score_of s region old (disk.bytes after) (disk.images after)) (sym steps.1)
             (directory_made score_of a region (disk.size before) old (disk.bytes before) (disk.bytes after) (disk.images before) (disk.images after)
             is_region rest there (length (staged_directory a.staged)) directory.writes.images (directory.writes.bytes told) sound
             (omega (arith, all, next)) entries_len there_is (omega (arith, entries))
@@ -195,8 +195,8 @@ module _ {D E : Type 0} (disk : DiskOf D) (a : ArenaState) (region : Region) (be
 
   pub piece_sound : (new : ArenaState) → PieceAdvances result a new → (score_of : List ℕ → List ℕ) (old : Content)
       → a.twin.change ≡ None → IsTrue disk.tells → length (disk.bytes before) ≡ disk.size before
-      → IsSound score_of a region old (disk.bytes before) (disk.images before)
-      → IsSound score_of new region old (disk.bytes after) (disk.images after)
+      → IsSoundArena score_of a region old (disk.bytes before) (disk.images before)
+      → IsSoundArena score_of new region old (disk.bytes after) (disk.images after)
   piece_sound new steps score_of old rest told fits sound = ⊎_elim
       (λ (below : a.written < length a.staged). clump_sound below new steps score_of old rest told fits sound)
       (λ (all : length a.staged ≤ a.written). directory_sound all new steps score_of old rest told fits sound)

@@ -2,13 +2,13 @@
 use Rattle.std.specs.Prelude.{◌≡◌, ℕ, ◌+◌, min, nat_lt, Bool, ◌||◌, true, false, is_some, if◌then◌else◌, List, [], ◌∷◌, ◌++◌, length, map, Result, Ok, Err}
 use Rattle.vt_twin.specs.declared.step.Step.{Step}
 use Rattle.vt_twin.specs.declared.step.Step.TheVariants.{More, Done}
-use Rattle.vt_twin.specs.Twin.{TwinState, fresh, with_change, without_spare, after_call, after_last as twin_after_last, after_fault as twin_after_fault, calls_made as twin_calls_made}
+use Rattle.vt_twin.specs.Twin.{TwinState, fresh, with_change, without_spare, after_call, twin_after_last, twin_after_fault, twin_calls_made}
 use Rattle.vt_clump.specs.declared.packed.Packed.{Packed}
 use Rattle.vt_clump.specs.Spelling.{Stored}
 use Rattle.vt_clump.specs.Clumps.{stored_of}
 use Rattle.vt_arena.specs.declared.head.ArenaHead.{ArenaHead}
 use Rattle.vt_arena.specs.declared.TheConstants.{FRAME_LEN}
-use Rattle.vt_arena.specs.Heads.{frame_of}
+use Rattle.vt_arena.specs.Heads.{head_frame}
 use Rattle.vt_arena.specs.Layout.{Content, entry_bytes}
 use Rattle.vt_arena.specs.Places.{block_room, has_room}
 
@@ -63,19 +63,19 @@ abbrev pub with_seal : ArenaState → ArenaState
 with_seal a = record a { next = record a.next { sealed = Bool.true } }
 
 -- the blocks that the next commit adds, and what the arena holds after it
-abbrev pub added_by : ArenaState → List Stored
-added_by a = map stored_of a.staged
+abbrev pub added_by_commit : ArenaState → List Stored
+added_by_commit a = map stored_of a.staged
 
 abbrev pub next_content : ArenaState → Content → Content
-next_content a old = record { sealed = a.next.sealed; stored = old.stored ++ added_by a }
+next_content a old = record { sealed = a.next.sealed; stored = old.stored ++ added_by_commit a }
 
 -- The pieces of a commit are a clump for each of so many blocks and, where there are any, their
 -- directory.
-abbrev pub pieces_of : (blocks : ℕ) → ℕ
-pieces_of blocks = blocks + min 1 blocks
+abbrev pub commit_pieces : (blocks : ℕ) → ℕ
+commit_pieces blocks = blocks + min 1 blocks
 
 abbrev pub pieces : ArenaState → ℕ
-pieces a = pieces_of (length a.staged)
+pieces a = commit_pieces (length a.staged)
 
 -- The calls behind them are the four of the head's change.
 abbrev pub commit_calls : ArenaState → ℕ
@@ -87,7 +87,7 @@ calls_made a = a.written + twin_calls_made a.twin
 
 -- the head's twin, which changes once the pieces are written
 abbrev pub changing : ArenaState → TwinState
-changing a = if is_some a.twin.change then a.twin else with_change (frame_of a.next) a.twin
+changing a = if is_some a.twin.change then a.twin else with_change (head_frame a.next) a.twin
 
 -- the arena after a call that succeeded and wasn't the last of its commit: after a piece, or after
 -- a call of the head's change
@@ -119,10 +119,10 @@ after_fault a =
     else record (with_failure a) { twin = twin_after_fault (changing a) }
 
 -- what `advance` makes of an arena
-abbrev pub Advances : {E : Type 0} → Result Step E → (old new : ArenaState) → Type 0
-Advances (Ok More) old new = new ≡ after_step old
-Advances (Ok Done) old new = new ≡ after_last old
-Advances (Err e) old new = new ≡ after_fault old
+abbrev pub ArenaAdvances : {E : Type 0} → Result Step E → (old new : ArenaState) → Type 0
+ArenaAdvances (Ok More) old new = new ≡ after_step old
+ArenaAdvances (Ok Done) old new = new ≡ after_last old
+ArenaAdvances (Err e) old new = new ≡ after_fault old
 
 -- what a call that writes a piece makes of one
 abbrev pub PieceAdvances : {E : Type 0} → Result Step E → (old new : ArenaState) → Type 0

@@ -10,8 +10,8 @@ use Rattle.vt_disk.specs.declared.region.Region.{Region}
 use Rattle.vt_disk.specs.Disk.{part}
 use Rattle.vt_clump.specs.Spelling.{Stored}
 use Rattle.vt_model.specs.declared.TheConstants.{ARENA_HEAD_LEN, DIRECTORY_ENTRY_LEN}
-use Rattle.vt_arena.specs.declared.bad.BackBad.{BackBad}
-use Rattle.vt_arena.specs.declared.bad.BackBad.TheVariants.{Fault, Damaged}
+use Rattle.vt_arena.specs.declared.error.BackBad.{BackBad}
+use Rattle.vt_arena.specs.declared.error.BackBad.TheVariants.{Fault, Damaged}
 use Rattle.vt_arena.specs.declared.directory.At.{At}
 use Rattle.vt_arena.specs.Layout.{directory_place, used_of}
 use Rattle.vt_arena.specs.Places.{block_room, offset_of}
@@ -24,14 +24,14 @@ last_entry region entries file = part (directory_place region entries) DIRECTORY
 abbrev pub kind_in : List ℕ → ℕ
 kind_in entry = slice_index entry 0
 
-abbrev pub size_in : List ℕ → ℕ
-size_in entry = big_number 2 (drop 1 entry)
+abbrev pub size_in_entry : List ℕ → ℕ
+size_in_entry entry = big_number 2 (drop 1 entry)
 
-abbrev pub uncsize_in : List ℕ → ℕ
-uncsize_in entry = big_number 2 (drop 3 entry)
+abbrev pub uncsize_in_entry : List ℕ → ℕ
+uncsize_in_entry entry = big_number 2 (drop 3 entry)
 
-abbrev pub score_in : List ℕ → List ℕ
-score_in entry = take 20 (drop 5 entry)
+abbrev pub score_in_entry : List ℕ → List ℕ
+score_in_entry entry = take 20 (drop 5 entry)
 
 -- the clumps can't make up what comes before `end`: there isn't as much, or more where this is the
 -- first of them
@@ -41,13 +41,13 @@ is_out_of_sum at size =
 
 -- the first test of the entry at which a walk stands that fails, in an arena with so many bytes of
 -- clumps
-abbrev pub first_bad : (used : ℕ) → At → (entry : List ℕ) → Option BackBad
-first_bad used at entry =
-    let size = size_in entry in
+abbrev pub first_bad_entry : (used : ℕ) → At → (entry : List ℕ) → Option BackBad
+first_bad_entry used at entry =
+    let size = size_in_entry entry in
     if not (is_kind (kind_in entry)) then Some (Damaged (Number 13) (Number (kind_in entry)))
     else if size == 0 || nat_lt MAX_BLOCK size then Some (Damaged (Number 1) (Number size))
-    else if not (uncsize_in entry == size)
-    then Some (Damaged (Number size) (Number (uncsize_in entry)))
+    else if not (uncsize_in_entry entry == size)
+    then Some (Damaged (Number size) (Number (uncsize_in_entry entry)))
     else if is_out_of_sum at size
     then Some (Damaged (Number used) (Number (used - at.end + block_room size)))
     else None
@@ -55,19 +55,20 @@ first_bad used at entry =
 -- what a walk gives at an entry
 pub record IsInfoOf (number : ℕ) (at : At) (entry : List ℕ) (info : Info) : Type 0 where
   pub kind : info.key.kind ≡ kind_in entry
-  pub score : info.key.score.0 ≡ score_in entry
-  pub size : info.size ≡ size_in entry
+  pub score : info.key.score.0 ≡ score_in_entry entry
+  pub size : info.size ≡ size_in_entry entry
   pub arena : info.place.arena ≡ number
-  pub offset : info.place.offset ≡ ARENA_HEAD_LEN + (at.end - block_room (size_in entry))
+  pub offset : info.place.offset ≡ ARENA_HEAD_LEN + (at.end - block_room (size_in_entry entry))
   pub number_is : info.number ≡ at.index - 1
 
 -- the walk stands at the block behind these
-pub record IsAt (before : List Stored) (s : Stored) (at : At) : Type 0 where
+pub record IsAtBlock (before : List Stored) (s : Stored) (at : At) : Type 0 where
   pub index : at.index ≡ length before + 1
   pub end : at.end ≡ used_of before + block_room (length s.block)
 
 -- what it gives of that block
-pub record IsInfo (number : ℕ) (before : List Stored) (s : Stored) (info : Info) : Type 0 where
+pub record IsInfoOfBlock (number : ℕ) (before : List Stored) (s : Stored) (info : Info)
+    : Type 0 where
   pub kind : info.key.kind ≡ s.kind
   pub score : info.key.score.0 ≡ s.score
   pub size : info.size ≡ length s.block
@@ -76,17 +77,17 @@ pub record IsInfo (number : ℕ) (before : List Stored) (s : Stored) (info : Inf
   pub number_is : info.number ≡ length before
 
 -- the answer for an entry
-abbrev pub Walks : (number used : ℕ) → At → (entry : List ℕ) → Result Info BackBad → Type 0
-Walks number used at entry (Ok info) =
-    (first_bad used at entry ≡ None) × IsInfoOf number at entry info
-Walks number used at entry (Err Fault) = ⊤
-Walks number used at entry (Err (Damaged want found)) =
-    first_bad used at entry ≡ Some (Damaged want found)
+abbrev pub WalksEntry : (number used : ℕ) → At → (entry : List ℕ) → Result Info BackBad → Type 0
+WalksEntry number used at entry (Ok info) =
+    (first_bad_entry used at entry ≡ None) × IsInfoOf number at entry info
+WalksEntry number used at entry (Err Fault) = ⊤
+WalksEntry number used at entry (Err (Damaged want found)) =
+    first_bad_entry used at entry ≡ Some (Damaged want found)
 
 -- the answer tells of a fault of the disk in this call
-abbrev pub is_fault : BackBad → Bool
-is_fault Fault = true
-is_fault (Damaged want found) = false
+abbrev pub is_back_fault : BackBad → Bool
+is_back_fault Fault = true
+is_back_fault (Damaged want found) = false
 
 -- what was wanted and what was found aren't the same
 abbrev pub NamesDamage : BackBad → Type 0

@@ -16,8 +16,8 @@ fields_of h =
     codes "VARN" ++ (big_bytes 2 h.version ++ (big_bytes 4 h.number ++ (flag_of h.sealed
     ∷ (big_bytes 4 h.clumps ++ (big_bytes 8 h.used ++ h.chain.0)))))
 
-abbrev pub frame_of : ArenaHead → List ℕ
-frame_of h = fields_of h ++ replicate (FRAME_LEN - FIELDS_LEN) 0
+abbrev pub head_frame : ArenaHead → List ℕ
+head_frame h = fields_of h ++ replicate (FRAME_LEN - FIELDS_LEN) 0
 
 -- What the fields say, by their places.
 abbrev pub version_in : List ℕ → ℕ
@@ -29,8 +29,8 @@ number_in fields = big_number 4 (drop 6 fields)
 abbrev pub sealed_in : List ℕ → ℕ
 sealed_in fields = slice_index fields 10
 
-abbrev pub clumps_in : List ℕ → ℕ
-clumps_in fields = big_number 4 (drop 11 fields)
+abbrev pub clump_count_in : List ℕ → ℕ
+clump_count_in fields = big_number 4 (drop 11 fields)
 
 abbrev pub used_in : List ℕ → ℕ
 used_in fields = big_number 8 (drop 15 fields)
@@ -40,6 +40,6 @@ pub record IsHeadOf (fields : List ℕ) (h : ArenaHead) : Type 0 where
   pub version : h.version ≡ version_in fields
   pub number : h.number ≡ number_in fields
   pub sealed : flag_of h.sealed ≡ sealed_in fields
-  pub clumps : h.clumps ≡ clumps_in fields
+  pub clumps : h.clumps ≡ clump_count_in fields
   pub used : h.used ≡ used_in fields
   pub chain : h.chain.0 ≡ take 20 (drop 23 fields)

@@ -7,7 +7,7 @@ use Rattle.vt_disk.specs.declared.region.Region.{Region}
 use Rattle.vt_disk.specs.Disk.{part}
 use Rattle.vt_disk.specs.Region.{Inside}
 use Rattle.vt_twin.specs.Frames.{current_frame}
-use Rattle.vt_clump.specs.Spelling.{Stored, IsStored, spelled, sizes}
+use Rattle.vt_clump.specs.Spelling.{Stored, IsStoredBlock, clump_bytes, sizes}
 use Rattle.vt_model.specs.declared.TheConstants.{ARENA_HEAD_LEN}
 use Rattle.vt_arena.specs.declared.head.ArenaHead.{ArenaHead}
 use Rattle.vt_arena.specs.declared.TheConstants.{FRAME_LEN, FIELDS_LEN}
@@ -18,24 +18,24 @@ use Rattle.vt_arena.specs.Places.{block_room, directory_room, lengths_of, Fit}
 abbrev pub entry_bytes : (kind n : ℕ) → (score : List ℕ) → List ℕ
 entry_bytes kind n score = kind ∷ (sizes n ++ score)
 
-abbrev pub entry_of : Stored → List ℕ
-entry_of s = entry_bytes s.kind (length s.block) s.score
+abbrev pub arena_entry : Stored → List ℕ
+arena_entry s = entry_bytes s.kind (length s.block) s.score
 
 -- the clumps of these blocks, and their directory
 abbrev pub clumps_of : List Stored → List ℕ
-clumps_of stored = flat_map spelled stored
+clumps_of stored = flat_map clump_bytes stored
 
 abbrev pub directory_of : List Stored → List ℕ
-directory_of stored = flat_map entry_of (reverse stored)
+directory_of stored = flat_map arena_entry (reverse stored)
 
 -- how many bytes the clumps are
 abbrev pub used_of : List Stored → ℕ
 used_of stored = sum_by block_room (lengths_of stored)
 
 -- A chain begins as 20 zeros. Each entry makes it the score of what it was and of the entry.
-abbrev pub chain_of : (List ℕ → List ℕ) → List Stored → List ℕ
-chain_of score_of stored =
-    fold (λ chain s. score_of (chain ++ entry_of s)) (replicate 20 0) stored
+abbrev pub chain_of_blocks : (List ℕ → List ℕ) → List Stored → List ℕ
+chain_of_blocks score_of stored =
+    fold (λ chain s. score_of (chain ++ arena_entry s)) (replicate 20 0) stored
 
 -- what an arena holds: its blocks in order, and whether it is closed for more
 pub record Content : Type 0 where
@@ -46,19 +46,19 @@ abbrev pub empty : Content
 empty = record { sealed = Bool.false; stored = [] }
 
 -- its head
-abbrev pub head_of : (score_of : List ℕ → List ℕ) → (number : ℕ) → Content → ArenaHead
-head_of score_of number a = record {
+abbrev pub arena_head : (score_of : List ℕ → List ℕ) → (number : ℕ) → Content → ArenaHead
+arena_head score_of number a = record {
   version = 1;
   number = number;
   sealed = a.sealed;
   clumps = length a.stored;
   used = used_of a.stored;
-  chain = record { 0 = chain_of score_of a.stored };
+  chain = record { 0 = chain_of_blocks score_of a.stored };
 }
 
 -- these bytes stand at a place of the file
-abbrev pub StandsAt : (place : ℕ) → (bytes file : List ℕ) → Type 0
-StandsAt place bytes file = part place (length bytes) file ≡ bytes
+abbrev pub BytesStandAt : (place : ℕ) → (bytes file : List ℕ) → Type 0
+BytesStandAt place bytes file = part place (length bytes) file ≡ bytes
 
 -- where the clumps behind those of these blocks stand, and a directory of so many entries
 abbrev pub clumps_place : Region → (before : List Stored) → ℕ
@@ -77,12 +77,12 @@ InHead region i = Inside (head_place region) i
 
 -- the clumps of these blocks and their directory stand in the region
 pub record HasBlocks (region : Region) (stored : List Stored) (file : List ℕ) : Type 0 where
-  pub clumps : StandsAt (region.start + ARENA_HEAD_LEN) (clumps_of stored) file
-  pub directory : StandsAt (directory_place region (length stored)) (directory_of stored) file
+  pub clumps : BytesStandAt (region.start + ARENA_HEAD_LEN) (clumps_of stored) file
+  pub directory : BytesStandAt (directory_place region (length stored)) (directory_of stored) file
 
 -- each of them is a block with its score, and an arena of this length has room for them
-pub record IsContent (score_of : List ℕ → List ℕ) (len : ℕ) (a : Content) : Type 0 where
-  pub stored : All (IsStored score_of) a.stored
+pub record IsArenaContent (score_of : List ℕ → List ℕ) (len : ℕ) (a : Content) : Type 0 where
+  pub stored : All (IsStoredBlock score_of) a.stored
   pub fit : Fit len a.stored
 
 -- the fields of the head that is current: a twin is found by its region's start alone
@@ -92,6 +92,6 @@ fields_at region file = take FIELDS_LEN (current_frame region FRAME_LEN file)
 -- The file's bytes in the region are the arena of this number that holds this.
 pub record IsArena (score_of : List ℕ → List ℕ) (region : Region) (number : ℕ) (a : Content)
     (file : List ℕ) : Type 0 where
-  pub content : IsContent score_of region.len a
-  pub head : fields_at region file ≡ fields_of (head_of score_of number a)
+  pub content : IsArenaContent score_of region.len a
+  pub head : fields_at region file ≡ fields_of (arena_head score_of number a)
   pub blocks : HasBlocks region a.stored file

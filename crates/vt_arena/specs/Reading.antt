@@ -8,12 +8,12 @@ use Rattle.vt_clump.specs.declared.reading.Clump.{Clump}
 use Rattle.vt_clump.specs.declared.reading.Encoding.TheVariants.{Compressed, Unknown}
 use Rattle.vt_clump.specs.declared.reading.ClumpBad.{ClumpBad}
 use Rattle.vt_clump.specs.declared.reading.ClumpBad.TheVariants.{Short, Magic, Kind, Encoding, Size, Score, NoMemory as ClumpNoMemory}
-use Rattle.vt_clump.specs.Faults.{first_bad}
+use Rattle.vt_clump.specs.Faults.{first_bad_clump}
 use Rattle.vt_clump.specs.Spelling.{clump_len, size_in, stored_in}
-use Rattle.vt_clump.specs.Clumps.{IsRead}
+use Rattle.vt_clump.specs.Clumps.{IsClumpRead}
 use Rattle.vt_model.specs.declared.TheConstants.{ARENA_HEAD_LEN, CLUMP_HEADER_LEN}
-use Rattle.vt_arena.specs.declared.bad.ReadBad.{ReadBad}
-use Rattle.vt_arena.specs.declared.bad.ReadBad.TheVariants.{Fault, Damaged, NoMemory}
+use Rattle.vt_arena.specs.declared.error.ReadBad.{ReadBad}
+use Rattle.vt_arena.specs.declared.error.ReadBad.TheVariants.{Fault, Damaged, NoMemory}
 
 -- a clump's header at this offset lies in a region of this length, behind the head
 abbrev pub HasHeader : (len offset : ℕ) → Type 0
@@ -33,32 +33,34 @@ abbrev pub reads_for : (size n : ℕ) → ℕ
 reads_for size n = if nat_le n size then 1 else 2
 
 -- what was wanted, and what was found
-abbrev pub damage_of : ClumpBad → FieldValue × FieldValue
-damage_of Short = (Number CLUMP_HEADER_LEN, Number 0)
-damage_of (Magic found) = (MagicValue (codes "VCLP"), MagicValue found)
-damage_of (Kind found) = (Number 13, Number found)
-damage_of (Encoding Compressed) = (Number 1, Number 2)
-damage_of (Encoding (Unknown found)) = (Number 1, Number found)
-damage_of (Size want found) = (Number want, Number found)
-damage_of (Score want found) = (ScoreValue want, ScoreValue found)
-damage_of ClumpNoMemory = (Number 0, Number 0)
+abbrev pub damage_of_clump : ClumpBad → FieldValue × FieldValue
+damage_of_clump Short = (Number CLUMP_HEADER_LEN, Number 0)
+damage_of_clump (Magic found) = (MagicValue (codes "VCLP"), MagicValue found)
+damage_of_clump (Kind found) = (Number 13, Number found)
+damage_of_clump (Encoding Compressed) = (Number 1, Number 2)
+damage_of_clump (Encoding (Unknown found)) = (Number 1, Number found)
+damage_of_clump (Size want found) = (Number want, Number found)
+damage_of_clump (Score want found) = (ScoreValue want, ScoreValue found)
+damage_of_clump ClumpNoMemory = (Number 0, Number 0)
 
 -- the bytes are damaged so: by the first test of a clump that fails
 abbrev pub IsDamaged : (score_of : List ℕ → List ℕ) → (bytes : List ℕ) → (want found : FieldValue)
     → Type 0
 IsDamaged score_of bytes want found =
-    (bad : ClumpBad) × (first_bad score_of bytes ≡ Some bad) × (damage_of bad ≡ (want, found))
+    (bad : ClumpBad) × (first_bad_clump score_of bytes ≡ Some bad)
+    × (damage_of_clump bad ≡ (want, found))
 
 -- the answer where a header at the offset lies in the region and these are the clump's bytes
-abbrev pub ReadsAs : (score_of : List ℕ → List ℕ) → (bytes : List ℕ) → Result Clump ReadBad → Type 0
-ReadsAs score_of bytes (Ok clump) =
-    (first_bad score_of bytes ≡ None) × IsRead (stored_in bytes) clump
-ReadsAs score_of bytes (Err (Damaged want found)) = IsDamaged score_of bytes want found
-ReadsAs score_of bytes (Err NoMemory) = ⊤
-ReadsAs score_of bytes (Err Fault) = ⊤
+abbrev pub ReadsClumpAs : (score_of : List ℕ → List ℕ) → (bytes : List ℕ) → Result Clump ReadBad
+    → Type 0
+ReadsClumpAs score_of bytes (Ok clump) =
+    (first_bad_clump score_of bytes ≡ None) × IsClumpRead (stored_in bytes) clump
+ReadsClumpAs score_of bytes (Err (Damaged want found)) = IsDamaged score_of bytes want found
+ReadsClumpAs score_of bytes (Err NoMemory) = ⊤
+ReadsClumpAs score_of bytes (Err Fault) = ⊤
 
 -- the answer tells of a fault of the disk in this call
-abbrev pub is_fault : ReadBad → Bool
-is_fault Fault = true
-is_fault (Damaged want found) = false
-is_fault NoMemory = false
+abbrev pub is_clump_fault : ReadBad → Bool
+is_clump_fault Fault = true
+is_clump_fault (Damaged want found) = false
+is_clump_fault NoMemory = false

@@ -3,15 +3,15 @@ use Rattle.std.specs.Prelude.{◌≡◌, ◌⊎◌, ℕ, ◌+◌, ◌<◌, ◌�
 use Rattle.vt_disk.specs.declared.region.Region.{Region}
 use Rattle.vt_disk.specs.Disk.{IsAligned}
 use Rattle.vt_disk.specs.Region.{FitsDisk, region_bytes}
-use Rattle.vt_twin.specs.Twin.{next_frame, calls_made as twin_calls_made}
-use Rattle.vt_twin.specs.Sound.{IsSound as IsSoundTwin, HasBegunSelector as TwinHasBegunSelector}
+use Rattle.vt_twin.specs.Twin.{next_frame, twin_calls_made}
+use Rattle.vt_twin.specs.Sound.{IsSoundTwin, TwinHasBegunSelector}
 use Rattle.vt_clump.specs.Spelling.{Stored}
 use Rattle.vt_clump.specs.Clumps.{IsPacked}
 use Rattle.vt_arena.specs.declared.TheConstants.{FRAME_LEN, FIELDS_LEN}
-use Rattle.vt_arena.specs.Arena.{ArenaState, added_by, next_content, pieces}
-use Rattle.vt_arena.specs.Heads.{fields_of, frame_of}
+use Rattle.vt_arena.specs.Arena.{ArenaState, added_by_commit, next_content, pieces}
+use Rattle.vt_arena.specs.Heads.{fields_of, head_frame}
 use Rattle.vt_arena.specs.Places.{IsArenaLen}
-use Rattle.vt_arena.specs.Layout.{Content, IsContent, IsArena, HasBlocks, StandsAt, clumps_of, directory_of, clumps_place, directory_place, head_of}
+use Rattle.vt_arena.specs.Layout.{Content, IsArenaContent, IsArena, HasBlocks, BytesStandAt, clumps_of, directory_of, clumps_place, directory_place, arena_head}
 
 -- a region of a disk of this size that an arena may have, from a sector's start on
 pub record IsRegion (region : Region) (size : ℕ) : Type 0 where
@@ -26,33 +26,34 @@ IsSettled region read images =
 
 -- the blocks whose clumps the commit under way has written
 abbrev pub clumps_made : ArenaState → List Stored
-clumps_made a = take a.written (added_by a)
+clumps_made a = take a.written (added_by_commit a)
 
 -- the pieces that it has written stand in the region: clumps behind those of the blocks that were
 -- there and, once all are, the directory below theirs
 pub record HasPieces (a : ArenaState) (region : Region) (old : Content) (file : List ℕ)
     : Type 0 where
-  pub clumps : StandsAt (clumps_place region old.stored) (clumps_of (clumps_made a)) file
+  pub clumps : BytesStandAt (clumps_place region old.stored) (clumps_of (clumps_made a)) file
   pub directory : length a.staged < a.written
-      → StandsAt (directory_place region (length old.stored + length a.staged))
-      (directory_of (added_by a)) file
+      → BytesStandAt (directory_place region (length old.stored + length a.staged))
+      (directory_of (added_by_commit a)) file
 
 -- A disk, by what it reads as and by its images, is sound for an arena in this region that holds
 -- `old`.
-pub record IsSound (score_of : List ℕ → List ℕ) (a : ArenaState) (region : Region) (old : Content)
+pub record IsSoundArena (score_of : List ℕ
+    → List ℕ) (a : ArenaState) (region : Region) (old : Content)
     (read : List ℕ) (images : List ℕ → Type 0) : Type 0 where
   -- the heads in memory are those of what is committed and of what the next commit makes of it
   pub len : a.len ≡ region.len
   pub frame_len : a.twin.frame_len ≡ FRAME_LEN
-  pub head : a.head ≡ head_of score_of a.number old
-  pub next : a.next ≡ head_of score_of a.number (next_content a old)
+  pub head : a.head ≡ arena_head score_of a.number old
+  pub next : a.next ≡ arena_head score_of a.number (next_content a old)
   pub chain : length a.next.chain.0 ≡ 20
   pub packed : All (IsPacked score_of) a.staged
-  pub content : IsContent score_of region.len old
-  pub next_content_is : IsContent score_of region.len (next_content a old)
+  pub content : IsArenaContent score_of region.len old
+  pub next_content_is : IsArenaContent score_of region.len (next_content a old)
   -- the head changes to the next one once all pieces are written
   pub begun : IsSome a.twin.change
-      → (a.written ≡ pieces a) × (next_frame a.twin ≡ frame_of a.next)
+      → (a.written ≡ pieces a) × (next_frame a.twin ≡ head_frame a.next)
   -- the twin is sound for a frame with the head
   pub frame : List ℕ
   pub twin : IsSoundTwin a.twin region frame read images

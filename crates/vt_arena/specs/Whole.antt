@@ -2,12 +2,12 @@
 use Rattle.std.specs.Prelude.{◌≡◌, ℕ, ◌+◌, ◌-◌, ◌*◌, ◌≤◌, IsSome, false, None, List, length, take, drop, reverse, replicate, MatchOption, sum_by, vec_capacity}
 use Rattle.std.specs.List.{flat_map}
 use Rattle.std.specs.Option.{ForSome}
-use Rattle.vt_twin.specs.Twin.{calls_made}
+use Rattle.vt_twin.specs.Twin.{twin_calls_made}
 use Rattle.vt_clump.specs.declared.packed.Packed.{Packed}
 use Rattle.vt_model.specs.declared.TheConstants.{DIRECTORY_ENTRY_LEN}
 use Rattle.vt_arena.specs.declared.TheConstants.{FRAME_LEN, FIELDS_LEN, STAGED_MAX}
 use Rattle.vt_arena.specs.declared.arena.Arena.TheInside.{Inside}
-use Rattle.vt_arena.specs.Arena.{ArenaState, pieces_of}
+use Rattle.vt_arena.specs.Arena.{ArenaState, commit_pieces}
 use Rattle.vt_arena.specs.Layout.{entry_bytes}
 use Rattle.vt_arena.specs.Places.{IsArenaLen, block_room, directory_room, arena_room}
 
@@ -45,7 +45,7 @@ abbrev pub IsBuffer : List ℕ → Type 0
 IsBuffer frame =
     (length frame ≡ FRAME_LEN) × (drop FIELDS_LEN frame ≡ replicate (FRAME_LEN - FIELDS_LEN) 0)
 
-pub record IsWhole (a : Inside) : Type 0 where
+pub record IsWholeArena (a : Inside) : Type 0 where
   pub frame_len : a.twin.frame_len ≡ FRAME_LEN
   pub runs : a.failed ≡ false → a.twin.failed ≡ false
   pub len_is : IsArenaLen a.len
@@ -56,13 +56,13 @@ pub record IsWhole (a : Inside) : Type 0 where
   pub few : length a.staged.items ≤ STAGED_MAX
   pub capacity : STAGED_MAX ≤ vec_capacity a.staged
   -- how far the commit under way has come
-  pub written_most : a.written ≤ pieces_of (length a.staged.items)
+  pub written_most : a.written ≤ commit_pieces (length a.staged.items)
   pub end_is : a.end ≡ a.head.used + staged_room (take a.written a.staged.items)
   -- the one buffer is here, or is the frame of the head's change
   pub buffer : a.twin.change ≡ None → MatchOption a.buffer ⊥ IsBuffer
   pub frame : ForSome a.twin.change (λ it. IsBuffer it.frame)
-  pub head_calls_is : a.head_calls ≡ calls_made a.twin
+  pub head_calls_is : a.head_calls ≡ twin_calls_made a.twin
   pub head_calls_most : a.head_calls ≤ 3
-  pub begun : IsSome a.twin.change → a.written ≡ pieces_of (length a.staged.items)
+  pub begun : IsSome a.twin.change → a.written ≡ commit_pieces (length a.staged.items)
   -- what was staged is ready to be written as a directory
   pub directory : HasDirectory a.staged.items a.directory.items

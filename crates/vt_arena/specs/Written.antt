@@ -28,7 +28,7 @@ next_piece a region =
 
 -- the next call of a commit: that write or, once all pieces are written, the next call of the
 -- head's change
-abbrev pub next_call : ArenaState → Region → DeviceCall
-next_call a region =
+abbrev pub next_commit_call : ArenaState → Region → DeviceCall
+next_commit_call a region =
     if nat_lt a.written (pieces a) then next_piece a region
     else next_head_call (changing a) (head_place region)

@@ -7,10 +7,10 @@ use crate::head::{ArenaHead, Found};
 use crate::{DIRECTORY_MAX, FRAME_LEN, STAGED_MAX, block_room, has_room};
 use std::alloc::{AllocError, Global};
 use std::marker::Model;
+use vt_base::fields::put;
 use vt_base::{Bytes, Scorer};
 use vt_clump::Packed;
-use vt_disk::{CallCount, CallErr, Disk, Region};
-use vt_fields::put;
+use vt_disk::{CallCount, CallError, Disk, Region};
 use vt_model::DIRECTORY_ENTRY_LEN;
 use vt_twin::{Step, Twin, TwinErr};
 
@@ -48,23 +48,23 @@ impl Model for Arena {
 
     ghost Value = { ArenaState };
 
-    ghost use Rattle.vt_arena.specs.Whole.{IsWhole, state_of};
+    ghost use Rattle.vt_arena.specs.Whole.{IsWholeArena, state_of};
 
     ghost view = { state_of };
 
-    ghost invariant = { IsWhole };
+    ghost invariant = { IsWholeArena };
 }
 
 impl Arena {
     ghost use Rattle.vt_disk.specs.Calls.{WritesWithin, IsSynced};
     ghost use Rattle.vt_base.specs.Faults.{CountsFault};
-    ghost use Rattle.vt_disk.specs.DeviceCalls.{CallMade, is_fault};
+    ghost use Rattle.vt_disk.specs.DeviceCalls.{CallMade, is_call_fault};
     ghost use Rattle.vt_disk.specs.Disk.{WithinCall};
     ghost use Rattle.vt_arena.specs.Layout.{Content, IsArena};
-    ghost use Rattle.vt_arena.specs.Arena.{fresh_arena, fits, is_committing, with_staged, with_seal, next_content, pieces, commit_calls, calls_made, Advances, content_after};
+    ghost use Rattle.vt_arena.specs.Arena.{fresh_arena, fits, is_committing, with_staged, with_seal, next_content, pieces, commit_calls, calls_made, ArenaAdvances, content_after};
     ghost use Rattle.vt_arena.specs.Places.{IsArenaLen, directory_room, arena_room};
-    ghost use Rattle.vt_arena.specs.Sound.{IsRegion, IsSound, GivesOldOrNext};
-    ghost use Rattle.vt_arena.specs.Written.{next_call};
+    ghost use Rattle.vt_arena.specs.Sound.{IsRegion, IsSoundArena, GivesOldOrNext};
+    ghost use Rattle.vt_arena.specs.Written.{next_commit_call};
 
     /// The arena of this length that was found. It makes room for commits, and no device call.
     pub fn resume(alloc: Global, len: u64, found: Found) -> Result<Arena, AllocError>
@@ -215,30 +215,30 @@ impl Arena {
         // A sound disk stays so, for what the arena held or, after the last call, for that with all
         // that was staged behind it.
         ensures sound { (score_of : List ℕ → List ℕ) (old : Content) → IsTrue D.tells
-            → IsSound score_of self.old region old (D.bytes disk.old) (D.images disk.old)
-            → IsSound score_of self.new region (content_after result self.old old)
+            → IsSoundArena score_of self.old region old (D.bytes disk.old) (D.images disk.old)
+            → IsSoundArena score_of self.new region (content_after result self.old old)
             (D.bytes disk.new) (D.images disk.new) }
 
         // A crash at any moment of it leaves the arena as it was or, from the selector's write on,
         // as it was or with all that was staged.
         ensures crash { (score_of : List ℕ → List ℕ) (old : Content) → IsTrue D.tells
-            → IsSound score_of self.old region old (D.bytes disk.old) (D.images disk.old)
+            → IsSoundArena score_of self.old region old (D.bytes disk.old) (D.images disk.old)
             → (c : List ℕ) → WithinCall (D.images disk.old) (D.images disk.new) c
             → GivesOldOrNext (commit_calls self.old ≤ calls_made self.old + 2) score_of region
             self.old.number old (next_content self.old old) c }
 
         // After the last call each crash leaves the arena with all that was staged.
         ensures last { (score_of : List ℕ → List ℕ) (old : Content) → IsTrue D.tells
-            → IsSound score_of self.old region old (D.bytes disk.old) (D.images disk.old)
+            → IsSoundArena score_of self.old region old (D.bytes disk.old) (D.images disk.old)
             → result ≡ Ok Step.Done → (c : List ℕ) → D.images disk.new c
             → IsArena score_of region self.old.number (next_content self.old old) c }
 
         // Where the count isn't stopped it makes this call, and no other.
         ensures makes { calls.old.stopped ≡ None
-            → CallMade D.Disk (next_call self.old region) result
+            → CallMade D.Disk (next_commit_call self.old region) result
             calls.old calls.new disk.old disk.new }
         ensures frame { self.old.twin.frame_len ≡ FRAME_LEN }
-        ensures steps { calls.old.stopped ≡ None → Advances result self.old self.new }
+        ensures steps { calls.old.stopped ≡ None → ArenaAdvances result self.old self.new }
         ensures left { calls_made self.old < commit_calls self.old }
         ensures len { self.new.len ≡ self.old.len }
         ensures done { IfOk result (λ step. (step ≡ Step.Done)
@@ -248,8 +248,8 @@ impl Arena {
         ensures settled { result ≡ Ok Step.Done → IsSynced D.Disk disk.new }
 
         ensures stopped { (n : ℕ)
-            → (result ≡ Err (CallErr.Stopped n)) ↔ (calls.old.stopped ≡ Some n) }
-        ensures faults { CountsFault is_fault result (D.faults disk.old) (D.faults disk.new) }
+            → (result ≡ Err (CallError.Stopped n)) ↔ (calls.old.stopped ≡ Some n) }
+        ensures faults { CountsFault is_call_fault result (D.faults disk.old) (D.faults disk.new) }
         ensures untouched { IsSome calls.old.stopped
             → (self.new ≡ self.old) × (calls.new ≡ calls.old) × (disk.new ≡ disk.old) }
 

@@ -7,19 +7,19 @@ ghost use Rattle.vt_arena.specs.Layout.{Content, head_place, entry_bytes as entr
 
 use crate::arena::Arena;
 use crate::{DIRECTORY_MAX, block_room, directory_room};
+use vt_base::fields::{put, put_u8, put_u16};
 use vt_base::{Bytes, Failed};
 use vt_clump::Packed;
-use vt_disk::{Call, CallCount, CallErr, Disk, Region};
-use vt_fields::{put, put_u8, put_u16};
+use vt_disk::{Call, CallCount, CallError, Disk, Region};
 use vt_model::{ARENA_HEAD_LEN, DIRECTORY_ENTRY_LEN};
 use vt_twin::{Step, TwinErr};
 
 impl Arena {
-    ghost use Rattle.vt_twin.specs.Twin.{with_change, calls_made as twin_calls_made, next_call as next_head_call};
-    ghost use Rattle.vt_arena.specs.Arena.{pieces, commit_calls, calls_made, Advances, PieceAdvances, content_after, HeadAdvances};
-    ghost use Rattle.vt_arena.specs.Heads.{frame_of};
-    ghost use Rattle.vt_arena.specs.Sound.{IsRegion, IsSound};
-    ghost use Rattle.vt_arena.specs.Written.{next_call, next_piece};
+    ghost use Rattle.vt_twin.specs.Twin.{with_change, twin_calls_made, next_call as next_head_call};
+    ghost use Rattle.vt_arena.specs.Arena.{pieces, commit_calls, calls_made, ArenaAdvances, PieceAdvances, content_after, HeadAdvances};
+    ghost use Rattle.vt_arena.specs.Heads.{head_frame};
+    ghost use Rattle.vt_arena.specs.Sound.{IsRegion, IsSoundArena};
+    ghost use Rattle.vt_arena.specs.Written.{next_commit_call, next_piece};
 
     /// Makes the next device call of a commit.
     pub(crate) fn make_call<D: Disk>(
@@ -32,13 +32,13 @@ impl Arena {
         requires same { region.len ≡ self.old.len }
         requires runs { (self.old.failed ≡ false) × (calls.old.stopped ≡ None) }
         ensures sound { (score_of : List ℕ → List ℕ) (old : Content) → IsTrue D.tells
-            → IsSound score_of self.old region old (D.bytes disk.old) (D.images disk.old)
-            → IsSound score_of self.new region (content_after result self.old old)
+            → IsSoundArena score_of self.old region old (D.bytes disk.old) (D.images disk.old)
+            → IsSoundArena score_of self.new region (content_after result self.old old)
             (D.bytes disk.new) (D.images disk.new) }
-        ensures makes { CallMade D.Disk (next_call self.old region) result
+        ensures makes { CallMade D.Disk (next_commit_call self.old region) result
             calls.old calls.new disk.old disk.new }
-        ensures fault { IfErr result (λ err. err ≡ CallErr.Fault) }
-        ensures steps { Advances result self.old self.new }
+        ensures fault { IfErr result (λ err. err ≡ CallError.Fault) }
+        ensures steps { ArenaAdvances result self.old self.new }
         ensures done { IfOk result (λ step. (step ≡ Step.Done)
             ↔ (calls_made self.old + 1 ≡ commit_calls self.old)) }
         ensures writes { WritesWithin D.Disk region 1 disk.old disk.new }
@@ -70,11 +70,11 @@ impl Arena {
         requires runs { calls.old.stopped ≡ None }
         requires next { self.old.written < pieces self.old }
         ensures sound { (score_of : List ℕ → List ℕ) (old : Content) → IsTrue D.tells
-            → IsSound score_of self.old region old (D.bytes disk.old) (D.images disk.old)
-            → IsSound score_of self.new region old (D.bytes disk.new) (D.images disk.new) }
+            → IsSoundArena score_of self.old region old (D.bytes disk.old) (D.images disk.old)
+            → IsSoundArena score_of self.new region old (D.bytes disk.new) (D.images disk.new) }
         ensures makes { CallMade D.Disk (next_piece self.old region) result
             calls.old calls.new disk.old disk.new }
-        ensures fault { IfErr result (λ err. err ≡ CallErr.Fault) }
+        ensures fault { IfErr result (λ err. err ≡ CallError.Fault) }
         ensures steps { PieceAdvances result self.old self.new }
         ensures writes { WritesWithin D.Disk region 1 disk.old disk.new }
     {
@@ -106,7 +106,7 @@ impl Arena {
     fn go_on(&mut self, outcome: Result<(), Failed>) -> Result<Step, TwinErr>
         requires { self.old.written < pieces self.old }
         ensures outcome { IsOk result ↔ IsOk outcome }
-        ensures fault { IfErr result (λ err. err ≡ CallErr.Fault) }
+        ensures fault { IfErr result (λ err. err ≡ CallError.Fault) }
         ensures steps { PieceAdvances result self.old self.new }
     {
         let Ok(()) = outcome else {
@@ -125,7 +125,7 @@ impl Arena {
         requires made { self.old.written ≡ pieces self.old }
         requires rest { self.old.twin.change ≡ None }
         ensures begun { self.new ≡ record self.old {
-          twin = with_change (frame_of self.old.next) self.old.twin;
+          twin = with_change (head_frame self.old.next) self.old.twin;
         } }
     {
         let Some(frame) = self.buffer.take() else {
@@ -148,12 +148,12 @@ impl Arena {
         requires runs { (self.old.failed ≡ false) × (calls.old.stopped ≡ None) }
         requires begun { IsSome self.old.twin.change }
         ensures sound { (score_of : List ℕ → List ℕ) (old : Content) → IsTrue D.tells
-            → IsSound score_of self.old region old (D.bytes disk.old) (D.images disk.old)
-            → IsSound score_of self.new region (content_after result self.old old)
+            → IsSoundArena score_of self.old region old (D.bytes disk.old) (D.images disk.old)
+            → IsSoundArena score_of self.new region (content_after result self.old old)
             (D.bytes disk.new) (D.images disk.new) }
         ensures makes { CallMade D.Disk (next_head_call self.old.twin (head_place region)) result
             calls.old calls.new disk.old disk.new }
-        ensures fault { IfErr result (λ err. err ≡ CallErr.Fault) }
+        ensures fault { IfErr result (λ err. err ≡ CallError.Fault) }
         ensures steps { HeadAdvances result self.old self.new }
         ensures done { IfOk result (λ step. (step ≡ Step.Done)
             ↔ (twin_calls_made self.old.twin ≡ 3)) }

@@ -5,16 +5,16 @@ ghost use Rattle.vt_base.specs.Faults.{CountsFault};
 ghost use Rattle.vt_disk.specs.Calls.{OnlyReads, MadeCalls};
 ghost use Rattle.vt_disk.specs.Region.{FitsDisk};
 ghost use Rattle.vt_clump.specs.Spelling.{Stored};
-ghost use Rattle.vt_arena.specs.Directory.{first_bad, last_entry, IsInfoOf, Walks, IsAt, IsInfo, NamesDamage, is_fault};
-ghost use Rattle.vt_arena.specs.Layout.{Content, IsContent, HasBlocks, head_of};
+ghost use Rattle.vt_arena.specs.Directory.{first_bad_entry, last_entry, IsInfoOf, WalksEntry, IsAtBlock, IsInfoOfBlock, NamesDamage, is_back_fault};
+ghost use Rattle.vt_arena.specs.Layout.{Content, IsArenaContent, HasBlocks, arena_head};
 ghost use Rattle.vt_arena.specs.Places.{IsArenaLen, block_room, directory_room, arena_room};
 
-use crate::bad::BackBad;
+use crate::error::BackBad;
 use crate::head::ArenaHead;
 use crate::{block_room, directory_room};
+use vt_base::fields::u16_at;
 use vt_base::{FieldValue, Info, Key, Kind, MAX_BLOCK, Place, Score};
 use vt_disk::{Disk, Region};
-use vt_fields::u16_at;
 use vt_model::{ARENA_HEAD_LEN, DIRECTORY_ENTRY_LEN};
 
 /// Where a walk of the directory stands. It starts at the head's `clumps` and `used`, and only
@@ -61,7 +61,7 @@ pub fn info<D: Disk>(
     // stand there.
     ensures answer { (entry : List ℕ)
         × (IsTrue D.tells → entry ≡ last_entry region at.old.index (D.bytes disk.old))
-        × Walks head.now.number head.now.used at.old entry result }
+        × WalksEntry head.now.number head.now.used at.old entry result }
     ensures moved { IfOk result (λ info. (at.new.index + 1 ≡ at.old.index)
         × (at.new.end + block_room info.size ≡ at.old.end)) }
     ensures stays { IfErr result (λ _. at.new ≡ at.old) }
@@ -69,10 +69,10 @@ pub fn info<D: Disk>(
     // The block that stands there is given.
     ensures committed { (score_of : List ℕ → List ℕ) (number : ℕ) (old : Content)
         (before behind : List Stored) (s : Stored) → IsTrue D.tells
-        → IsContent score_of region.len old → HasBlocks region old.stored (D.bytes disk.old)
-        → old.stored ≡ before ++ s ∷ behind → head.now ≡ head_of score_of number old
-        → IsAt before s at.old
-        → MatchResult result (IsInfo number before s) (λ bad. bad ≡ BackBad.Fault) }
+        → IsArenaContent score_of region.len old → HasBlocks region old.stored (D.bytes disk.old)
+        → old.stored ≡ before ++ s ∷ behind → head.now ≡ arena_head score_of number old
+        → IsAtBlock before s at.old
+        → MatchResult result (IsInfoOfBlock number before s) (λ bad. bad ≡ BackBad.Fault) }
 
     // What a damage names differs, on any disk.
     ensures differs { IfErr result NamesDamage }
@@ -80,7 +80,7 @@ pub fn info<D: Disk>(
     // It writes nothing.
     ensures reads { OnlyReads D.Disk 1 disk.old disk.new }
     ensures calls { MadeCalls D.Disk 1 disk.old disk.new }
-    ensures cause { CountsFault is_fault result (D.faults disk.old) (D.faults disk.new) }
+    ensures cause { CountsFault is_back_fault result (D.faults disk.old) (D.faults disk.new) }
 {
     let mut entry = [0; DIRECTORY_ENTRY_LEN];
     let place = region.len - directory_room(u64::from(at.index));
@@ -101,8 +101,8 @@ fn decode(entry: &[u8; DIRECTORY_ENTRY_LEN], head: &ArenaHead, at: At) -> Result
     requires some { 0 < at.index }
     requires end { at.end ≤ head.now.used }
     requires small { head.now.used ≤ 2 ^ 30 }
-    ensures refused { MatchResult result (λ _. first_bad head.now.used at entry.now ≡ None)
-        (λ bad. first_bad head.now.used at entry.now ≡ Some bad) }
+    ensures refused { MatchResult result (λ _. first_bad_entry head.now.used at entry.now ≡ None)
+        (λ bad. first_bad_entry head.now.used at entry.now ≡ Some bad) }
     ensures info { IfOk result (IsInfoOf head.now.number at entry.now) }
     ensures within { IfOk result (λ info. block_room info.size ≤ at.end) }
     ensures differs { IfErr result NamesDamage }

@@ -1,14 +1,14 @@
 //! The head of an arena.
 
 ghost use Rattle.std.specs.Prelude.{◌≡◌, ◌≤◌, ◌+◌, None, Some, IfOk, IfErr, OnOk, MatchResult, length, take, drop};
-ghost use Rattle.vt_arena.specs.Faults.{bad_value, first_bad, CanStand};
+ghost use Rattle.vt_arena.specs.Faults.{bad_value, first_bad_head, CanStand};
 ghost use Rattle.vt_arena.specs.Heads.{fields_of, IsHeadOf};
 ghost use Rattle.vt_arena.specs.Places.{directory_room, arena_room};
 
-use crate::bad::{ArenaBad, Field};
+use crate::error::{ArenaBad, Field};
 use crate::{FIELDS_LEN, arena_room, directory_room};
 use vt_base::Score;
-use vt_fields::{put, put_u8, put_u16, put_u32, put_u64, u16_at, u32_at, u64_at};
+use vt_base::fields::{put, put_u8, put_u16, put_u32, put_u64, u16_at, u32_at, u64_at};
 
 /// The fields of an arena's head but its magic number.
 #[derive(Clone, Copy, Debug, PartialEq, Eq)]
@@ -59,8 +59,8 @@ impl ArenaHead {
         number: u32,
         len: u64,
     ) -> Result<ArenaHead, ArenaBad>
-        ensures refused { MatchResult result (λ _. first_bad number len fields.now ≡ None)
-            (λ bad. first_bad number len fields.now ≡ Some bad) }
+        ensures refused { MatchResult result (λ _. first_bad_head number len fields.now ≡ None)
+            (λ bad. first_bad_head number len fields.now ≡ Some bad) }
         ensures memory { IfErr result (λ bad. ¬ (bad ≡ ArenaBad.NoMemory)) }
         ensures head { IfOk result (IsHeadOf fields.now) }
         ensures spelling { IfOk result (λ head. fields_of head ≡ fields.now) }

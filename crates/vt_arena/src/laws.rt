@@ -5,18 +5,18 @@ ghost use Rattle.vt_disk.specs.declared.region.Region.{Region};
 ghost use Rattle.vt_disk.specs.Disk.{SameBut, AreAmong, Only};
 ghost use Rattle.vt_disk.specs.Region.{Inside, ChangesWithin, region_bytes};
 ghost use Rattle.vt_clump.specs.declared.packed.Packed.{Packed};
-ghost use Rattle.vt_clump.specs.Spelling.{Stored, spelled};
+ghost use Rattle.vt_clump.specs.Spelling.{Stored, clump_bytes};
 ghost use Rattle.vt_clump.specs.Clumps.{IsPacked};
 ghost use Rattle.vt_model.specs.Places.{Setup, room_of, fits as fits_by_lengths, offset_behind};
 ghost use Rattle.vt_model.specs.declared.TheConstants.{ARENA_HEAD_LEN};
 ghost use Rattle.vt_arena.specs.Arena.{ArenaState, fresh_arena, fits, is_committing, with_staged, with_seal, next_content};
-ghost use Rattle.vt_arena.specs.Layout.{Content, IsContent, IsArena, HasBlocks, StandsAt, head_of, used_of};
+ghost use Rattle.vt_arena.specs.Layout.{Content, IsArenaContent, IsArena, HasBlocks, BytesStandAt, arena_head, used_of};
 ghost use Rattle.vt_arena.specs.Places.{lengths_of, offset_of, arena_room, has_room};
 ghost use Rattle.vt_arena.specs.declared.TheConstants.{FRAME_LEN};
 ghost use Rattle.vt_arena.specs.declared.head.ArenaHead.{ArenaHead};
 ghost use Rattle.vt_twin.specs.Frames.{named_number};
 ghost use Rattle.vt_arena.specs.Faults.{CanStand};
-ghost use Rattle.vt_arena.specs.Sound.{IsRegion, IsSettled, IsSound, HasBegunSelector, GivesOldOrNext};
+ghost use Rattle.vt_arena.specs.Sound.{IsRegion, IsSettled, IsSoundArena, HasBegunSelector, GivesOldOrNext};
 
 use vt_disk::Disk;
 
@@ -32,18 +32,18 @@ pub fn arenas_are_told_apart()
 pub fn crash_gives_old_or_next<D: Disk>()
     ensures crash { (score_of : List ℕ → List ℕ) (a : ArenaState) (region : Region)
         (old : Content) (disk : D)
-        → IsSound score_of a region old (D.bytes disk) (D.images disk)
+        → IsSoundArena score_of a region old (D.bytes disk) (D.images disk)
         → (c : List ℕ) → D.images disk c
         → GivesOldOrNext (HasBegunSelector a) score_of region a.number old (next_content a old) c }
     ensures rest { (score_of : List ℕ → List ℕ) (a : ArenaState) (region : Region)
         (old : Content) (disk : D) → IsFalse (is_committing a)
-        → IsSound score_of a region old (D.bytes disk) (D.images disk)
+        → IsSoundArena score_of a region old (D.bytes disk) (D.images disk)
         → (c : List ℕ) → D.images disk c → IsArena score_of region a.number old c }
     ensures kept { (score_of : List ℕ → List ℕ) (a : ArenaState) (region : Region)
         (old : Content) (disk : D)
-        → IsSound score_of a region old (D.bytes disk) (D.images disk)
+        → IsSoundArena score_of a region old (D.bytes disk) (D.images disk)
         → (c : List ℕ) → D.images disk c
-        → IsContent score_of region.len old × HasBlocks region old.stored c }
+        → IsArenaContent score_of region.len old × HasBlocks region old.stored c }
 {}
 
 /// An arena is in its region: other bytes don't matter, and what is done to the rest of the disk
@@ -56,7 +56,7 @@ pub fn arenas_are_in_their_regions()
     ensures blocks { (score_of : List ℕ → List ℕ) (region : Region) (a : Content)
         (old new : List ℕ) → ARENA_HEAD_LEN ≤ region.len
         → region_bytes region new ≡ region_bytes region old
-        → IsContent score_of region.len a → HasBlocks region a.stored old
+        → IsArenaContent score_of region.len a → HasBlocks region a.stored old
         → HasBlocks region a.stored new }
     ensures elsewhere { (region other : Region) (old new : List ℕ)
         → ((i : ℕ) → Inside other i → ¬ Inside region i) → SameBut (Inside other) old new
@@ -84,8 +84,8 @@ pub fn settled_regions<D: Disk>()
         → IsSettled region (D.bytes disk) (D.images disk)
         → IsArena score_of region number old (D.bytes disk)
         → current ≡ named_number region FRAME_LEN (D.bytes disk)
-        → head ≡ head_of score_of number old → CanStand number region.len head
-        → IsSound score_of (fresh_arena region.len current head) region old
+        → head ≡ arena_head score_of number old → CanStand number region.len head
+        → IsSoundArena score_of (fresh_arena region.len current head) region old
         (D.bytes disk) (D.images disk) }
     ensures image { (score_of : List ℕ → List ℕ) (region : Region) (number : ℕ) (old : Content)
         (disk : D) → ARENA_HEAD_LEN ≤ region.len → IsSettled region (D.bytes disk) (D.images disk)
@@ -100,34 +100,34 @@ pub fn soundness_is_kept<D: Disk>()
         (region : Region) (old : Content) (disk : D)
         → ((block : List ℕ) → length (score_of block) ≡ 20)
         → IsTrue (fits a packed.len) → IsFalse (is_committing a) → IsPacked score_of packed
-        → IsSound score_of a region old (D.bytes disk) (D.images disk)
-        → IsSound score_of (with_staged score_of packed a) region old
+        → IsSoundArena score_of a region old (D.bytes disk) (D.images disk)
+        → IsSoundArena score_of (with_staged score_of packed a) region old
         (D.bytes disk) (D.images disk) }
     ensures seal { (score_of : List ℕ → List ℕ) (a : ArenaState) (region : Region)
         (old : Content) (disk : D) → IsFalse (is_committing a)
-        → IsSound score_of a region old (D.bytes disk) (D.images disk)
-        → IsSound score_of (with_seal a) region old (D.bytes disk) (D.images disk) }
+        → IsSoundArena score_of a region old (D.bytes disk) (D.images disk)
+        → IsSoundArena score_of (with_seal a) region old (D.bytes disk) (D.images disk) }
     ensures elsewhere { (score_of : List ℕ → List ℕ) (a : ArenaState) (region : Region)
         (old : Content) (before after : D) → IsRegion region (D.size before)
         → (other : Region) → ((i : ℕ) → Inside other i → ¬ Inside region i)
         → SameBut (Inside other) (D.bytes before) (D.bytes after)
         → ChangesWithin other (D.images before) (D.images after)
-        → IsSound score_of a region old (D.bytes before) (D.images before)
-        → IsSound score_of a region old (D.bytes after) (D.images after) }
+        → IsSoundArena score_of a region old (D.bytes before) (D.images before)
+        → IsSoundArena score_of a region old (D.bytes after) (D.images after) }
     ensures read_or_sync { (score_of : List ℕ → List ℕ) (a : ArenaState) (region : Region)
         (old : Content) (before after : D)
         → D.bytes after ≡ D.bytes before → AreAmong (D.images after) (D.images before)
-        → IsSound score_of a region old (D.bytes before) (D.images before)
-        → IsSound score_of a region old (D.bytes after) (D.images after) }
+        → IsSoundArena score_of a region old (D.bytes before) (D.images before)
+        → IsSoundArena score_of a region old (D.bytes after) (D.images after) }
 {}
 
 /// Each block of an arena stands where the model puts it, behind the blocks before it.
 pub fn blocks_stand_at_their_places()
     ensures { (score_of : List ℕ → List ℕ) (region : Region) (old : Content)
         (before behind : List Stored) (s : Stored) (file : List ℕ)
-        → IsContent score_of region.len old → HasBlocks region old.stored file
+        → IsArenaContent score_of region.len old → HasBlocks region old.stored file
         → old.stored ≡ before ++ s ∷ behind
-        → StandsAt (region.start + offset_of before) (spelled s) file }
+        → BytesStandAt (region.start + offset_of before) (clump_bytes s) file }
 {}
 
 /// The room of an arena, and a block's place in it, are those of any store that has an arena of its

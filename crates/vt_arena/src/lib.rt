@@ -5,17 +5,17 @@
 #![tactic(auto)]
 
 mod arena;
-mod bad;
 mod committing;
 mod directory;
+mod error;
 mod head;
 mod laws;
 mod mounting;
 mod reading;
 
 pub use arena::Arena;
-pub use bad::{ArenaBad, BackBad, Field, ReadBad};
 pub use directory::{At, info};
+pub use error::{ArenaBad, BackBad, Field, ReadBad};
 pub use head::{ArenaHead, Found};
 pub use laws::{
     arenas_are_in_their_regions, arenas_are_told_apart, blocks_stand_at_their_places,

@@ -6,13 +6,13 @@ ghost use Rattle.vt_disk.specs.Calls.{OnlyReads, WritesWithin, MadeCalls, IsSync
 ghost use Rattle.vt_twin.specs.Formatting.{EndsFormat};
 ghost use Rattle.vt_twin.specs.Frames.{frame_of as frame_at, named_number, selector_start, selector_bytes};
 ghost use Rattle.vt_arena.specs.Arena.{fresh_arena};
-ghost use Rattle.vt_arena.specs.Faults.{Finds, Mounts, CanStand, is_fault};
-ghost use Rattle.vt_arena.specs.Heads.{frame_of};
-ghost use Rattle.vt_arena.specs.Layout.{Content, IsArena, StandsAt, fields_at, head_place, head_of, empty};
-ghost use Rattle.vt_arena.specs.Sound.{IsRegion, IsSound};
+ghost use Rattle.vt_arena.specs.Faults.{FindsArena, MountsArena, CanStand, is_arena_fault};
+ghost use Rattle.vt_arena.specs.Heads.{head_frame};
+ghost use Rattle.vt_arena.specs.Layout.{Content, IsArena, BytesStandAt, fields_at, head_place, arena_head, empty};
+ghost use Rattle.vt_arena.specs.Sound.{IsRegion, IsSoundArena};
 
 use crate::arena::Arena;
-use crate::bad::ArenaBad;
+use crate::error::ArenaBad;
 use crate::head::{ArenaHead, Found};
 use crate::{FIELDS_LEN, FRAME_LEN};
 use std::alloc::{AllocError, Global};
@@ -33,8 +33,8 @@ pub fn format<D: Disk>(disk: &mut D, region: Region, number: u32) -> Result<(), 
     // Byte for byte, frame 0 is its head and zeros, and the selector is zeros.
     ensures frame { (score_of : List ℕ → List ℕ) → IsTrue D.tells → OnOk result
         (frame_at region FRAME_LEN 0 (D.bytes disk.new)
-        ≡ frame_of (head_of score_of number empty)) }
-    ensures selector { IsTrue D.tells → OnOk result (StandsAt (selector_start region FRAME_LEN)
+        ≡ head_frame (arena_head score_of number empty)) }
+    ensures selector { IsTrue D.tells → OnOk result (BytesStandAt (selector_start region FRAME_LEN)
         (selector_bytes 0 (ARENA_HEAD_LEN - 2 * FRAME_LEN)) (D.bytes disk.new)) }
     ensures idle { IsTrue D.tells → OnOk result (frame_at region FRAME_LEN 1 (D.bytes disk.new)
         ≡ frame_at region FRAME_LEN 1 (D.bytes disk.old)) }
@@ -43,7 +43,7 @@ pub fn format<D: Disk>(disk: &mut D, region: Region, number: u32) -> Result<(), 
     ensures writes { WritesWithin D.Disk (head_place region) 3 disk.old disk.new }
     ensures calls { OnOk result (MadeCalls D.Disk 3 disk.old disk.new) }
     ensures failed { (score_of : List ℕ → List ℕ) → OnErr result ((made : ℕ)
-        × EndsFormat D.Disk (head_place region) (frame_of (head_of score_of number empty)) made
+        × EndsFormat D.Disk (head_place region) (head_frame (arena_head score_of number empty)) made
         disk.old disk.new) }
     ensures cause { HasCause result (D.faults disk.old) (D.faults disk.new) }
 {
@@ -72,12 +72,12 @@ pub fn find<D: Disk>(disk: &mut D, region: Region, number: u32) -> Result<Found,
     // Each refusal comes exactly where its test is the first to fail.
     ensures answer { (fields : List ℕ)
         × (IsTrue D.tells → fields ≡ fields_at region (D.bytes disk.old))
-        × Finds number region.len fields result }
+        × FindsArena number region.len fields result }
 
     // The arena is the one that is there.
     ensures found { (score_of : List ℕ → List ℕ) (old : Content) → IsTrue D.tells
         → IsArena score_of region number old (D.bytes disk.old)
-        → MatchResult result (λ it. it.head ≡ head_of score_of number old)
+        → MatchResult result (λ it. it.head ≡ arena_head score_of number old)
         (λ bad. bad ≡ ArenaBad.Fault) }
     ensures selector { IfOk result (λ it. IsTrue D.tells
         → it.selector % 2 ≡ named_number region FRAME_LEN (D.bytes disk.old)) }
@@ -87,7 +87,7 @@ pub fn find<D: Disk>(disk: &mut D, region: Region, number: u32) -> Result<Found,
     ensures reads { OnlyReads D.Disk 2 disk.old disk.new }
     ensures calls { ((result ≡ Err ArenaBad.Fault) × MadeCalls D.Disk 1 disk.old disk.new)
         ⊎ MadeCalls D.Disk 2 disk.old disk.new }
-    ensures cause { CountsFault is_fault result (D.faults disk.old) (D.faults disk.new) }
+    ensures cause { CountsFault is_arena_fault result (D.faults disk.old) (D.faults disk.new) }
 {
     let mut selector = [0];
     let Ok(()) = region.read_at(disk, 2 * FRAME_LEN as u64, &mut selector) else {
@@ -120,14 +120,14 @@ pub fn mount<D: Disk>(
     // It is mounted, and each refusal comes, exactly as the fields say that were read.
     ensures answer { (fields : List ℕ)
         × (IsTrue D.tells → fields ≡ fields_at region (D.bytes disk.old))
-        × Mounts number region.len fields result }
+        × MountsArena number region.len fields result }
 
     // The arena is the one that is there.
     ensures fresh { IfOk result (λ a. a ≡ fresh_arena region.len a.twin.current a.head) }
     ensures sound { (score_of : List ℕ → List ℕ) (old : Content) → IsTrue D.tells
         → IsArena score_of region number old (D.bytes disk.old)
         → MatchResult result
-        (λ a. IsSound score_of a region old (D.bytes disk.new) (D.images disk.new))
+        (λ a. IsSoundArena score_of a region old (D.bytes disk.new) (D.images disk.new))
         (λ bad. (bad ≡ ArenaBad.Fault) ⊎ (bad ≡ ArenaBad.NoMemory)) }
     ensures checked { IfOk result (λ a. CanStand number region.len a.head) }
 
@@ -138,7 +138,7 @@ pub fn mount<D: Disk>(
     // It makes a sync and two reads, and writes nothing.
     ensures reads { OnlyReads D.Disk 3 disk.old disk.new }
     ensures calls { (result ≡ Err ArenaBad.Fault) ⊎ MadeCalls D.Disk 3 disk.old disk.new }
-    ensures cause { CountsFault is_fault result (D.faults disk.old) (D.faults disk.new) }
+    ensures cause { CountsFault is_arena_fault result (D.faults disk.old) (D.faults disk.new) }
 {
     let Ok(()) = disk.sync() else {
         return Err(ArenaBad::Fault);

@@ -6,13 +6,13 @@ ghost use Rattle.vt_base.specs.Faults.{CountsFault};
 ghost use Rattle.vt_disk.specs.Calls.{OnlyReads, MadeCalls};
 ghost use Rattle.vt_disk.specs.Disk.{part};
 ghost use Rattle.vt_disk.specs.Region.{FitsDisk};
-ghost use Rattle.vt_clump.specs.Spelling.{Stored, IsStored, size_in};
-ghost use Rattle.vt_clump.specs.Clumps.{IsRead};
-ghost use Rattle.vt_arena.specs.Layout.{Content, IsContent, HasBlocks};
+ghost use Rattle.vt_clump.specs.Spelling.{Stored, IsStoredBlock, size_in};
+ghost use Rattle.vt_clump.specs.Clumps.{IsClumpRead};
+ghost use Rattle.vt_arena.specs.Layout.{Content, IsArenaContent, HasBlocks};
 ghost use Rattle.vt_arena.specs.Places.{offset_of};
-ghost use Rattle.vt_arena.specs.Reading.{HasHeader, clump_at, header_at, reads_for, damage_of, ReadsAs, is_fault};
+ghost use Rattle.vt_arena.specs.Reading.{HasHeader, clump_at, header_at, reads_for, damage_of_clump, ReadsClumpAs, is_clump_fault};
 
-use crate::bad::ReadBad;
+use crate::error::ReadBad;
 use std::alloc::Global;
 use vt_base::{Bytes, Failed, FieldValue, Scorer};
 use vt_clump::{Clump, ClumpBad, Encoding, block_len, unpack_block};
@@ -39,19 +39,19 @@ pub fn read<D: Disk, S: Scorer>(
     // The clump is given that stands there, and refused exactly where none does.
     ensures answer { HasHeader region.len offset → (bytes : List ℕ)
         × (IsTrue D.tells → bytes ≡ clump_at region offset (D.bytes disk.old))
-        × ReadsAs S.score_of bytes result }
+        × ReadsClumpAs S.score_of bytes result }
     ensures outside { ¬ HasHeader region.len offset
         → result ≡ Err (ReadBad.Damaged (FieldValue.Number ARENA_HEAD_LEN)
         (FieldValue.Number offset)) }
     ensures whole { IfOk result (λ clump. (s : Stored)
-        × IsStored S.score_of s × IsRead s clump) }
+        × IsStoredBlock S.score_of s × IsClumpRead s clump) }
 
     // The block that stands there is given.
     ensures committed { (old : Content) (before behind : List Stored) (s : Stored)
-        → IsTrue D.tells → IsContent S.score_of region.len old
+        → IsTrue D.tells → IsArenaContent S.score_of region.len old
         → HasBlocks region old.stored (D.bytes disk.old)
         → old.stored ≡ before ++ s ∷ behind → offset ≡ offset_of before
-        → MatchResult result (IsRead s)
+        → MatchResult result (IsClumpRead s)
         (λ bad. (bad ≡ ReadBad.Fault) ⊎ (bad ≡ ReadBad.NoMemory)) }
 
     // It makes one read where the header says that the block has at most `size` bytes, else two,
@@ -62,7 +62,7 @@ pub fn read<D: Disk, S: Scorer>(
         → OnlyReads D.Disk 1 disk.old disk.new }
     ensures calls { IfOk result (λ clump.
         MadeCalls D.Disk (reads_for size (length clump.bytes)) disk.old disk.new) }
-    ensures cause { CountsFault is_fault result (D.faults disk.old) (D.faults disk.new) }
+    ensures cause { CountsFault is_clump_fault result (D.faults disk.old) (D.faults disk.new) }
 {
     if !has_header(region.len, offset) {
         return Err(ReadBad::Damaged {
@@ -106,7 +106,7 @@ fn read_clump<D: Disk>(
         → OnlyReads D.Disk 1 disk.old disk.new }
     ensures calls { IfOk result (λ it.
         MadeCalls D.Disk (reads_for size (size_in it.0)) disk.old disk.new) }
-    ensures cause { CountsFault is_fault result (D.faults disk.old) (D.faults disk.new) }
+    ensures cause { CountsFault is_clump_fault result (D.faults disk.old) (D.faults disk.new) }
 {
     let mut bytes = read_bytes(
         alloc,
@@ -156,7 +156,7 @@ fn read_bytes<D: Disk>(
     ensures refused { IfErr result (λ bad. (bad ≡ ReadBad.Fault) ⊎ (bad ≡ ReadBad.NoMemory)) }
     ensures reads { OnlyReads D.Disk 1 disk.old disk.new }
     ensures calls { OnOk result (MadeCalls D.Disk 1 disk.old disk.new) }
-    ensures cause { CountsFault is_fault result (D.faults disk.old) (D.faults disk.new) }
+    ensures cause { CountsFault is_clump_fault result (D.faults disk.old) (D.faults disk.new) }
 {
     let len = (len as u64).min(region.len - at);
     let Ok(mut bytes) = vec![in alloc; 0; len as usize] else {
@@ -171,7 +171,7 @@ fn read_bytes<D: Disk>(
 /// What was wanted and what was found, in a clump that is no clump.
 fn refusal(bad: ClumpBad) -> ReadBad
     ensures damaged { ¬ (bad ≡ ClumpBad.NoMemory)
-        → result ≡ ReadBad.Damaged (damage_of bad).0 (damage_of bad).1 }
+        → result ≡ ReadBad.Damaged (damage_of_clump bad).0 (damage_of_clump bad).1 }
     ensures memory { bad ≡ ClumpBad.NoMemory → result ≡ ReadBad.NoMemory }
 {
     let (want, found) = match bad {

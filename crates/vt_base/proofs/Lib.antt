@@ -1,1 +1,2 @@
+pub mod FieldWriting
 mod ScoreTexts

@@ -11,7 +11,7 @@ use Rattle.std.proofs.lemmas.List.Sums.{prefix_len_is, prefix_len_passes, prefix
 use Rattle.hex.specs.Hex.{decode_of, decode_sized, is_hex_digit}
 use Rattle.hex.specs.declared.error.FromHexError.{FromHexError}
 use Rattle.hex.proofs.HexLemmas.{decode_sized-twice, decode_sized-ok, IsOk-decode_sized}
-use Rattle.vt_base.specs.ScoreText.{SpellsScore, IsFront, IsLabel, is_label_byte, front_len}
+use Rattle.vt_base.specs.ScoreText.{SpellsScore, IsScoreFront, IsLabel, is_label_byte, front_len}
 
 -- how many bytes of a label stand before the colon
 label_then_colon : (label rest : List ℕ) → IsLabel label
@@ -61,10 +61,10 @@ front_of_digits text all = not_second (nat_lt 0 (prefix_len is_label_byte text))
     (prefix_len is_label_byte text + 1) 0 (no_colon text all (prefix_len is_label_byte text))
 
 -- what stands before the digits is nothing, or a label and a colon
-pub front_is : (text : List ℕ) → IsFront (take (front_len text) text)
+pub front_is : (text : List ℕ) → IsScoreFront (take (front_len text) text)
 front_is text =
     let n : ℕ = prefix_len is_label_byte text in
-    let at : ℕ → Type 0 = λ (k : ℕ). IsFront (take k text) in
+    let at : ℕ → Type 0 = λ (k : ℕ). IsScoreFront (take k text) in
     ⊎_elim
     (λ (yes : (nat_lt 0 n && (slice_index text n == 58)) ≡ true).
     let parts = and_parts (nat_lt 0 n) (slice_index text n == 58) yes in

@@ -1,8 +1,11 @@
 pub mod Bytes
 pub mod Damage
 pub mod Faults
+pub mod Fields
+pub mod Filled
 pub mod Key
 pub mod Kind
+pub mod NumberFields
 pub mod Operations
 pub mod Protocol
 pub mod ScoreText

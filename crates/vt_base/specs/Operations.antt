@@ -13,11 +13,11 @@ operation_of (Write kind bytes) = write kind bytes.now
 operation_of Sync = sync
 
 -- the reply that says what a store answers
-abbrev pub reply_of : Said → RMessage
-reply_of (Score score) = r_write score.0
-reply_of (Block block) = r_read block
-reply_of Synced = r_sync
-reply_of (Refused why) = r_refused why
+abbrev pub reply_saying : Said → RMessage
+reply_saying (Score score) = r_write score.0
+reply_saying (Block block) = r_read block
+reply_saying Synced = r_sync
+reply_saying (Refused why) = r_refused why
 
 -- what an operation gave, as a message, or why it is refused
 abbrev pub result_of : Said → Result RMessage Why

@@ -27,18 +27,18 @@ pub data RMessage : Type 0 where
   r_error : (text : List ℕ) → RMessage
 
 -- the text of an Rerror that says why a request was not done
-abbrev pub text_of : Why → List ℕ
-text_of BadType = codes "bad type"
-text_of TooBig = codes "block too big"
-text_of TooSmall = codes "count too small"
-text_of Absent = codes "no such block"
-text_of Collision = codes "score collision"
-text_of IndexFull = codes "index full"
-text_of ArenasFull = codes "arenas full"
-text_of DiskFault = codes "disk fault"
-text_of (Stopped first) = codes "store stopped"
-text_of (Damaged site want found) = codes "block damaged"
-text_of NoMemory = codes "no memory"
+abbrev pub why_words : Why → List ℕ
+why_words BadType = codes "bad type"
+why_words TooBig = codes "block too big"
+why_words TooSmall = codes "count too small"
+why_words Absent = codes "no such block"
+why_words Collision = codes "score collision"
+why_words IndexFull = codes "index full"
+why_words ArenasFull = codes "arenas full"
+why_words DiskFault = codes "disk fault"
+why_words (Stopped first) = codes "store stopped"
+why_words (Damaged site want found) = codes "block damaged"
+why_words NoMemory = codes "no memory"
 
 abbrev pub r_refused : Why → RMessage
-r_refused why = r_error (text_of why)
+r_refused why = r_error (why_words why)

@@ -14,15 +14,15 @@ pub record IsLabel (label : List ℕ) : Type 0 where
   pub each : All (λ b. IsTrue (is_label_byte b)) label
 
 -- what stands before the digits: nothing, or a label and a colon
-abbrev pub IsFront : List ℕ → Type 0
-IsFront front =
+abbrev pub IsScoreFront : List ℕ → Type 0
+IsScoreFront front =
     (front ≡ []) ⊎ ((label : List ℕ) × IsLabel label × (front ≡ label ++ 58 ∷ []))
 
 -- the text is that of this score, its digits in either case
 pub record SpellsScore (score text : List ℕ) : Type 0 where
   pub front : List ℕ
   pub digits : List ℕ
-  pub front_is : IsFront front
+  pub front_is : IsScoreFront front
   pub all : length digits ≡ 40
   pub value : decode_of digits ≡ Ok score
   pub spelled : text ≡ front ++ digits

@@ -1,7 +1,7 @@
 //! Why a call or a request was not done.
 
 ghost use Rattle.std.specs.Prelude.{◌≡◌};
-ghost use Rattle.vt_base.specs.Protocol.{text_of};
+ghost use Rattle.vt_base.specs.Protocol.{why_words};
 
 use crate::{Place, Score};
 
@@ -59,7 +59,7 @@ pub enum Why {
 
 /// The text that a client is sent (venti(6), Rerror).
 pub fn why_text(why: &Why) -> &'static str
-    ensures { result.now ≡ text_of why.now }
+    ensures { result.now ≡ why_words why.now }
 {
     match why {
         Why::BadType => "bad type",

@@ -3,8 +3,8 @@
 use std::alloc::{AllocError, Global};
 use std::test::Fail;
 use vt_conf::{
-    Conf, ConfBad, ConfErr, ConfWhy, PartFile, block_room, conf_text, entry_room, parse_address,
-    parse_conf, parse_number, parse_size,
+    Conf, ConfBad, ConfCause, ConfErr, PartFile, cached_blocks, conf_text, entry_room,
+    parse_address, parse_conf, parse_number, parse_size,
 };
 use vt_rows::Rows;
 
@@ -112,46 +112,46 @@ fn refusal(alloc: Global, text: &[u8]) -> Option<ConfErr> {
 }
 
 /// Whether a configuration is refused for this.
-fn is_refused(alloc: Global, text: &[u8], line: usize, why: ConfWhy) -> bool {
+fn is_refused(alloc: Global, text: &[u8], line: usize, why: ConfCause) -> bool {
     refusal(alloc, text) == Some(ConfErr::Bad(ConfBad { line, why }))
 }
 
 /// Each cause at its line, in the order of testing.
-const CAUSES: [(&[u8], usize, ConfWhy); 27] = [
-    (b"", 0, ConfWhy::NoArenas),
-    (b"# none\n \t\n", 0, ConfWhy::NoArenas),
-    (b"isect i\n", 0, ConfWhy::NoArenas),
-    (b"arenas a", 0, ConfWhy::NoSections),
-    (b"nonsense\n\n\xff", 3, ConfWhy::NotUtf8),
-    (b"\xc3\n\xa9", 1, ConfWhy::NotUtf8),
+const CAUSES: [(&[u8], usize, ConfCause); 27] = [
+    (b"", 0, ConfCause::NoArenas),
+    (b"# none\n \t\n", 0, ConfCause::NoArenas),
+    (b"isect i\n", 0, ConfCause::NoArenas),
+    (b"arenas a", 0, ConfCause::NoSections),
+    (b"nonsense\n\n\xff", 3, ConfCause::NotUtf8),
+    (b"\xc3\n\xa9", 1, ConfCause::NotUtf8),
     (
         b"index main\narenas a.part\nisect i.part\nmem 1x\n",
         4,
-        ConfWhy::BadSize,
+        ConfCause::BadSize,
     ),
-    (b"index a b\narena a", 1, ConfWhy::ExtraValue),
-    (b"arenas a\nArenas b", 2, ConfWhy::UnknownName),
-    (b"\narenas\t# a", 2, ConfWhy::MissingValue),
-    (b"mem", 1, ConfWhy::MissingValue),
-    (b"queuewrites 1", 1, ConfWhy::ExtraValue),
-    (b"mem 1 2", 1, ConfWhy::ExtraValue),
-    (b"mem 1kk", 1, ConfWhy::BadSize),
-    (b"icmem k", 1, ConfWhy::BadSize),
-    (b"bcmem -1", 1, ConfWhy::BadSize),
-    (b"mem 9223372036854775808", 1, ConfWhy::BadSize),
-    (b"mem 8589934592g", 1, ConfWhy::BadSize),
-    (b"addr localhost", 1, ConfWhy::BadAddress),
-    (b"addr tcp!h!0", 1, ConfWhy::BadAddress),
-    (b"addr tcp!h!65536", 1, ConfWhy::BadAddress),
-    (b"index a\narenas a\nindex a", 3, ConfWhy::Repeated),
-    (b"queuewrites\nqueuewrites", 2, ConfWhy::Repeated),
-    (b"mem 1\nmem 1x", 2, ConfWhy::BadSize),
-    (b"bloom b\nbloom b", 2, ConfWhy::Repeated),
-    (b"webroot a\rb\r c", 1, ConfWhy::ExtraValue),
+    (b"index a b\narena a", 1, ConfCause::ExtraValue),
+    (b"arenas a\nArenas b", 2, ConfCause::UnknownName),
+    (b"\narenas\t# a", 2, ConfCause::MissingValue),
+    (b"mem", 1, ConfCause::MissingValue),
+    (b"queuewrites 1", 1, ConfCause::ExtraValue),
+    (b"mem 1 2", 1, ConfCause::ExtraValue),
+    (b"mem 1kk", 1, ConfCause::BadSize),
+    (b"icmem k", 1, ConfCause::BadSize),
+    (b"bcmem -1", 1, ConfCause::BadSize),
+    (b"mem 9223372036854775808", 1, ConfCause::BadSize),
+    (b"mem 8589934592g", 1, ConfCause::BadSize),
+    (b"addr localhost", 1, ConfCause::BadAddress),
+    (b"addr tcp!h!0", 1, ConfCause::BadAddress),
+    (b"addr tcp!h!65536", 1, ConfCause::BadAddress),
+    (b"index a\narenas a\nindex a", 3, ConfCause::Repeated),
+    (b"queuewrites\nqueuewrites", 2, ConfCause::Repeated),
+    (b"mem 1\nmem 1x", 2, ConfCause::BadSize),
+    (b"bloom b\nbloom b", 2, ConfCause::Repeated),
+    (b"webroot a\rb\r c", 1, ConfCause::ExtraValue),
     (
         b"index main\r\narenas a\nisect i\nmem 1\r",
         4,
-        ConfWhy::BadSize,
+        ConfCause::BadSize,
     ),
 ];
 
@@ -196,7 +196,7 @@ fn are_refused(
     len: usize,
     end: &[u8],
     line: usize,
-    why: ConfWhy,
+    why: ConfCause,
 ) -> Result<bool, AllocError> {
     let text = many_files(alloc, len, end)?;
     Ok(is_refused(alloc, &text, line, why))
@@ -207,9 +207,9 @@ fn are_refused(
 fn a_configuration_has_limits(rt: HostRuntime) -> Result<(), Fail> {
     let alloc = rt.alloc();
     let files = are_read(alloc, 0, b"\n")?;
-    let more = are_refused(alloc, 0, b"\nisect i", 129, ConfWhy::TooMany)?;
+    let more = are_refused(alloc, 0, b"\nisect i", 129, ConfCause::TooMany)?;
     let full = are_read(alloc, 65_536, b"")?;
-    let over = are_refused(alloc, 65_536, b"\n", 0, ConfWhy::TooLong)?;
+    let over = are_refused(alloc, 65_536, b"\n", 0, ConfCause::TooLong)?;
     let mut rows = Rows::new();
     rows.is("64 files of each kind", files);
     rows.is("one file more", more);
@@ -311,7 +311,7 @@ fn room_for_blocks(mem: u64, sections: u32) -> Option<u32> {
     if sections == 0 {
         return None;
     }
-    Some(block_room(mem, sections))
+    Some(cached_blocks(mem, sections))
 }
 
 const BLOCKS: [(u64, u32, u32); 7] = [

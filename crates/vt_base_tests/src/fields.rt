@@ -1,7 +1,7 @@
 //! Fields of each width, by the bytes that they leave.
 
 use std::test::Fail;
-use vt_fields::{
+use vt_base::fields::{
     filled, put, put_u8, put_u16, put_u32, put_u48, put_u64, u16_at, u32_at, u48_at, u64_at,
 };
 use vt_rows::Rows;

@@ -3,8 +3,7 @@
 use std::alloc::{AllocError, Global};
 use std::test::Fail;
 use vt_base::{Failed, Text};
-use vt_folder::{Facts, Folder, Item, ItemKind, MemContent, MemFolder, MemItem};
-use vt_out::OutErr;
+use vt_out::{Facts, Folder, Item, ItemKind, MemContent, MemFolder, MemItem, OutErr};
 use vt_rows::Rows;
 
 fn facts(alloc: Global, name: &[u8], mode: u32) -> Result<Facts, AllocError> {

@@ -3,8 +3,7 @@
 use std::alloc::Global;
 use std::test::Fail;
 use vt_base::Text;
-use vt_folder::{Folder, MemFolder};
-use vt_folders::{Folders, MemFolders};
+use vt_out::{Folder, Folders, MemFolder, MemFolders};
 use vt_rows::Rows;
 
 /// How many items a folder lists, which then is back.

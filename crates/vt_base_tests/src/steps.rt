@@ -6,8 +6,8 @@ use std::marker::Brand;
 use std::mem::size_of_val;
 use std::sync::ledger::{Blank, Ledger};
 use std::test::Fail;
+use vt_base::Steps;
 use vt_rows::Rows;
-use vt_steps::Steps;
 
 /// How many bytes a count of two steps takes.
 fn size_of_two<L: Ledger>(steps: &Steps<L>) -> usize

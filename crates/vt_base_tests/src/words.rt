@@ -2,8 +2,8 @@
 
 use std::alloc::Global;
 use std::test::Fail;
+use vt_cli::{Asked, Command, ask};
 use vt_rows::Rows;
-use vt_words::{Asked, Command, ask};
 
 /// What is asked for, in a letter.
 fn letter(asked: &Asked) -> char {

@@ -6,7 +6,7 @@ use Rattle.std.specs.Int.{bytes_high_first}
 use Rattle.std.proofs.lemmas.List.{drop-drop, drop_at, ext_get_or, length-replicate}
 use Rattle.byteorder.specs.Endian.{big_number, big_bytes}
 use Rattle.byteorder.specs.Numbers.{big_number-reads_back, length-bytes_high_first}
-use Rattle.vt_bloom.specs.Frame.{Saved, IsFrame, spelled, head_bytes, current_of}
+use Rattle.vt_bloom.specs.Frame.{Saved, IsFilterFrame, saved_frame, head_bytes, current_of}
 use Rattle.vt_bloom.specs.Laws.{IsUnambiguous, HasOneSaved, WritesFrames, HasOneSize, CoversMore, CoversFewer}
 
 -- a word, among the bytes of all
@@ -33,7 +33,7 @@ block_length m k mark n =
 
 -- the words behind the block
 words_behind : (saved : Saved)
-    → drop 8192 (spelled saved) ≡ flat_map (big_bytes 8) saved.filter.words
+    → drop 8192 (saved_frame saved) ≡ flat_map (big_bytes 8) saved.filter.words
 words_behind saved =
     drop_at (head_bytes saved.filter.m saved.filter.k saved.mark ++ replicate 8176 0)
     (flat_map (big_bytes 8) saved.filter.words) 8192
@@ -55,7 +55,7 @@ writes_frames saved is mark fits = record {
 }
 
 -- a frame has one filter
-same_words : (s t : Saved) (frame : List ℕ) → IsFrame s frame → IsFrame t frame
+same_words : (s t : Saved) (frame : List ℕ) → IsFilterFrame s frame → IsFilterFrame t frame
     → s.filter.words ≡ t.filter.words
 same_words s t frame one other =
     let counts : 64 * length s.filter.words ≡ 64 * length t.filter.words =
@@ -83,7 +83,7 @@ pub saved_unique : HasOneSaved
 saved_unique s t file one other =
     let same : s.filter.m ≡ t.filter.m =
     size_unique (length file) s.filter.m t.filter.m one.largest other.largest in
-    frame_unique s t (current_of t.filter.m file) (subst (λ (m : ℕ). IsFrame s
+    frame_unique s t (current_of t.filter.m file) (subst (λ (m : ℕ). IsFilterFrame s
     (current_of m file)) same one.frame) other.frame
 
 -- an element of a list is there in a longer one, and one of a shorter in the whole

@@ -2,8 +2,8 @@
 use Rattle.std.proofs.Common.{◌≡◌, ⊎_elim, ℕ, ◌+◌, ◌-◌, ◌*◌, ◌%◌, ◌^◌, ◌<◌, ◌≤◌, refl, sym, ap, ◌∙◌, subst, arith}
 use Rattle.std.proofs.lemmas.Bool.{cases_lt}
 use Rattle.std.proofs.lemmas.Nat.{pow-add, pow_below}
-use Rattle.vt_twin.specs.Frames.{HasRoom}
-use Rattle.vt_bloom.specs.Size.{size_of, frame_len, filter_len, region_of, IsSize, IsLargest}
+use Rattle.vt_twin.specs.Frames.{FitsTwin}
+use Rattle.vt_bloom.specs.Size.{filter_size, filter_frame_len, filter_len, filter_region, IsFilterSize, IsLargest}
 
 pub shifted : (k : ℕ) → k < 64 → 1 * 2 ^ k % 18446744073709551616 ≡ 2 ^ k
 shifted k low =
@@ -17,7 +17,7 @@ words_fill m least =
     let is : 6 + (m - 6) ≡ m = omega arith in
     sym (pow-add 2 6 (m - 6)) ∙ ap (λ (k : ℕ). 2 ^ k) is
 
-pub bytes_fill : (m n : ℕ) → 6 ≤ m → 64 * n ≡ 2 ^ m → 8 * n ≡ size_of m
+pub bytes_fill : (m n : ℕ) → 6 ≤ m → 64 * n ≡ 2 ^ m → 8 * n ≡ filter_size m
 bytes_fill m n least fill =
     let is : 3 + (m - 3) ≡ m = omega arith in
     let x : ℕ = 2 ^ (m - 3) in
@@ -44,7 +44,7 @@ pow_aligned j least =
     sym (ap (λ (k : ℕ). k % 512) split) ∙ omega arith
 
 -- a size has one exponent
-pub exponent_unique : (a b size : ℕ) → IsSize a size → IsSize b size → a ≡ b
+pub exponent_unique : (a b size : ℕ) → IsFilterSize a size → IsFilterSize b size → a ≡ b
 exponent_unique a b size one other = ⊎_elim
     (λ (less : a < b). absurd (differs a b less one other))
     (λ (more : b ≤ a). ⊎_elim
@@ -53,7 +53,7 @@ exponent_unique a b size one other = ⊎_elim
     (cases_lt b a))
     (cases_lt a b)
   where
-    differs : (i j : ℕ) → i < j → IsSize i size → IsSize j size → ⊥
+    differs : (i j : ℕ) → i < j → IsFilterSize i size → IsFilterSize j size → ⊥
     differs i j less small large =
         let x : ℕ = 2 ^ (i - 3) in
         let y : ℕ = 2 ^ (j - 3) in
@@ -69,7 +69,7 @@ filter_len-mono i j low =
 
 -- the region of a filter
 pub has_room : (m size : ℕ) → 16 ≤ m → m ≤ 23 → filter_len m ≤ size
-    → HasRoom (region_of m) (frame_len m) size
+    → FitsTwin (filter_region m) (filter_frame_len m) size
 has_room m size least most fits =
     let x : ℕ = 2 ^ (m - 3) in
     let aligned : x % 512 ≡ 0 = pow_aligned (m - 3) (omega arith) in

@@ -2,17 +2,17 @@
 use Rattle.std.proofs.Common.{◌≡◌, ◌⊎◌, ⊎_elim, ℕ, ◌≤◌, true, false, None, List, length, refl, sym, ap, subst, arith}
 use Rattle.std.specs.Prelude.{nat_lt, ◌==◌, ◌||◌}
 use Rattle.std.proofs.lemmas.Bool.Decides.{nat_tests}
-use Rattle.vt_bloom.specs.declared.bad.BloomBad.{BloomBad}
-use Rattle.vt_bloom.specs.declared.bad.BloomBad.TheVariants.{Fault, NoMemory}
-use Rattle.vt_bloom.specs.Faults.{first_bad, RefusesMount}
-use Rattle.vt_bloom.specs.Frame.{Saved, IsFrame, HasSaved, m_in, k_in, current_of}
+use Rattle.vt_bloom.specs.declared.error.BloomError.{BloomError}
+use Rattle.vt_bloom.specs.declared.error.BloomError.TheVariants.{Fault, NoMemory}
+use Rattle.vt_bloom.specs.Faults.{first_bad_filter, RefusesFilterMount}
+use Rattle.vt_bloom.specs.Frame.{Saved, IsFilterFrame, HasSaved, m_in, k_in, current_of}
 use Rattle.vt_bloom.specs.Size.{filter_len, IsLargest}
 use Rattle.vt_bloom.proofs.Frames.{size_unique}
 use Rattle.vt_bloom.proofs.Powers.{filter_len-mono}
 
 -- the tests of a filter's frame
-frame_passes : (saved : Saved) (frame : List ℕ) → IsFrame saved frame
-    → first_bad saved.filter.m frame ≡ None
+frame_passes : (saved : Saved) (frame : List ℕ) → IsFilterFrame saved frame
+    → first_bad_filter saved.filter.m frame ≡ None
 frame_passes saved frame is =
     let counts = is.filter.counts in
     let is_m : (m_in frame == saved.filter.m) ≡ true = let h = is.m in grind (arith, nat_tests) in
@@ -21,8 +21,8 @@ frame_passes saved frame is =
     rw (is.magic, is.version, is_m, is_k) refl
 
 -- a device with a filter isn't refused for what stands on it
-pub refused_saved : (saved : Saved) (file : List ℕ) (size : ℕ) (bad : BloomBad)
-    → length file ≡ size → HasSaved saved file → RefusesMount file size bad
+pub refused_saved : (saved : Saved) (file : List ℕ) (size : ℕ) (bad : BloomError)
+    → length file ≡ size → HasSaved saved file → RefusesFilterMount file size bad
     → (bad ≡ Fault) ⊎ (bad ≡ NoMemory)
 refused_saved saved file size bad whole is refuses = ⊎_elim
     (λ short.
@@ -36,7 +36,7 @@ refused_saved saved file size bad whole is refuses = ⊎_elim
     size_unique (length file) tested.0 saved.filter.m (subst (λ (n : ℕ). IsLargest n tested.0)
     (sym whole) tested.1) is.largest in
     absurd (cc (
-      ap (λ (m : ℕ). first_bad m (current_of m file)) same,
+      ap (λ (m : ℕ). first_bad_filter m (current_of m file)) same,
       tested.2,
       frame_passes saved
           (current_of saved.filter.m file) is.frame,

@@ -2,30 +2,30 @@
 use Rattle.std.proofs.Common.{◌≡◌, ◌≤◌, inl, inr, ⊎_elim, ℕ, List, length, None, Some, Ok, Err, refl, sym, ap, ◌∙◌, subst, arith}
 use Rattle.std.specs.Prelude.{◌↔◌, IsSome, Result, MatchResult}
 use Rattle.vt_disk.specs.declared.call.CallCount.{CallCount}
-use Rattle.vt_disk.specs.declared.call.CallErr.{CallErr}
-use Rattle.vt_disk.specs.declared.call.CallErr.TheVariants.{Fault, Stopped}
-use Rattle.vt_disk.specs.DeviceCalls.{counted, stopped_at}
+use Rattle.vt_disk.specs.declared.call.CallError.{CallError}
+use Rattle.vt_disk.specs.declared.call.CallError.TheVariants.{Fault, Stopped}
+use Rattle.vt_disk.specs.DeviceCalls.{call_counted, stopped_at}
 use Rattle.vt_disk.specs.Disk.{ChangesAt, WithinCall}
 use Rattle.vt_twin.specs.Frames.{current_frame}
-use Rattle.vt_twin.specs.Sound.{HasBegunSelector, GivesOldOrNew, IsSound as IsTwinSound, frame_after}
-use Rattle.vt_twin.specs.Twin.{TwinState, calls_made, next_frame, without_spare, Advances as TwinAdvances}
+use Rattle.vt_twin.specs.Sound.{TwinHasBegunSelector, GivesOldOrNew, IsSoundTwin, frame_after}
+use Rattle.vt_twin.specs.Twin.{TwinState, twin_calls_made, next_frame, without_spare, TwinAdvances}
 use Rattle.vt_twin.specs.declared.step.Step.{Step}
 use Rattle.vt_twin.specs.declared.step.Step.TheVariants.{More, Done}
 use Rattle.vt_twin.proofs.Changes.{begun_made, begun_some, some_none}
 use Rattle.vt_twin.proofs.Steps.{sound_gives}
-use Rattle.vt_bloom.specs.Bloom.{BloomState, Advances, IsSound, HasCounts, HasOldOrNew, with_save, at_end, saved_after}
-use Rattle.vt_bloom.specs.Frame.{Saved, Covers, IsFrame, HasSaved, spelled, current_of}
-use Rattle.vt_bloom.specs.Size.{frame_len, region_of, IsLargest}
+use Rattle.vt_bloom.specs.Bloom.{BloomState, BloomAdvances, IsSoundBloom, HasCounts, HasOldOrNew, with_save, at_end, saved_after}
+use Rattle.vt_bloom.specs.Frame.{Saved, Covers, IsFilterFrame, HasSaved, saved_frame, current_of}
+use Rattle.vt_bloom.specs.Size.{filter_frame_len, filter_region, IsLargest}
 
 -- a file whose current frame is that of a filter
-has_saved : (m n : ℕ) (s : Saved) (frame file : List ℕ) → s.filter.m ≡ m → n ≡ frame_len m
-    → IsLargest (length file) m → current_frame (region_of m) n file ≡ frame → IsFrame s frame
+has_saved : (m n : ℕ) (s : Saved) (frame file : List ℕ) → s.filter.m ≡ m → n ≡ filter_frame_len m
+    → IsLargest (length file) m → current_frame (filter_region m) n file ≡ frame → IsFilterFrame s frame
     → HasSaved s file
 has_saved m n s frame file same len largest current is = record {
   largest = subst (λ (j : ℕ). IsLargest (length file) j) (sym same) largest;
-  frame = subst (λ (l : List ℕ). IsFrame s l)
+  frame = subst (λ (l : List ℕ). IsFilterFrame s l)
       (sym (ap (λ (j : ℕ). current_of j file) same
-      ∙ ap (λ (j : ℕ). current_frame (region_of m) j file) (sym len) ∙ current)) is;
+      ∙ ap (λ (j : ℕ). current_frame (filter_region m) j file) (sym len) ∙ current)) is;
 }
 
 -- as many bytes stay
@@ -37,15 +37,15 @@ largest_stays m P before after changes largest c left =
     subst (λ (n : ℕ). IsLargest n m) (sym from.2.same_length) (largest from.0 from.1)
 
 module _ {D : Type 0} (b : BloomState D) (saved coming : Saved) (read : List ℕ)
-    (images : List ℕ → Type 0) (sound : IsSound b saved coming read images) where
+    (images : List ℕ → Type 0) (sound : IsSoundBloom b saved coming read images) where
   pub has_old : (c : List ℕ) → IsLargest (length c) b.m
-      → current_frame (region_of b.m) b.twin.frame_len c ≡ sound.old → HasSaved saved c
+      → current_frame (filter_region b.m) b.twin.frame_len c ≡ sound.old → HasSaved saved c
   has_old c largest current =
       has_saved b.m b.twin.frame_len saved sound.old c sound.saved_counts.0 sound.len largest
       current sound.saved_is
 
   pub has_new : IsSome b.twin.change → (c : List ℕ) → IsLargest (length c) b.m
-      → current_frame (region_of b.m) b.twin.frame_len c ≡ next_frame b.twin → HasSaved coming c
+      → current_frame (filter_region b.m) b.twin.frame_len c ≡ next_frame b.twin → HasSaved coming c
   has_new some c largest current =
       has_saved b.m b.twin.frame_len coming (next_frame b.twin) c (sound.coming_counts some).0
       sound.len largest current (sound.coming_is some)
@@ -53,26 +53,26 @@ module _ {D : Type 0} (b : BloomState D) (saved coming : Saved) (read : List ℕ
   -- which filter a file has, by the frame that it gives
   pub has_either : (began : Type 0) → (began → IsSome b.twin.change) → (c : List ℕ)
       → IsLargest (length c) b.m
-      → GivesOldOrNew began (region_of b.m) b.twin.frame_len sound.old (next_frame b.twin) c
+      → GivesOldOrNew began (filter_region b.m) b.twin.frame_len sound.old (next_frame b.twin) c
       → HasOldOrNew began saved coming c
   has_either began some c largest gives = ⊎_elim
       (λ old. inl (has_old c largest old))
       (λ new. inr (new.0, has_new (some new.0) c largest new.1))
       gives
 
-  pub begun_save : HasBegunSelector b.twin → IsSome b.twin.change
+  pub begun_save : TwinHasBegunSelector b.twin → IsSome b.twin.change
   begun_save = begun_some b.twin.change _
 
   -- what a crash leaves
   pub crash_leaves : (c : List ℕ) → images c
-      → HasOldOrNew (HasBegunSelector b.twin) saved coming c
+      → HasOldOrNew (TwinHasBegunSelector b.twin) saved coming c
   crash_leaves c left =
-      has_either (HasBegunSelector b.twin) begun_save c (sound.largest c left)
-      (sound_gives b.twin (region_of b.m) sound.old read images sound.twin c left)
+      has_either (TwinHasBegunSelector b.twin) begun_save c (sound.largest c left)
+      (sound_gives b.twin (filter_region b.m) sound.old read images sound.twin c left)
 
   -- where no call is made
   pub crash_stays : (c : List ℕ) → WithinCall images images c
-      → HasOldOrNew (2 ≤ calls_made b.twin) saved coming c
+      → HasOldOrNew (2 ≤ twin_calls_made b.twin) saved coming c
   crash_stays c left = ⊎_elim
       inl
       (λ new. inr (begun_made b.twin new.0, new.1))
@@ -96,12 +96,12 @@ module _ {D : Type 0} (b : BloomState D) (saved coming : Saved) (read : List ℕ
       → (IsSome b.twin.change → Covers scores coming) → (c : List ℕ) → images c
       → (s : Saved) × HasSaved s c × Covers scores s
   crash_covers scores old new c left =
-      either_covers (HasBegunSelector b.twin) scores old (λ begun. new (begun_save begun)) c
+      either_covers (TwinHasBegunSelector b.twin) scores old (λ begun. new (begun_save begun)) c
       (crash_leaves c left)
 
   -- a save begins
-  pub save_sound : (next : Saved) → b.twin.change ≡ None → IsFrame next (spelled next)
-      → HasCounts b next.filter → IsSound (with_save next b) saved next read images
+  pub save_sound : (next : Saved) → b.twin.change ≡ None → IsFilterFrame next (saved_frame next)
+      → HasCounts b next.filter → IsSoundBloom (with_save next b) saved next read images
   save_sound next rest is counts = record {
     largest = sound.largest;
     old = sound.old;
@@ -130,8 +130,8 @@ module _ {D : Type 0} (b : BloomState D) (saved coming : Saved) (read : List ℕ
       (largest : (c : List ℕ) → after c → IsLargest (length c) b.m) where
     -- a call that wasn't the last, or failed
     goes_sound : next_frame t ≡ next_frame b.twin
-        → IsTwinSound t (region_of b.m) sound.old reads after
-        → IsSound (record b { disk = disk; twin = t; calls = calls }) saved coming reads after
+        → IsSoundTwin t (filter_region b.m) sound.old reads after
+        → IsSoundBloom (record b { disk = disk; twin = t; calls = calls }) saved coming reads after
     goes_sound same twin = record {
       largest = largest;
       old = sound.old;
@@ -140,15 +140,15 @@ module _ {D : Type 0} (b : BloomState D) (saved coming : Saved) (read : List ℕ
       saved_is = sound.saved_is;
       saved_counts = sound.saved_counts;
       saved_mark = sound.saved_mark;
-      coming_is = λ _. subst (λ (l : List ℕ). IsFrame coming l) (sym same) (sound.coming_is some);
+      coming_is = λ _. subst (λ (l : List ℕ). IsFilterFrame coming l) (sym same) (sound.coming_is some);
       coming_counts = λ _. sound.coming_counts some;
       coming_mark = λ _. sound.coming_mark some;
     }
 
     -- the last call
     ended_sound : t.change ≡ None
-        → IsTwinSound t (region_of b.m) (next_frame b.twin) reads after
-        → IsSound (record b {
+        → IsSoundTwin t (filter_region b.m) (next_frame b.twin) reads after
+        → IsSoundBloom (record b {
           disk = disk;
           mark = b.next;
           twin = without_spare t;
@@ -178,9 +178,9 @@ module _ {D : Type 0} (b : BloomState D) (saved coming : Saved) (read : List ℕ
         none changing = cc
 
     -- a call, whatever came of it
-    pub step_sound : (outcome : Result Step CallErr) → TwinAdvances outcome b.twin t
-        → IsTwinSound t (region_of b.m) (frame_after outcome b.twin sound.old) reads after
-        → IsSound (record b {
+    pub step_sound : (outcome : Result Step CallError) → TwinAdvances outcome b.twin t
+        → IsSoundTwin t (filter_region b.m) (frame_after outcome b.twin sound.old) reads after
+        → IsSoundBloom (record b {
           disk = disk;
           mark = at_end outcome b.next b.mark;
           twin = at_end outcome (without_spare t) t;
@@ -192,11 +192,11 @@ module _ {D : Type 0} (b : BloomState D) (saved coming : Saved) (read : List ℕ
 
 -- what a call makes of a filter that isn't stopped
 pub advances : {D : Type 0} (b : BloomState D) (disk : D) (t : TwinState) (calls : CallCount)
-    (outcome : Result Step CallErr) → b.calls.stopped ≡ None
+    (outcome : Result Step CallError) → b.calls.stopped ≡ None
     → ((n : ℕ) → outcome ≡ Err (Stopped n) ↔ (b.calls.stopped ≡ Some n))
     → TwinAdvances outcome b.twin t
-    → MatchResult outcome (λ _. calls ≡ counted b.calls) (λ _. calls ≡ stopped_at b.calls)
-    → Advances outcome b (record b {
+    → MatchResult outcome (λ _. calls ≡ call_counted b.calls) (λ _. calls ≡ stopped_at b.calls)
+    → BloomAdvances outcome b (record b {
       disk = disk;
       mark = at_end outcome b.next b.mark;
       twin = at_end outcome (without_spare t) t;

@@ -49,7 +49,7 @@ abbrev pub HasBitsOf : Filter → (score : List ℕ) → Type 0
 HasBitsOf filter score = (i : ℕ) → i < filter.k → IsSet filter (position_of filter.m score i)
 
 -- the score's bits are set, and the others are as they were
-pub record Marks (old : Filter) (score : List ℕ) (new : Filter) : Type 0 where
+pub record MarksScore (old : Filter) (score : List ℕ) (new : Filter) : Type 0 where
   pub m : new.m ≡ old.m
   pub k : new.k ≡ old.k
   pub len : length new.words ≡ length old.words

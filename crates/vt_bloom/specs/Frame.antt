@@ -8,7 +8,7 @@ use Rattle.byteorder.specs.Endian.{big_number, big_bytes}
 use Rattle.vt_disk.specs.declared.TheConstants.{BLOCK_LEN}
 use Rattle.vt_twin.specs.Frames.{current_frame}
 use Rattle.vt_bloom.specs.Bits.{Filter, HasBitsOf, IsFilter, clear_of}
-use Rattle.vt_bloom.specs.Size.{frame_len, region_of, IsLargest}
+use Rattle.vt_bloom.specs.Size.{filter_frame_len, filter_region, IsLargest}
 
 -- A filter and its mark: the first so many blocks of the log have their bits set.
 pub record Saved : Type 0 where
@@ -44,7 +44,7 @@ pub record HaveWords (bytes words : List ℕ) : Type 0 where
       → slice_index words i ≡ big_number 8 (drop (8 * i) bytes)
 
 -- the frame is that of this filter
-pub record IsFrame (saved : Saved) (frame : List ℕ) : Type 0 where
+pub record IsFilterFrame (saved : Saved) (frame : List ℕ) : Type 0 where
   pub filter : IsFilter saved.filter
   pub magic : magic_in frame ≡ codes "VBLM"
   pub version : version_in frame ≡ 1
@@ -58,19 +58,19 @@ abbrev pub head_bytes : (m k mark : ℕ) → List ℕ
 head_bytes m k mark = codes "VBLM" ++ (big_bytes 2 1 ++ (m ∷ (k ∷ big_bytes 8 mark)))
 
 -- the frame as it is written
-abbrev pub spelled : Saved → List ℕ
-spelled saved =
+abbrev pub saved_frame : Saved → List ℕ
+saved_frame saved =
     (head_bytes saved.filter.m saved.filter.k saved.mark ++ replicate (BLOCK_LEN - 16) 0)
     ++ flat_map (big_bytes 8) saved.filter.words
 
 -- the current frame of a device with a filter of 2^m bits
 abbrev pub current_of : (m : ℕ) → (file : List ℕ) → List ℕ
-current_of m file = current_frame (region_of m) (frame_len m) file
+current_of m file = current_frame (filter_region m) (filter_frame_len m) file
 
 -- a device of these bytes has this filter saved
 pub record HasSaved (saved : Saved) (file : List ℕ) : Type 0 where
   pub largest : IsLargest (length file) saved.filter.m
-  pub frame : IsFrame saved (current_of saved.filter.m file)
+  pub frame : IsFilterFrame saved (current_of saved.filter.m file)
 
 -- the filter that formatting saves: no bit is set, and the mark is 0
 abbrev pub empty_of : (m k : ℕ) → Saved

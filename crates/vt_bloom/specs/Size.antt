@@ -4,26 +4,26 @@ use Rattle.vt_disk.specs.declared.TheConstants.{BLOCK_LEN}
 use Rattle.vt_disk.specs.declared.region.Region.{Region}
 
 -- the bytes of a filter of 2^m bits
-abbrev pub size_of : (m : ℕ) → ℕ
-size_of m = 2 ^ (m - 3)
+abbrev pub filter_size : (m : ℕ) → ℕ
+filter_size m = 2 ^ (m - 3)
 
 -- which sizes a filter may have: from 8,192 to 1,048,576 bytes
-pub record IsSize (m size : ℕ) : Type 0 where
+pub record IsFilterSize (m size : ℕ) : Type 0 where
   pub least : 16 ≤ m
   pub most : m ≤ 23
-  pub bytes : size ≡ size_of m
+  pub bytes : size ≡ filter_size m
 
 -- a frame has a block and then the bits
-abbrev pub frame_len : (m : ℕ) → ℕ
-frame_len m = BLOCK_LEN + size_of m
+abbrev pub filter_frame_len : (m : ℕ) → ℕ
+filter_frame_len m = BLOCK_LEN + filter_size m
 
 -- two frames, and a block for the selector
 abbrev pub filter_len : (m : ℕ) → ℕ
-filter_len m = 2 * frame_len m + BLOCK_LEN
+filter_len m = 2 * filter_frame_len m + BLOCK_LEN
 
 -- they stand at the device's start
-abbrev pub region_of : (m : ℕ) → Region
-region_of m = record { start = 0; len = filter_len m }
+abbrev pub filter_region : (m : ℕ) → Region
+filter_region m = record { start = 0; len = filter_len m }
 
 -- A device of this length has room for a filter of 2^m bits and for no larger one. Its filter has
 -- that size and no other, so where the selector stands depends on the length alone.

@@ -7,7 +7,7 @@ use arrayvec::ArrayVec;
 use std::alloc::{AllocError, Global};
 use std::marker::Model;
 use vt_base::Score;
-use vt_fields::u64_at;
+use vt_base::fields::u64_at;
 
 /// Position i of a score among 2^m bits.
 fn position(score: &Score, m: u8, i: u8) -> u32
@@ -53,15 +53,15 @@ impl Model for Bits {
 
     ghost Value = { Filter };
 
-    ghost use Rattle.vt_bloom.specs.States.{filter_of};
+    ghost use Rattle.vt_bloom.specs.States.{filter_of_bits};
 
-    ghost view = { filter_of };
+    ghost view = { filter_of_bits };
 
-    ghost invariant = { λ b. IsFilter (filter_of b) };
+    ghost invariant = { λ b. IsFilter (filter_of_bits b) };
 }
 
 impl Bits {
-    ghost use Rattle.vt_bloom.specs.Bits.{IsFilter, IsSet, HasBitsOf, Marks, clear_of};
+    ghost use Rattle.vt_bloom.specs.Bits.{IsFilter, IsSet, HasBitsOf, MarksScore, clear_of};
 
     /// Bits of which none is set. m is 16 to 23, k 1 to 32.
     pub fn new(alloc: Global, m: u8, k: u8) -> Result<Bits, AllocError>
@@ -131,7 +131,7 @@ impl Bits {
 
     /// Sets the bits of a score.
     pub fn mark_bits(&mut self, score: &Score)
-        ensures { Marks self.old score.now.0 self.new }
+        ensures { MarksScore self.old score.now.0 self.new }
     {
         for i in 0..self.k {
             set(&mut self.words, position(score, self.m, i));

@@ -9,7 +9,7 @@ use crate::frame::encoded;
 use crate::size::region;
 use std::marker::Model;
 use vt_base::Bytes;
-use vt_disk::{CallCount, CallErr, Disk};
+use vt_disk::{CallCount, CallError, Disk};
 use vt_twin::{Step, Twin};
 
 /// The filter that is saved on a device: its counts and its mark, which says for how many of the
@@ -34,7 +34,7 @@ impl<D: Disk> Model for Bloom<D> {
     ghost use Rattle.std.specs.Option.{ForSome};
     ghost use Rattle.vt_bloom.specs.Bits.{AreCounts};
     ghost use Rattle.vt_bloom.specs.Bloom.{BloomState};
-    ghost use Rattle.vt_bloom.specs.Size.{frame_len, filter_len};
+    ghost use Rattle.vt_bloom.specs.Size.{filter_frame_len, filter_len};
 
     ghost Value = { BloomState D };
 
@@ -51,9 +51,9 @@ impl<D: Disk> Model for Bloom<D> {
     ghost invariant = { λ b. record {
       counts : AreCounts b.m b.k;
       room : filter_len b.m ≤ D.size b.disk;
-      twin : b.twin.frame_len ≡ frame_len b.m;
-      buffer : ForSome b.frame (λ it. length it ≡ frame_len b.m);
-      coming : ForSome b.twin.change (λ it. length it.frame ≡ frame_len b.m);
+      twin : b.twin.frame_len ≡ filter_frame_len b.m;
+      buffer : ForSome b.frame (λ it. length it ≡ filter_frame_len b.m);
+      coming : ForSome b.twin.change (λ it. length it.frame ≡ filter_frame_len b.m);
       rest : b.twin.change ≡ None → IsSome b.frame;
       runs : b.calls.stopped ≡ None → b.twin.failed ≡ false;
     } };
@@ -62,13 +62,13 @@ impl<D: Disk> Model for Bloom<D> {
 impl<D: Disk> Bloom<D> {
     ghost use Rattle.vt_base.specs.Faults.{CountsFault};
     ghost use Rattle.vt_disk.specs.Calls.{WritesWithin};
-    ghost use Rattle.vt_disk.specs.DeviceCalls.{CallMade, is_fault};
+    ghost use Rattle.vt_disk.specs.DeviceCalls.{CallMade, is_call_fault};
     ghost use Rattle.vt_disk.specs.Disk.{WithinCall};
-    ghost use Rattle.vt_twin.specs.Twin.{calls_made, next_call, next_frame};
+    ghost use Rattle.vt_twin.specs.Twin.{twin_calls_made, next_call, next_frame};
     ghost use Rattle.vt_bloom.specs.Bits.{AreCounts};
-    ghost use Rattle.vt_bloom.specs.Bloom.{IsSound, HasOldOrNew, with_save, saved_after, Advances};
+    ghost use Rattle.vt_bloom.specs.Bloom.{IsSoundBloom, HasOldOrNew, with_save, saved_after, BloomAdvances};
     ghost use Rattle.vt_bloom.specs.Frame.{Saved, Covers, HasSaved};
-    ghost use Rattle.vt_bloom.specs.Size.{region_of};
+    ghost use Rattle.vt_bloom.specs.Size.{filter_region};
 
     /// How many bits the filter has, as a power of two.
     pub fn m(&self) -> u8
@@ -134,8 +134,8 @@ impl<D: Disk> Bloom<D> {
 
         // A sound device stays so, for what was saved and for what now is being saved.
         ensures sound { (saved coming : Saved) → IsTrue D.tells
-            → IsSound self.old saved coming (D.bytes self.old.disk) (D.images self.old.disk)
-            → IsSound self.new saved (record { filter = bits.now; mark = mark })
+            → IsSoundBloom self.old saved coming (D.bytes self.old.disk) (D.images self.old.disk)
+            → IsSoundBloom self.new saved (record { filter = bits.now; mark = mark })
             (D.bytes self.new.disk) (D.images self.new.disk) }
     {
         let Some(frame) = self.frame.take() else {
@@ -150,59 +150,59 @@ impl<D: Disk> Bloom<D> {
     ///
     /// Done is the answer to the last of them, and Fault to one that fails. From then on the answer
     /// is Stopped with the number of that call, and nothing is done.
-    pub fn advance(&mut self) -> Result<Step, CallErr>
+    pub fn advance(&mut self) -> Result<Step, CallError>
         requires { IsSome self.old.twin.change }
 
         // A sound device stays so, for the old filter or, after the last call, for the new one.
         ensures sound { (saved coming : Saved) → IsTrue D.tells
-            → IsSound self.old saved coming (D.bytes self.old.disk) (D.images self.old.disk)
-            → IsSound self.new (saved_after result saved coming) coming
+            → IsSoundBloom self.old saved coming (D.bytes self.old.disk) (D.images self.old.disk)
+            → IsSoundBloom self.new (saved_after result saved coming) coming
             (D.bytes self.new.disk) (D.images self.new.disk) }
 
         // A crash at any moment of it leaves the old filter or, from the selector's write on, the
         // old one or the new.
         ensures crash { (saved coming : Saved) → IsTrue D.tells
-            → IsSound self.old saved coming (D.bytes self.old.disk) (D.images self.old.disk)
+            → IsSoundBloom self.old saved coming (D.bytes self.old.disk) (D.images self.old.disk)
             → (c : List ℕ) → WithinCall (D.images self.old.disk) (D.images self.new.disk) c
-            → HasOldOrNew (2 ≤ calls_made self.old.twin) saved coming c }
+            → HasOldOrNew (2 ≤ twin_calls_made self.old.twin) saved coming c }
 
         // So where the marks of both are true, the mark of what is left is.
         ensures covered { (saved coming : Saved) (scores : List (List ℕ)) → IsTrue D.tells
-            → IsSound self.old saved coming (D.bytes self.old.disk) (D.images self.old.disk)
+            → IsSoundBloom self.old saved coming (D.bytes self.old.disk) (D.images self.old.disk)
             → Covers scores saved → Covers scores coming
             → (c : List ℕ) → WithinCall (D.images self.old.disk) (D.images self.new.disk) c
             → (left : Saved) × HasSaved left c × Covers scores left }
 
         // After the last call each crash leaves the new one.
         ensures last { (saved coming : Saved) → IsTrue D.tells
-            → IsSound self.old saved coming (D.bytes self.old.disk) (D.images self.old.disk)
+            → IsSoundBloom self.old saved coming (D.bytes self.old.disk) (D.images self.old.disk)
             → result ≡ Ok Step.Done → (c : List ℕ) → D.images self.new.disk c
             → HasSaved coming c }
 
         // Where it isn't stopped it makes the next call of its frames, and no other.
         ensures makes { self.old.calls.stopped ≡ None
-            → CallMade D.Disk (next_call self.old.twin (region_of self.old.m)) result
+            → CallMade D.Disk (next_call self.old.twin (filter_region self.old.m)) result
             self.old.calls self.new.calls self.old.disk self.new.disk }
 
         ensures whole { self.old.calls.stopped ≡ None
             → length (next_frame self.old.twin) ≡ self.old.twin.frame_len }
-        ensures steps { Advances result self.old self.new }
+        ensures steps { BloomAdvances result self.old self.new }
         ensures done { IfOk result
-            (λ step. (step ≡ Step.Done) ↔ (calls_made self.old.twin ≡ 3)) }
+            (λ step. (step ≡ Step.Done) ↔ (twin_calls_made self.old.twin ≡ 3)) }
         ensures goes_on { (result ≡ Ok Step.Done) ⊎ IsSome self.new.twin.change }
         ensures stopped { (n : ℕ)
-            → (result ≡ Err (CallErr.Stopped n)) ↔ (self.old.calls.stopped ≡ Some n) }
-        ensures faults { CountsFault is_fault result
+            → (result ≡ Err (CallError.Stopped n)) ↔ (self.old.calls.stopped ≡ Some n) }
+        ensures faults { CountsFault is_call_fault result
             (D.faults self.old.disk) (D.faults self.new.disk) }
 
         ensures untouched { IsSome self.old.calls.stopped → self.new.disk ≡ self.old.disk }
 
         // Nothing behind the filter changes.
-        ensures within { WritesWithin D.Disk (region_of self.old.m) 1
+        ensures within { WritesWithin D.Disk (filter_region self.old.m) 1
             self.old.disk self.new.disk }
     {
         if let Some(call) = self.calls.stopped {
-            return Err(CallErr::Stopped(call));
+            return Err(CallError::Stopped(call));
         }
         let region = region(self.m);
         let outcome = self.twin.advance(&mut self.calls, &mut self.disk, region);
@@ -219,12 +219,12 @@ impl<D: Disk> Bloom<D> {
 /// Behind a call of a save: the last one ends it. The twin gives the frame back then, and the mark
 /// of the save is the one that is saved.
 fn end_save(
-    outcome: Result<Step, CallErr>,
+    outcome: Result<Step, CallError>,
     twin: &mut Twin,
     frame: &mut Option<Bytes>,
     mark: &mut u64,
     next: u64,
-) -> Result<Step, CallErr>
+) -> Result<Step, CallError>
     ensures told { result ≡ outcome }
     ensures twin { twin.new ≡ at_end outcome (without_spare twin.old) twin.old }
     ensures frame { frame.new ≡ at_end outcome twin.old.spare frame.old }

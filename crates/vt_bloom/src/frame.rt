@@ -4,22 +4,22 @@ ghost use Rattle.std.specs.Prelude.{◌≡◌, ◌+◌, ◌-◌, ◌≤◌, ◌^
 ghost use Rattle.std.specs.List.{flat_map};
 ghost use Rattle.byteorder.specs.Endian.{big_bytes, big_number};
 ghost use Rattle.vt_bloom.specs.Bits.{AreCounts};
-ghost use Rattle.vt_bloom.specs.Faults.{first_bad, TellsOfFrame};
-ghost use Rattle.vt_bloom.specs.Frame.{HaveWords, IsFrame, head_bytes, spelled, magic_in, version_in, m_in, k_in, mark_in};
-ghost use Rattle.vt_bloom.specs.Size.{frame_len};
+ghost use Rattle.vt_bloom.specs.Faults.{first_bad_filter, TellsOfFrame};
+ghost use Rattle.vt_bloom.specs.Frame.{HaveWords, IsFilterFrame, head_bytes, saved_frame, magic_in, version_in, m_in, k_in, mark_in};
+ghost use Rattle.vt_bloom.specs.Size.{filter_frame_len};
 
-use crate::bad::{BloomBad, Field};
 use crate::bits::Bits;
+use crate::error::{BloomError, Field};
 use byteorder::{BigEndian, ByteOrder};
 use vt_base::Bytes;
+use vt_base::fields::{put, put_u8, put_u16, put_u64, u16_at, u64_at};
 use vt_disk::BLOCK_LEN;
-use vt_fields::{put, put_u8, put_u16, put_u64, u16_at, u64_at};
 
 /// Writes the frame of a filter with this mark.
 fn encode(bits: &Bits, mark: u64, frame: &mut [u8])
-    requires { length frame.old ≡ frame_len bits.now.m }
-    ensures written { frame.new ≡ spelled (record { filter = bits.now; mark = mark }) }
-    ensures is { IsFrame (record { filter = bits.now; mark = mark }) frame.new }
+    requires { length frame.old ≡ filter_frame_len bits.now.m }
+    ensures written { frame.new ≡ saved_frame (record { filter = bits.now; mark = mark }) }
+    ensures is { IsFilterFrame (record { filter = bits.now; mark = mark }) frame.new }
 {
     let (head, words) = frame.split_at_mut(BLOCK_LEN);
     encode_head(bits.m, bits.k, mark, head);
@@ -28,10 +28,10 @@ fn encode(bits: &Bits, mark: u64, frame: &mut [u8])
 
 /// The frame of a filter with this mark, in the memory of one that is as long.
 pub fn encoded(bits: &Bits, mark: u64, memory: Bytes) -> Bytes
-    requires { length memory ≡ frame_len bits.now.m }
-    ensures written { result ≡ spelled (record { filter = bits.now; mark = mark }) }
-    ensures is { IsFrame (record { filter = bits.now; mark = mark }) result }
-    ensures whole { length result ≡ frame_len bits.now.m }
+    requires { length memory ≡ filter_frame_len bits.now.m }
+    ensures written { result ≡ saved_frame (record { filter = bits.now; mark = mark }) }
+    ensures is { IsFilterFrame (record { filter = bits.now; mark = mark }) result }
+    ensures whole { length result ≡ filter_frame_len bits.now.m }
 {
     let mut frame = memory.into_vec();
     encode(bits, mark, &mut frame);
@@ -53,7 +53,7 @@ fn encode_head(m: u8, k: u8, mark: u64, head: &mut [u8])
 
 /// What the head of a frame says, on a device with room for 2^m bits: how many bits a score has,
 /// and the mark.
-pub fn decode_head(frame: &[u8], m: u8) -> Result<(u8, u64), BloomBad>
+pub fn decode_head(frame: &[u8], m: u8) -> Result<(u8, u64), BloomError>
     requires long { BLOCK_LEN ≤ length frame.now }
     requires least { 16 ≤ m }
     requires most { m ≤ 23 }
@@ -63,11 +63,11 @@ pub fn decode_head(frame: &[u8], m: u8) -> Result<(u8, u64), BloomBad>
     ensures k { IfOk result (λ found. found.0 ≡ k_in frame.now) }
     ensures mark { IfOk result (λ found. found.1 ≡ mark_in frame.now) }
     ensures counts { IfOk result (λ found. AreCounts m found.0) }
-    ensures refused { IfErr result (λ bad. first_bad m frame.now ≡ Some bad) }
+    ensures refused { IfErr result (λ bad. first_bad_filter m frame.now ≡ Some bad) }
     ensures tells { IfErr result TellsOfFrame }
 {
     if frame[..4] != b"VBLM"[..] {
-        return Err(BloomBad::NotFormatted);
+        return Err(BloomError::NotFormatted);
     }
     let version = u16_at(frame, 4);
     if version != 1 {
@@ -84,10 +84,10 @@ pub fn decode_head(frame: &[u8], m: u8) -> Result<(u8, u64), BloomBad>
 }
 
 /// A field that can't stand there.
-fn torn(field: Field, found: u64, want: u64) -> BloomBad
-    ensures { result ≡ BloomBad.Torn field found want }
+fn torn(field: Field, found: u64, want: u64) -> BloomError
+    ensures { result ≡ BloomError.Torn field found want }
 {
-    BloomBad::Torn { field, found, want }
+    BloomError::Torn { field, found, want }
 }
 
 /// Writes words one behind another.

@@ -1,9 +1,9 @@
 //! Laws of saved filters.
 
 ghost use Rattle.std.specs.Prelude.{◌≡◌, ℕ, List, IsSome, None};
-ghost use Rattle.vt_twin.specs.Sound.{HasBegunSelector};
-ghost use Rattle.vt_bloom.specs.Bits.{Filter, IsFilter, HasBitsOf, Marks};
-ghost use Rattle.vt_bloom.specs.Bloom.{BloomState, IsSound, HasOldOrNew};
+ghost use Rattle.vt_twin.specs.Sound.{TwinHasBegunSelector};
+ghost use Rattle.vt_bloom.specs.Bits.{Filter, IsFilter, HasBitsOf, MarksScore};
+ghost use Rattle.vt_bloom.specs.Bloom.{BloomState, IsSoundBloom, HasOldOrNew};
 ghost use Rattle.vt_bloom.specs.Frame.{Saved, Covers, HasSaved};
 ghost use Rattle.vt_bloom.specs.Laws.{IsUnambiguous, HasOneSaved, WritesFrames, PassesSaved, HasOneSize, CoversMore, CoversFewer};
 
@@ -21,11 +21,11 @@ pub fn saved_filters_are_told_apart()
 
 /// A score that was marked has its bits from then on, and marking leaves a filter one.
 pub fn marked_scores_stay()
-    ensures marked { (old new : Filter) (score : List ℕ) → Marks old score new
+    ensures marked { (old new : Filter) (score : List ℕ) → MarksScore old score new
         → HasBitsOf new score }
-    ensures stay { (old new : Filter) (score other : List ℕ) → Marks old score new
+    ensures stay { (old new : Filter) (score other : List ℕ) → MarksScore old score new
         → HasBitsOf old other → HasBitsOf new other }
-    ensures filter { (old new : Filter) (score : List ℕ) → Marks old score new
+    ensures filter { (old new : Filter) (score : List ℕ) → MarksScore old score new
         → IsFilter old → IsFilter new }
 {}
 
@@ -41,14 +41,14 @@ pub fn true_marks_stay()
 /// one. So where the marks of both are true, so is the mark of what is mounted then.
 pub fn crash_gives_old_or_new<D: Disk>()
     ensures crash { (b : BloomState D) (saved coming : Saved)
-        → IsSound b saved coming (D.bytes b.disk) (D.images b.disk)
+        → IsSoundBloom b saved coming (D.bytes b.disk) (D.images b.disk)
         → (c : List ℕ) → D.images b.disk c
-        → HasOldOrNew (HasBegunSelector b.twin) saved coming c }
+        → HasOldOrNew (TwinHasBegunSelector b.twin) saved coming c }
     ensures rest { (b : BloomState D) (saved coming : Saved)
-        → IsSound b saved coming (D.bytes b.disk) (D.images b.disk) → b.twin.change ≡ None
+        → IsSoundBloom b saved coming (D.bytes b.disk) (D.images b.disk) → b.twin.change ≡ None
         → (c : List ℕ) → D.images b.disk c → HasSaved saved c }
     ensures covered { (b : BloomState D) (saved coming : Saved) (scores : List (List ℕ))
-        → IsSound b saved coming (D.bytes b.disk) (D.images b.disk)
+        → IsSoundBloom b saved coming (D.bytes b.disk) (D.images b.disk)
         → Covers scores saved → (IsSome b.twin.change → Covers scores coming)
         → (c : List ℕ) → D.images b.disk c → (s : Saved) × HasSaved s c × Covers scores s }
 {}

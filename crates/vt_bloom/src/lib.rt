@@ -3,18 +3,18 @@
 // Tests: crates/vt_disk_tests/src/bloom.rt.
 #![tactic(auto)]
 
-mod bad;
 mod bits;
 mod bloom;
+mod error;
 mod formatting;
 mod frame;
 mod laws;
 mod mounting;
 mod size;
 
-pub use bad::{BloomBad, Field};
 pub use bits::{Bits, positions};
 pub use bloom::Bloom;
+pub use error::{BloomError, Field};
 pub use formatting::format;
 pub use laws::{
     crash_gives_old_or_new, marked_scores_stay, saved_filters_are_told_apart, true_marks_stay,

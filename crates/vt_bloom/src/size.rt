@@ -1,7 +1,7 @@
 //! How large a filter is, and where it stands.
 
 ghost use Rattle.std.specs.Prelude.{◌≡◌, ◌≤◌, ℕ, IfSome, IfNone};
-ghost use Rattle.vt_bloom.specs.Size.{IsSize, IsLargest, frame_len, region_of};
+ghost use Rattle.vt_bloom.specs.Size.{IsFilterSize, IsLargest, filter_frame_len, filter_region};
 
 use crate::LEAST_LEN;
 use vt_disk::{BLOCK_LEN, Region};
@@ -9,8 +9,8 @@ use vt_disk::{BLOCK_LEN, Region};
 /// The m of a filter of this many bytes, which has 2^m bits, if a filter may have that size: the
 /// powers of two from 8,192 to 1,048,576.
 pub fn exponent(size: u64) -> Option<u8>
-    ensures found { IfSome result (λ m. IsSize m size) }
-    ensures none { IfNone result ((m : ℕ) → ¬ IsSize m size) }
+    ensures found { IfSome result (λ m. IsFilterSize m size) }
+    ensures none { IfNone result ((m : ℕ) → ¬ IsFilterSize m size) }
 {
     for m in 16..24 {
         if size == 1 << (m - 3) {
@@ -34,10 +34,10 @@ pub fn largest(len: u64) -> u8
 }
 
 /// How many bytes a frame of a filter of 2^m bits has.
-pub fn frame_len(m: u8) -> usize
+pub fn filter_frame_len(m: u8) -> usize
     requires least { 16 ≤ m }
     requires most { m ≤ 23 }
-    ensures { result ≡ frame_len m }
+    ensures { result ≡ filter_frame_len m }
 {
     BLOCK_LEN + (1 << (m - 3))
 }
@@ -46,10 +46,10 @@ pub fn frame_len(m: u8) -> usize
 pub fn region(m: u8) -> Region
     requires least { 16 ≤ m }
     requires most { m ≤ 23 }
-    ensures { result ≡ region_of m }
+    ensures { result ≡ filter_region m }
 {
     Region {
         start: 0,
-        len: (2 * frame_len(m) + BLOCK_LEN) as u64,
+        len: (2 * filter_frame_len(m) + BLOCK_LEN) as u64,
     }
 }

@@ -8,8 +8,8 @@ use Rattle.byteorder.specs.Numbers.{big_number-reads_back, big_from-lt}
 use Rattle.vt_base.specs.Bytes.{AreBytes}
 use Rattle.vt_base.specs.Kind.{IsKind}
 use Rattle.vt_base.specs.declared.place.Entry.{Entry}
-use Rattle.vt_fields.specs.Fields.{drop-field, drop-byte, drop-number}
-use Rattle.vt_bucket.specs.Frame.{cell, cells, IsEntry}
+use Rattle.vt_base.specs.Fields.{drop-field, drop-byte, drop-number}
+use Rattle.vt_bucket.specs.Frame.{cell, cells, IsIndexEntry}
 
 -- what the fields of an entry say, by their places
 abbrev entry_in : List ℕ → Entry
@@ -21,7 +21,7 @@ entry_in bytes = record {
 
 -- bytes with these fields are those of the entry
 pub cell_read : (bytes : List ℕ) (e : Entry) → length bytes ≡ 31 → AreBytes bytes → e.key.score.0 ≡ take 20 bytes → IsKind (slice_index bytes 20) → e.key.kind ≡ slice_index bytes 20
-    → e.size ≡ big_number 2 (drop 21 bytes) → e.place.arena ≡ big_number 4 (drop 23 bytes) → e.place.offset ≡ big_number 4 (drop 27 bytes) → IsEntry e × (bytes ≡ cell e)
+    → e.size ≡ big_number 2 (drop 21 bytes) → e.place.arena ≡ big_number 4 (drop 23 bytes) → e.place.offset ≡ big_number 4 (drop 27 bytes) → IsIndexEntry e × (bytes ≡ cell e)
 cell_read bytes e long are score kind kind_is size arena offset =
     let below : (a n : ℕ) → big_number n (drop a bytes) < 256 ^ n =
     λ a n. big_from-lt 0 n (drop a bytes) (λ i. subst (λ (b : ℕ). b < 256) (sym (get_or-drop a bytes i 0)) (are (a + i))) in
@@ -48,7 +48,7 @@ cell_read bytes e long are score kind kind_is size arena offset =
     length_20 = omega (arith, length-take 20 bytes, long)
 
 -- an entry reads back, whatever follows it
-module _ (e : Entry) (rest : List ℕ) (is : IsEntry e) where
+module _ (e : Entry) (rest : List ℕ) (is : IsIndexEntry e) where
   abbrev bytes : List ℕ
   bytes = cell e ++ rest
 
@@ -86,19 +86,19 @@ module _ (e : Entry) (rest : List ℕ) (is : IsEntry e) where
     };
   }
 
-pub length-cell : (e : Entry) → IsEntry e → length (cell e) ≡ 31
+pub length-cell : (e : Entry) → IsIndexEntry e → length (cell e) ≡ 31
 length-cell e is = omega (arith, length-append e.key.score.0 (e.key.kind ∷ (big_bytes 2 e.size ++ (big_bytes 4 e.place.arena ++ big_bytes 4 e.place.offset))), is.score_len)
 
-pub length-cells : (xs : List Entry) → AllByRecursion IsEntry xs → length (cells xs) ≡ 31 * length xs
+pub length-cells : (xs : List Entry) → AllByRecursion IsIndexEntry xs → length (cells xs) ≡ 31 * length xs
 length-cells [] each = refl
 length-cells (x ∷ xs) each = omega (arith, length-append (cell x) (cells xs), length-cell x each.0, length-cells xs each.1)
 
-pub one_entry : (a b : Entry) (x y : List ℕ) → IsEntry a → IsEntry b → cell a ++ x ≡ cell b ++ y → (a ≡ b) × (x ≡ y)
+pub one_entry : (a b : Entry) (x y : List ℕ) → IsIndexEntry a → IsIndexEntry b → cell a ++ x ≡ cell b ++ y → (a ≡ b) × (x ≡ y)
 one_entry a b x y is also same =
     (sym (entry_in-cell a x is) ∙ ap entry_in same ∙ entry_in-cell b y also, sym (drop-cell a x is) ∙ ap (λ (l : List ℕ). drop 31 l) same ∙ drop-cell b y also)
 
 -- as many entries, which begin the same bytes
-pub one_list : (xs ys : List Entry) (r s : List ℕ) → length xs ≡ length ys → AllByRecursion IsEntry xs → AllByRecursion IsEntry ys → cells xs ++ r ≡ cells ys ++ s
+pub one_list : (xs ys : List Entry) (r s : List ℕ) → length xs ≡ length ys → AllByRecursion IsIndexEntry xs → AllByRecursion IsIndexEntry ys → cells xs ++ r ≡ cells ys ++ s
     → (xs ≡ ys) × (r ≡ s)
 one_list [] [] r s long each also same = (refl, same)
 one_list [] (y ∷ ys) r s long each also same = absurd (omega arith)
@@ -110,7 +110,7 @@ one_list (x ∷ xs) (y ∷ ys) r s long each also same =
     ((λ i. front.0 i ∷ behind.0 i), behind.1)
 
 -- one more entry
-pub each_push : (xs : List Entry) (y : Entry) → AllByRecursion IsEntry xs → IsEntry y → AllByRecursion IsEntry (xs ++ y ∷ [])
+pub each_push : (xs : List Entry) (y : Entry) → AllByRecursion IsIndexEntry xs → IsIndexEntry y → AllByRecursion IsIndexEntry (xs ++ y ∷ [])
 each_push [] y each is = (is, tt)
 each_push (x ∷ xs) y each is = (each.0, each_push xs y each.1 is)
 

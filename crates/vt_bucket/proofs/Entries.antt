@@ -12,7 +12,7 @@ use Rattle.std.proofs.lemmas.Slice.{between_is, take-put_mid}
 use Rattle.std.proofs.lemmas.List.Edits.{length-insert, get_or-insert_below, get_or-insert_at, get_or-insert_above}
 use Rattle.vt_base.specs.declared.place.Entry.{Entry}
 use Rattle.vt_base.specs.declared.key.Key.{Key}
-use Rattle.vt_bucket.specs.Buckets.{Puts}
+use Rattle.vt_bucket.specs.Buckets.{PutsEntry}
 use Rattle.vt_bucket.specs.Order.{IsBelow, IsAscending}
 use Rattle.vt_base.specs.Key.{key_cmp}
 use Rattle.vt_bucket.proofs.Keys.{absent_at, not_below_itself}
@@ -46,7 +46,7 @@ module _ (xs : List Entry) (up : IsAscending xs) (at : ℕ) (y : Entry) where
         below_by_keys (get_or (set xs at y) i d) (get_or (set xs at y) j d) (get_or xs i d) (get_or xs j d)
         (key_set i d (omega arith)) (key_set j d j_in) (up i j d low j_in)
 
-    pub put_set : Puts xs y (set xs at y)
+    pub put_set : PutsEntry xs y (set xs at y)
     put_set other = (into, from)
       where
         into : Contains (set xs at y) other → (other ≡ y) ⊎ (Contains xs other × (other.key ≢ y.key))
@@ -121,7 +121,7 @@ module _ (xs : List Entry) (up : IsAscending xs) (at : ℕ) (y : Entry) where
     absent : (k : ℕ) (d : Entry) → k < length xs → (get_or xs k d).key ≡ y.key → ⊥
     absent = absent_at xs y.key at below above
 
-    pub put_insert : Puts xs y (insert xs at y)
+    pub put_insert : PutsEntry xs y (insert xs at y)
     put_insert other = (into, from)
       where
         long : length (insert xs at y) ≡ length xs + 1
@@ -152,27 +152,27 @@ module _ (xs : List Entry) (up : IsAscending xs) (at : ℕ) (y : Entry) where
 
 -- an entry put in the place of one with its key, in a table whose first `len` are entries
 pub table_set : (table seen : List Entry) (len at : ℕ) (y : Entry) → seen ≡ take len table → IsAscending (take len table) → at < length seen
-    → ((d : Entry) → (get_or seen at d).key ≡ y.key) → IsAscending (take len (set table at y)) × Puts (take len table) y (take len (set table at y))
+    → ((d : Entry) → (get_or seen at d).key ≡ y.key) → IsAscending (take len (set table at y)) × PutsEntry (take len table) y (take len (set table at y))
 table_set table seen len at y is up within found =
     let xs = take len table in
     let at_len : at < len = omega (arith, ap length is, length-take len table, within) in
     let in_list : at < length xs = omega (arith, within, ap length is) in
     let same : (d : Entry) → (get_or xs at d).key ≡ y.key = λ d. ap (λ (l : List Entry). (get_or l at d).key) (sym is) ∙ found d in
     let new : take len (set table at y) ≡ set xs at y = take-set-lt len table at y at_len in
-    (subst IsAscending (sym new) (ascending_set xs up at y in_list same), subst (Puts xs y) (sym new) (put_set xs up at y in_list same))
+    (subst IsAscending (sym new) (ascending_set xs up at y in_list same), subst (PutsEntry xs y) (sym new) (put_set xs up at y in_list same))
 
 -- a new entry put in
 pub put_new : (xs seen new : List Entry) → IsAscending xs → (at : ℕ) (y : Entry) → seen ≡ xs → new ≡ insert xs at y → at ≤ length seen
     → ((k : ℕ) (d : Entry) → k < at → key_cmp (get_or seen k d).key y.key ≡ Less)
     → ((k : ℕ) (d : Entry) → at ≤ k → k < length seen → key_cmp y.key (get_or seen k d).key ≡ Less)
-    → IsAscending new × Puts xs y new
+    → IsAscending new × PutsEntry xs y new
 put_new xs seen new up at y seen_is is within below above =
     let in_list : at ≤ length xs = omega (arith, within, ap length seen_is) in
     let low : (k : ℕ) (d : Entry) → k < at → key_cmp (get_or xs k d).key y.key ≡ Less =
     λ k d before. ap (λ (l : List Entry). key_cmp (get_or l k d).key y.key) (sym seen_is) ∙ below k d before in
     let high : (k : ℕ) (d : Entry) → at ≤ k → k < length xs → key_cmp y.key (get_or xs k d).key ≡ Less =
     λ k d after k_in. ap (λ (l : List Entry). key_cmp y.key (get_or l k d).key) (sym seen_is) ∙ above k d after (omega (arith, ap length seen_is)) in
-    (subst IsAscending (sym is) (ascending_insert xs up at y in_list low high), subst (Puts xs y) (sym is) (put_insert xs up at y in_list low high))
+    (subst IsAscending (sym is) (ascending_insert xs up at y in_list low high), subst (PutsEntry xs y) (sym is) (put_insert xs up at y in_list low high))
 
 -- no entry has a key that isn't found
 pub none_has : (xs seen : List Entry) (at : ℕ) (x : Key) → seen ≡ xs

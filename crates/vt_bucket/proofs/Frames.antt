@@ -11,19 +11,19 @@ use Rattle.byteorder.specs.Numbers.{big_number-reads_back}
 use Rattle.vt_base.specs.Bytes.{AreBytes}
 use Rattle.vt_base.specs.Kind.{IsKind}
 use Rattle.vt_base.specs.declared.place.Entry.{Entry}
-use Rattle.vt_fields.specs.Fields.{drop-number}
+use Rattle.vt_base.specs.Fields.{drop-number}
 use Rattle.vt_bucket.specs.declared.decoding.BucketBad.{BucketBad}
 use Rattle.vt_bucket.specs.declared.decoding.BucketBad.TheVariants.{Magic, Number, Count, Order}
-use Rattle.vt_bucket.specs.Frame.{cell, cells, IsEntry, BeginsWith, IsFrame, header}
-use Rattle.vt_bucket.specs.Faults.{FaultIs, HasEntries, HasMagic, magic_in, number_in, count_in}
+use Rattle.vt_bucket.specs.Frame.{cell, cells, IsIndexEntry, BeginsWithEntries, IsBucketFrame, bucket_header}
+use Rattle.vt_bucket.specs.Faults.{FaultIs, HasFirstEntries, HasMagic, magic_in, number_in, count_in}
 use Rattle.vt_bucket.specs.Order.{IsBelow, IsAscending}
 use Rattle.vt_base.specs.Key.{key_cmp}
 use Rattle.vt_bucket.proofs.Cells.{one_entry, one_list, each_push, cells_push, kind-cell}
 use Rattle.vt_bucket.proofs.Keys.{ascending_push}
 
 -- what the head of a frame says
-module _ (number : ℕ) (xs : List Entry) (bytes : List ℕ) (is : IsFrame number xs bytes) where
-  at_head : bytes ≡ header number (length xs) ++ drop 10 bytes
+module _ (number : ℕ) (xs : List Entry) (bytes : List ℕ) (is : IsBucketFrame number xs bytes) where
+  at_head : bytes ≡ bucket_header number (length xs) ++ drop 10 bytes
   at_head = sym (take-append-drop 10 bytes) ∙ ap (λ (l : List ℕ). l ++ drop 10 bytes) is.head
 
   frame_magic : HasMagic bytes
@@ -37,19 +37,19 @@ module _ (number : ℕ) (xs : List Entry) (bytes : List ℕ) (is : IsFrame numbe
 
 -- and what says so is a head
 pub head_read : (number count : ℕ) (bytes : List ℕ) → 10 ≤ length bytes → AreBytes bytes → HasMagic bytes → number_in bytes ≡ number → count_in bytes ≡ count
-    → take 10 bytes ≡ header number count
+    → take 10 bytes ≡ bucket_header number count
 head_read number count bytes long are magic number_is count_is =
     let e4 : drop 4 bytes ≡ big_bytes 4 number ++ drop 8 bytes =
     drop-number 4 4 bytes (omega arith) are ∙ ap (λ (n : ℕ). big_bytes 4 n ++ drop 8 bytes) number_is in
     let e8 : drop 8 bytes ≡ big_bytes 2 count ++ drop 10 bytes =
     drop-number 8 2 bytes (omega arith) are ∙ ap (λ (n : ℕ). big_bytes 2 n ++ drop 10 bytes) count_is in
-    let whole : bytes ≡ header number count ++ drop 10 bytes =
+    let whole : bytes ≡ bucket_header number count ++ drop 10 bytes =
     sym (take-append-drop 4 bytes) ∙ ap (λ (l : List ℕ). l ++ drop 4 bytes) magic
     ∙ ap (λ (l : List ℕ). codes "VBKT" ++ l) (e4 ∙ ap (λ (l : List ℕ). big_bytes 4 number ++ l) e8) in
     ap (λ (l : List ℕ). take 10 l) whole
 
 -- the first entries of more
-each_front : (n : ℕ) (xs : List Entry) → AllByRecursion IsEntry xs → AllByRecursion IsEntry (take n xs)
+each_front : (n : ℕ) (xs : List Entry) → AllByRecursion IsIndexEntry xs → AllByRecursion IsIndexEntry (take n xs)
 each_front zero xs each = tt
 each_front (suc n) [] each = tt
 each_front (suc n) (x ∷ xs) each = (each.0, each_front n xs each.1)
@@ -64,7 +64,7 @@ ascending_front n xs up i j d low high =
     below_by (get_or (take n xs) i d) (get_or (take n xs) j d) (get_or xs i d) (get_or xs j d)
     (get_or-take n xs i d (omega arith)) (get_or-take n xs j d j_n) (up i j d low j_in)
 
-pub has_front : (n : ℕ) (xs : List Entry) (bytes : List ℕ) → BeginsWith xs (drop 10 bytes) → n ≤ length xs → HasEntries n bytes
+pub has_front : (n : ℕ) (xs : List Entry) (bytes : List ℕ) → BeginsWithEntries xs (drop 10 bytes) → n ≤ length xs → HasFirstEntries n bytes
 has_front n xs bytes begins within =
     let rest : List ℕ = begins.spelling.0 in (
       take n xs,
@@ -83,14 +83,14 @@ has_front n xs bytes begins within =
       },
     )
 
-pub one_frame : (m n : ℕ) (xs ys : List Entry) (bytes : List ℕ) → IsFrame m xs bytes → IsFrame n ys bytes → (m ≡ n) × (xs ≡ ys)
+pub one_frame : (m n : ℕ) (xs ys : List Entry) (bytes : List ℕ) → IsBucketFrame m xs bytes → IsBucketFrame n ys bytes → (m ≡ n) × (xs ≡ ys)
 one_frame m n xs ys bytes one other = (
   sym (frame_number m xs bytes one) ∙ frame_number n ys bytes other,
   (one_list xs ys one.body.spelling.0 other.body.spelling.0 (sym (frame_count m xs bytes one) ∙ frame_count n ys bytes other)
       one.body.allowed.each other.body.allowed.each (sym one.body.spelling.1 ∙ other.body.spelling.1)).0,
 )
 
-pub accepted : (bad : BucketBad) (number : ℕ) (xs : List Entry) (bytes : List ℕ) → IsFrame number xs bytes → FaultIs bad number bytes → ⊥
+pub accepted : (bad : BucketBad) (number : ℕ) (xs : List Entry) (bytes : List ℕ) → IsBucketFrame number xs bytes → FaultIs bad number bytes → ⊥
 accepted (Magic found) number xs bytes frame fault = fault.1 (frame_magic number xs bytes frame)
 accepted (Number found) number xs bytes frame fault = fault.2 (fault.1 ∙ frame_number number xs bytes frame)
 accepted (Count found) number xs bytes frame fault = omega (arith, fault.2, fault.3, frame_count number xs bytes frame, frame.body.allowed.most)
@@ -98,7 +98,7 @@ accepted (Order entry count) number xs bytes frame fault =
     fault.6 (has_front (entry + 1) xs bytes frame.body (omega (arith, fault.2, fault.4, frame_count number xs bytes frame)))
 
 -- the entries in order end in one place
-one_end : (m n : ℕ) (bytes : List ℕ) → HasEntries m bytes → (HasEntries (m + 1) bytes → ⊥) → HasEntries n bytes → (HasEntries (n + 1) bytes → ⊥) → m ≡ n
+one_end : (m n : ℕ) (bytes : List ℕ) → HasFirstEntries m bytes → (HasFirstEntries (m + 1) bytes → ⊥) → HasFirstEntries n bytes → (HasFirstEntries (n + 1) bytes → ⊥) → m ≡ n
 one_end m n bytes has ends also too = ⊎_elim
     (λ (same : m ≡ n). same)
     (λ rest. ⊎_elim
@@ -137,29 +137,29 @@ last_split (suc i) [] long = absurd (omega arith)
 last_split (suc i) (x ∷ ys) long =
     let split = last_split i ys (omega arith) in (x ∷ split.0, split.1, ap suc split.2, ap (λ (l : List Entry). x ∷ l) split.3)
 
-each_parts : (xs : List Entry) (y : Entry) → AllByRecursion IsEntry (xs ++ y ∷ []) → AllByRecursion IsEntry xs × IsEntry y
+each_parts : (xs : List Entry) (y : Entry) → AllByRecursion IsIndexEntry (xs ++ y ∷ []) → AllByRecursion IsIndexEntry xs × IsIndexEntry y
 each_parts [] y each = (tt, each.0)
 each_parts (x ∷ xs) y each = let parts = each_parts xs y each.1 in ((each.0, parts.0), parts.1)
 
 -- where one more entry stands behind these, it is spelled there and is above them
-next_entry : (xs : List Entry) (bytes behind : List ℕ) → AllByRecursion IsEntry xs → drop 10 bytes ≡ cells xs ++ behind → HasEntries (length xs + 1) bytes
-    → (y : Entry) × IsEntry y × ((rest : List ℕ) × (behind ≡ cell y ++ rest)) × IsAscending (xs ++ y ∷ [])
+next_entry : (xs : List Entry) (bytes behind : List ℕ) → AllByRecursion IsIndexEntry xs → drop 10 bytes ≡ cells xs ++ behind → HasFirstEntries (length xs + 1) bytes
+    → (y : Entry) × IsIndexEntry y × ((rest : List ℕ) × (behind ≡ cell y ++ rest)) × IsAscending (xs ++ y ∷ [])
 next_entry xs bytes behind each read has =
     let split = last_split (length xs) has.0 has.1 in
     let front : List Entry = split.0 in
     let y : Entry = split.1 in
     let rest : List ℕ = has.2.spelling.0 in
-    let parts = each_parts front y (subst (AllByRecursion IsEntry) split.3 has.2.allowed.each) in
+    let parts = each_parts front y (subst (AllByRecursion IsIndexEntry) split.3 has.2.allowed.each) in
     let spelled : drop 10 bytes ≡ cells front ++ (cell y ++ rest) =
     has.2.spelling.1 ∙ ap (λ (l : List Entry). cells l ++ rest) split.3 ∙ cells_push front y rest in
     let same = one_list xs front behind (cell y ++ rest) (sym split.2) each parts.0 (sym read ∙ spelled) in
     (y, parts.1, (rest, same.1), subst IsAscending (split.3 ∙ ap (λ (l : List Entry). l ++ y ∷ []) (sym same.0)) has.2.allowed.ascending)
 
 -- no entry is next where its type isn't one
-pub no_kind : (xs : List Entry) (bytes behind : List ℕ) (i k : ℕ) → length xs ≡ i → k ≡ 31 → AllByRecursion IsEntry xs → drop 10 bytes ≡ cells xs ++ behind
-    → (IsKind (slice_index (take k behind) 20) → ⊥) → HasEntries (i + 1) bytes → ⊥
+pub no_kind : (xs : List Entry) (bytes behind : List ℕ) (i k : ℕ) → length xs ≡ i → k ≡ 31 → AllByRecursion IsIndexEntry xs → drop 10 bytes ≡ cells xs ++ behind
+    → (IsKind (slice_index (take k behind) 20) → ⊥) → HasFirstEntries (i + 1) bytes → ⊥
 no_kind xs bytes behind i k long whole each read none has =
-    let next = next_entry xs bytes behind each read (subst (λ (n : ℕ). HasEntries (n + 1) bytes) (sym long) has) in
+    let next = next_entry xs bytes behind each read (subst (λ (n : ℕ). HasFirstEntries (n + 1) bytes) (sym long) has) in
     let kind : slice_index (take k behind) 20 ≡ next.0.key.kind =
     get_or-take k behind 20 0 (omega arith) ∙ ap (λ (l : List ℕ). slice_index l 20) next.2.1 ∙ kind-cell next.0 next.2.0 next.1 in
     none (subst IsKind (sym kind) next.1.kind)
@@ -176,21 +176,21 @@ last_below xs y up some =
     (up (length xs - 1) (length xs) y (omega arith) (omega (arith, length-append xs (y ∷ []))))
 
 -- and none is where it isn't above the last
-pub not_above : (xs : List Entry) (bytes behind : List ℕ) (i k : ℕ) (e : Entry) → length xs ≡ i → AllByRecursion IsEntry xs → drop 10 bytes ≡ cells xs ++ behind
-    → IsEntry e → take k behind ≡ cell e → ((0 < length xs → IsBelow (get_or xs (length xs - 1) e) e) → ⊥) → HasEntries (i + 1) bytes → ⊥
+pub not_above : (xs : List Entry) (bytes behind : List ℕ) (i k : ℕ) (e : Entry) → length xs ≡ i → AllByRecursion IsIndexEntry xs → drop 10 bytes ≡ cells xs ++ behind
+    → IsIndexEntry e → take k behind ≡ cell e → ((0 < length xs → IsBelow (get_or xs (length xs - 1) e) e) → ⊥) → HasFirstEntries (i + 1) bytes → ⊥
 not_above xs bytes behind i k e long each read is spelled none has =
-    let next = next_entry xs bytes behind each read (subst (λ (n : ℕ). HasEntries (n + 1) bytes) (sym long) has) in
+    let next = next_entry xs bytes behind each read (subst (λ (n : ℕ). HasFirstEntries (n + 1) bytes) (sym long) has) in
     let same : next.0 ≡ e = (one_entry next.0 e next.2.0 (drop k behind) next.1 is (sym next.2.1 ∙ read_next behind k e spelled)).0 in
     none (last_below xs e (subst (λ (y : Entry). IsAscending (xs ++ y ∷ [])) same next.3))
 
 -- one more entry read into a table
-module _ (table : List Entry) (bytes : List ℕ) (i k : ℕ) (e : Entry) (room : i < length table) (whole : k ≡ 31) (is : IsEntry e)
+module _ (table : List Entry) (bytes : List ℕ) (i k : ℕ) (e : Entry) (room : i < length table) (whole : k ≡ 31) (is : IsIndexEntry e)
     (spelled : take k (drop (10 + 31 * i) bytes) ≡ cell e) where
   grown : take (i + 1) (set table i e) ≡ take i table ++ e ∷ []
   grown = take-set_at table i (i + 1) e refl room
 
-  pub table_each : AllByRecursion IsEntry (take i table) → AllByRecursion IsEntry (take (i + 1) (set table i e))
-  table_each each = subst (AllByRecursion IsEntry) (sym grown) (each_push (take i table) e each is)
+  pub table_each : AllByRecursion IsIndexEntry (take i table) → AllByRecursion IsIndexEntry (take (i + 1) (set table i e))
+  table_each each = subst (AllByRecursion IsIndexEntry) (sym grown) (each_push (take i table) e each is)
 
   pub table_ascending : IsAscending (take i table) → (0 < length (take i table) → IsBelow (get_or (take i table) (length (take i table) - 1) e) e)
       → IsAscending (take (i + 1) (set table i e))

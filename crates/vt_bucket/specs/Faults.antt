@@ -6,7 +6,7 @@ use Rattle.vt_model.specs.declared.TheConstants.{BUCKET_ROOM}
 use Rattle.vt_bucket.specs.declared.TheConstants.{FIELDS_LEN}
 use Rattle.vt_bucket.specs.declared.decoding.BucketBad.{BucketBad}
 use Rattle.vt_bucket.specs.declared.decoding.BucketBad.TheVariants.{Magic, Number, Count, Order}
-use Rattle.vt_bucket.specs.Frame.{BeginsWith}
+use Rattle.vt_bucket.specs.Frame.{BeginsWithEntries}
 
 abbrev pub magic_in : List ℕ → List ℕ
 magic_in bytes = take 4 bytes
@@ -18,9 +18,10 @@ abbrev pub count_in : List ℕ → ℕ
 count_in bytes = big_number 2 (drop 8 bytes)
 
 -- the first n entries stand there, and are in order
-abbrev pub HasEntries : ℕ → List ℕ → Type 0
-HasEntries n bytes =
-    (entries : List Entry) × (length entries ≡ n) × BeginsWith entries (drop FIELDS_LEN bytes)
+abbrev pub HasFirstEntries : ℕ → List ℕ → Type 0
+HasFirstEntries n bytes =
+    (entries : List Entry) × (length entries ≡ n)
+    × BeginsWithEntries entries (drop FIELDS_LEN bytes)
 
 abbrev pub HasMagic : List ℕ → Type 0
 HasMagic bytes = magic_in bytes ≡ codes "VBKT"
@@ -35,4 +36,4 @@ FaultIs (Count found) number bytes =
 FaultIs (Order entry count) number bytes =
     HasMagic bytes × (number_in bytes ≡ number) × (count ≡ count_in bytes)
     × (count ≤ BUCKET_ROOM) × (entry < count)
-    × HasEntries entry bytes × ¬ HasEntries (entry + 1) bytes
+    × HasFirstEntries entry bytes × ¬ HasFirstEntries (entry + 1) bytes

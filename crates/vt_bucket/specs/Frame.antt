@@ -21,7 +21,7 @@ cell e =
     ++ (big_bytes 4 e.place.arena ++ big_bytes 4 e.place.offset)))
 
 -- the entry has a block type, and its fields have their widths
-pub record IsEntry (e : Entry) : Type 0 where
+pub record IsIndexEntry (e : Entry) : Type 0 where
   pub kind : IsKind e.key.kind
   pub score_len : length e.key.score.0 ≡ 20
   pub size : e.size < 2 ^ 16
@@ -29,8 +29,8 @@ pub record IsEntry (e : Entry) : Type 0 where
   pub offset : e.place.offset < 2 ^ 32
 
 -- what a bucket may hold
-pub record AreEntries (entries : List Entry) : Type 0 where
-  pub each : AllByRecursion IsEntry entries
+pub record AreBucketEntries (entries : List Entry) : Type 0 where
+  pub each : AllByRecursion IsIndexEntry entries
   pub ascending : IsAscending entries
   pub most : length entries ≤ BUCKET_ROOM
 
@@ -38,21 +38,21 @@ abbrev pub cells : List Entry → List ℕ
 cells entries = flat_map cell entries
 
 -- the bytes begin with these entries, one behind another
-pub record BeginsWith (entries : List Entry) (bytes : List ℕ) : Type 0 where
-  pub allowed : AreEntries entries
+pub record BeginsWithEntries (entries : List Entry) (bytes : List ℕ) : Type 0 where
+  pub allowed : AreBucketEntries entries
   pub spelling : (rest : List ℕ) × (bytes ≡ cells entries ++ rest)
 
-abbrev pub header : (number count : ℕ) → List ℕ
-header number count = codes "VBKT" ++ (big_bytes 4 number ++ big_bytes 2 count)
+abbrev pub bucket_header : (number count : ℕ) → List ℕ
+bucket_header number count = codes "VBKT" ++ (big_bytes 4 number ++ big_bytes 2 count)
 
 -- the bytes are a frame of the bucket of this number, which holds these entries
-pub record IsFrame (number : ℕ) (entries : List Entry) (bytes : List ℕ) : Type 0 where
+pub record IsBucketFrame (number : ℕ) (entries : List Entry) (bytes : List ℕ) : Type 0 where
   pub number_fits : number < 2 ^ 32
-  pub head : take FIELDS_LEN bytes ≡ header number (length entries)
-  pub body : BeginsWith entries (drop FIELDS_LEN bytes)
+  pub head : take FIELDS_LEN bytes ≡ bucket_header number (length entries)
+  pub body : BeginsWithEntries entries (drop FIELDS_LEN bytes)
 
 -- the frame that is written
-abbrev pub frame_of : (number : ℕ) → (entries : List Entry) → List ℕ
-frame_of number entries =
-    header number (length entries) ++ (cells entries
+abbrev pub bucket_frame : (number : ℕ) → (entries : List Entry) → List ℕ
+bucket_frame number entries =
+    bucket_header number (length entries) ++ (cells entries
     ++ replicate (FRAME_LEN - FIELDS_LEN - CELL_LEN * length entries) 0)

@@ -2,18 +2,18 @@
 use Rattle.std.specs.Prelude.{◌≡◌, ℕ, List}
 use Rattle.vt_base.specs.declared.place.Entry.{Entry}
 use Rattle.vt_bucket.specs.declared.decoding.BucketBad.{BucketBad}
-use Rattle.vt_bucket.specs.Frame.{IsFrame}
+use Rattle.vt_bucket.specs.Frame.{IsBucketFrame}
 use Rattle.vt_bucket.specs.Faults.{FaultIs}
 
 -- no bytes are the frame of two buckets
 abbrev pub IsUnambiguous : Type 0
 IsUnambiguous = (m n : ℕ) (xs ys : List Entry) (bytes : List ℕ)
-    → IsFrame m xs bytes → IsFrame n ys bytes → (m ≡ n) × (xs ≡ ys)
+    → IsBucketFrame m xs bytes → IsBucketFrame n ys bytes → (m ≡ n) × (xs ≡ ys)
 
 -- a frame of a bucket has no fault
 abbrev pub AcceptsFrames : Type 0
 AcceptsFrames = (bad : BucketBad) (number : ℕ) (entries : List Entry) (bytes : List ℕ)
-    → IsFrame number entries bytes → FaultIs bad number bytes → ⊥
+    → IsBucketFrame number entries bytes → FaultIs bad number bytes → ⊥
 
 -- and no bytes have two faults
 abbrev pub HasOneFault : Type 0

@@ -3,15 +3,15 @@
 ghost use Rattle.std.specs.Prelude.{◌≡◌, ◌↔◌, ℕ, List, ◌+◌, ◌-◌, ◌<◌, ◌≤◌, ◌++◌, length, take, drop, slice_index, slice_index_or, IsTrue, IsOkAnd, IfOk, IfErr, IfSome, IfNone, OnOk};
 ghost use Rattle.vt_base.specs.Kind.{IsKind};
 ghost use Rattle.vt_base.specs.declared.place.Entry.{Entry};
-ghost use Rattle.vt_bucket.specs.Buckets.{number_of, entries_of};
-ghost use Rattle.vt_bucket.specs.Faults.{FaultIs, HasEntries, HasMagic, number_in, count_in};
-ghost use Rattle.vt_bucket.specs.Frame.{cell, IsEntry, IsFrame, BeginsWith};
+ghost use Rattle.vt_bucket.specs.Buckets.{number_of_bucket, bucket_entries};
+ghost use Rattle.vt_bucket.specs.Faults.{FaultIs, HasFirstEntries, HasMagic, number_in, count_in};
+ghost use Rattle.vt_bucket.specs.Frame.{cell, IsIndexEntry, IsBucketFrame, BeginsWithEntries};
 ghost use Rattle.vt_bucket.specs.Order.{IsBelow};
 
 use crate::holding::blank_table;
 use crate::{Bucket, CELL_LEN, FIELDS_LEN, FRAME_LEN};
+use vt_base::fields::{u16_at, u32_at};
 use vt_base::{Entry, Key, Kind, Place, Score};
-use vt_fields::{u16_at, u32_at};
 use vt_model::BUCKET_ROOM;
 
 /// Why bytes aren't a bucket's frame: the first of these tests that fails, and what was found.
@@ -32,10 +32,10 @@ pub enum BucketBad {
 /// entry is used.
 pub fn decode(frame: &[u8], number: u32) -> Result<Bucket, BucketBad>
     requires { length frame.now ≡ FRAME_LEN }
-    ensures number { IfOk result (λ bucket. number_of bucket ≡ number) }
-    ensures found { IfOk result (λ bucket. IsFrame number (entries_of bucket) frame.now) }
-    ensures all_are_read { (entries : List Entry) → IsFrame number entries frame.now
-        → IsOkAnd result (λ bucket. entries_of bucket ≡ entries) }
+    ensures number { IfOk result (λ bucket. number_of_bucket bucket ≡ number) }
+    ensures found { IfOk result (λ bucket. IsBucketFrame number (bucket_entries bucket) frame.now) }
+    ensures all_are_read { (entries : List Entry) → IsBucketFrame number entries frame.now
+        → IsOkAnd result (λ bucket. bucket_entries bucket ≡ entries) }
     ensures refused { IfErr result (λ bad. FaultIs bad number frame.now) }
 {
     let count = decode_head(frame, number)?;
@@ -79,9 +79,10 @@ fn decode_entries(frame: &[u8], count: u16, table: &mut [Entry]) -> Result<(), u
     requires whole { length frame.now ≡ FRAME_LEN }
     requires most { count ≤ BUCKET_ROOM }
     requires room { length table.old ≡ BUCKET_ROOM }
-    ensures read { OnOk result (BeginsWith (take count table.new) (drop FIELDS_LEN frame.now)) }
-    ensures bad { IfErr result (λ entry. (entry < count) × HasEntries entry frame.now
-        × ¬ HasEntries (entry + 1) frame.now) }
+    ensures read { OnOk result
+        (BeginsWithEntries (take count table.new) (drop FIELDS_LEN frame.now)) }
+    ensures bad { IfErr result (λ entry. (entry < count) × HasFirstEntries entry frame.now
+        × ¬ HasFirstEntries (entry + 1) frame.now) }
 {
     for i in 0..count {
         let start = FIELDS_LEN + CELL_LEN * i as usize;
@@ -99,7 +100,7 @@ fn decode_entries(frame: &[u8], count: u16, table: &mut [Entry]) -> Result<(), u
 /// The entry of these bytes, if it has a block type.
 fn decode_entry(bytes: &[u8]) -> Option<Entry>
     requires { length bytes.now ≡ CELL_LEN }
-    ensures found { IfSome result (λ entry. IsEntry entry × (bytes.now ≡ cell entry)) }
+    ensures found { IfSome result (λ entry. IsIndexEntry entry × (bytes.now ≡ cell entry)) }
     ensures none { IfNone result (¬ IsKind (slice_index bytes.now 20)) }
 {
     let kind = Kind::from_wire(bytes[20])?;

@@ -4,7 +4,7 @@ ghost use Rattle.std.specs.Prelude.{◌≡◌, ◌≢◌, ◌↔◌, ℕ, ◌+�
 ghost use Rattle.std.specs.List.{All, Contains};
 ghost use Rattle.std.specs.declared.cmp.Ordering.{Ordering};
 ghost use Rattle.vt_base.specs.declared.place.Entry.{Entry};
-ghost use Rattle.vt_bucket.specs.Buckets.{number_of, entries_of, Puts};
+ghost use Rattle.vt_bucket.specs.Buckets.{number_of_bucket, bucket_entries, PutsEntry};
 ghost use Rattle.vt_bucket.specs.Order.{IsAscending};
 ghost use Rattle.vt_base.specs.Key.{key_cmp};
 
@@ -20,8 +20,8 @@ pub struct Full;
 impl Bucket {
     /// A bucket without entries.
     pub fn new(number: u32) -> Self
-        ensures number { number_of result ≡ number }
-        ensures entries { entries_of result ≡ [] }
+        ensures number { number_of_bucket result ≡ number }
+        ensures entries { bucket_entries result ≡ [] }
     {
         Bucket {
             number,
@@ -32,14 +32,14 @@ impl Bucket {
 
     /// The bucket's number over all sections.
     pub fn number(&self) -> u32
-        ensures { result ≡ number_of self.now }
+        ensures { result ≡ number_of_bucket self.now }
     {
         self.number
     }
 
     /// The entries in the order of their keys.
     pub fn entries(&self) -> &[Entry]
-        ensures entries { result.now ≡ entries_of self.now }
+        ensures entries { result.now ≡ bucket_entries self.now }
         ensures ascending { IsAscending result.now }
         ensures most { length result.now ≤ BUCKET_ROOM }
     {
@@ -48,9 +48,9 @@ impl Bucket {
 
     /// The entry of this key.
     pub fn find(&self, key: &Key) -> Option<Entry>
-        ensures found { IfSome result (λ entry. Contains (entries_of self.now) entry
+        ensures found { IfSome result (λ entry. Contains (bucket_entries self.now) entry
             × (entry.key ≡ key.now)) }
-        ensures none { IfNone result (All (λ entry. entry.key ≢ key.now) (entries_of self.now)) }
+        ensures none { IfNone result (All (λ entry. entry.key ≢ key.now) (bucket_entries self.now)) }
     {
         let entries = self.entries();
         match place(entries, key) {
@@ -61,11 +61,12 @@ impl Bucket {
 
     /// Puts an entry in, in place of one of its key.
     pub fn with(&mut self, entry: Entry) -> Result<(), Full>
-        ensures put { OnOk result (Puts (entries_of self.old) entry (entries_of self.new)) }
-        ensures full { IsErr result ↔ ((length (entries_of self.old) ≡ BUCKET_ROOM)
-            × All (λ other. other.key ≢ entry.key) (entries_of self.old)) }
-        ensures unchanged { OnErr result (entries_of self.new ≡ entries_of self.old) }
-        ensures number { number_of self.new ≡ number_of self.old }
+        ensures put { OnOk result
+            (PutsEntry (bucket_entries self.old) entry (bucket_entries self.new)) }
+        ensures full { IsErr result ↔ ((length (bucket_entries self.old) ≡ BUCKET_ROOM)
+            × All (λ other. other.key ≢ entry.key) (bucket_entries self.old)) }
+        ensures unchanged { OnErr result (bucket_entries self.new ≡ bucket_entries self.old) }
+        ensures number { number_of_bucket self.new ≡ number_of_bucket self.old }
     {
         match place(self.entries(), &entry.key) {
             Ok(at) => self.table[at] = entry,

@@ -6,25 +6,25 @@ use Rattle.std.proofs.lemmas.List.{length-map}
 use Rattle.std.proofs.lemmas.Option.{slice_get-get_or, slice_get_within}
 use Rattle.vt_disk.specs.Members.{DiskOf}
 use Rattle.vt_log.proofs.Lists.{map_there}
-use Rattle.vt_log.specs.Answers.{OnlyReads}
+use Rattle.vt_log.specs.Answers.{OnlyReadsLog}
 use Rattle.vt_log.specs.Log.{LogState}
-use Rattle.vt_log.specs.Sound.{IsAt}
+use Rattle.vt_log.specs.Sound.{IsArenaAt}
 use Rattle.vt_model.specs.declared.TheConstants.{ARENA_HEAD_LEN}
 use Rattle.vt_part.specs.declared.layout.ArenaRegion.{ArenaRegion}
 use Rattle.vt_check.specs.declared.checking.Damage.{Damage}
 use Rattle.vt_check.specs.declared.clumps.Cut.{Cut}
 use Rattle.vt_check.specs.declared.clumps.Followed.{Followed}
 use Rattle.vt_check.specs.Checking.{area_of, bad_chain, bad_clump, bad_entry, bad_sum, clumps_at, clumps_in, entries_at, first_damage}
-use Rattle.vt_check.specs.Following.{HasFollowed, bytes_in, bytes_of}
-use Rattle.vt_check.specs.Reading.{IsNext}
+use Rattle.vt_check.specs.Following.{HasFollowed, cut_bytes, bytes_of_cuts}
+use Rattle.vt_check.specs.Reading.{AreNextCuts}
 use Rattle.vt_arena.specs.declared.head.ArenaHead.{ArenaHead}
 use Rattle.vt_check.proofs.Lists.{hold_none, hold_then}
 
-pub reads_none : {D : Type 0} (score : List ℕ → List ℕ) (disk : DiskOf D) (l : LogState D) → OnlyReads score disk 0 l l
+pub reads_none : {D : Type 0} (score : List ℕ → List ℕ) (disk : DiskOf D) (l : LogState D) → OnlyReadsLog score disk 0 l l
 reads_none score disk l = record { same = refl; sound = λ h sound. sound; disks = hold_none disk l.disks; calls = λ tells. omega arith }
 
-pub reads_then : {D : Type 0} (score : List ℕ → List ℕ) (disk : DiskOf D) (m n all : ℕ) (a b c : LogState D) → m + n ≤ all → OnlyReads score disk m a b → OnlyReads score disk n b c
-    → OnlyReads score disk all a c
+pub reads_then : {D : Type 0} (score : List ℕ → List ℕ) (disk : DiskOf D) (m n all : ℕ) (a b c : LogState D) → m + n ≤ all → OnlyReadsLog score disk m a b → OnlyReadsLog score disk n b c
+    → OnlyReadsLog score disk all a c
 reads_then {D} score disk m n all a b c fits one two = record {
   same = two.same ∙ ap (λ (l : LogState D). record l { disks = c.disks }) one.same;
   sound = λ h sound. two.sound h (one.sound h sound);
@@ -33,8 +33,8 @@ reads_then {D} score disk m n all a b c fits one two = record {
 }
 
 -- an arena stands on the same bytes where disks hold the same
-pub stands_same : {D : Type 0} (score : List ℕ → List ℕ) (disk : DiskOf D) (most : ℕ) (a b : LogState D) → OnlyReads score disk most a b
-    → (i : ℕ) (r : ArenaRegion) (d : D) → IsAt a i r d → (e : D) × IsAt b i r e × (disk.bytes e ≡ disk.bytes d)
+pub stands_same : {D : Type 0} (score : List ℕ → List ℕ) (disk : DiskOf D) (most : ℕ) (a b : LogState D) → OnlyReadsLog score disk most a b
+    → (i : ℕ) (r : ArenaRegion) (d : D) → IsArenaAt a i r d → (e : D) × IsArenaAt b i r e × (disk.bytes e ≡ disk.bytes d)
 stands_same {D} score disk most a b reads i r d at =
     let long : length b.disks ≡ length a.disks = sym (length-map b.disks disk.bytes) ∙ ap (λ (l : List (List ℕ)). length l) reads.disks.bytes_are ∙ length-map a.disks disk.bytes in
     let below : r.part < length b.disks = omega (arith, long, slice_get_within a.disks r.part d at.disk_is) in
@@ -44,16 +44,16 @@ stands_same {D} score disk most a b reads i r d at =
 
 -- the arena's clumps were followed so far
 pub record IsChecking {D : Type 0} (score : List ℕ → List ℕ) (disk : DiskOf D) (old now : LogState D) (arena : ℕ) (head : ArenaHead) (f : Followed) : Type 0 where
-  pub reads : OnlyReads score disk (2 * f.clumps) old now
+  pub reads : OnlyReadsLog score disk (2 * f.clumps) old now
   pub faults : map disk.faults now.disks ≡ map disk.faults old.disks
   pub few : f.clumps ≤ head.clumps
   pub room : (r : ArenaRegion) → slice_get old.layout arena ≡ Some r → ARENA_HEAD_LEN + f.used ≤ r.region.len
   pub clumps : List (List ℕ)
   pub entries : List (List ℕ)
   pub followed : HasFollowed score clumps entries f
-  pub clumps_are : (r : ArenaRegion) (d : D) → IsTrue disk.tells → IsAt old arena r d
+  pub clumps_are : (r : ArenaRegion) (d : D) → IsTrue disk.tells → IsArenaAt old arena r d
       → clumps_at r.region head.clumps (disk.bytes d) ≡ clumps ++ clumps_in (head.clumps - f.clumps) (drop f.used (area_of r.region (disk.bytes d)))
-  pub entries_are : (r : ArenaRegion) (d : D) → IsTrue disk.tells → IsAt old arena r d
+  pub entries_are : (r : ArenaRegion) (d : D) → IsTrue disk.tells → IsArenaAt old arena r d
       → entries_at r.region 0 head.clumps (disk.bytes d) ≡ entries ++ entries_at r.region f.clumps (head.clumps - f.clumps) (disk.bytes d)
 
 pub begin_check : {D : Type 0} (score : List ℕ → List ℕ) (disk : DiskOf D) (l : LogState D) (arena : ℕ) (head : ArenaHead) (f : Followed) → HasFollowed score [] [] f
@@ -62,7 +62,7 @@ begin_check {D} score disk l arena head f it least =
     let none : f.clumps ≡ 0 = it.count in
     let nothing : f.used ≡ 0 = it.used in
     record {
-      reads = subst (λ (n : ℕ). OnlyReads score disk n l l) (omega (arith, none)) (reads_none score disk l);
+      reads = subst (λ (n : ℕ). OnlyReadsLog score disk n l l) (omega (arith, none)) (reads_none score disk l);
       faults = refl;
       few = omega (arith, none);
       room = λ r at. omega (arith, nothing, least r at);
@@ -77,38 +77,38 @@ begin_check {D} score disk l arena head f it least =
     whole = let none : f.clumps ≡ 0 = it.count in omega (arith, none)
 
 module _ {D : Type 0} (score : List ℕ → List ℕ) (disk : DiskOf D) (old now new : LogState D) (arena : ℕ) (head : ArenaHead) (f : Followed)
-    (it : IsChecking score disk old now arena head f) (window : List ℕ) (cuts : List Cut) (reads : OnlyReads score disk 2 now new)
-    (next : (r : ArenaRegion) (d : D) → IsTrue disk.tells → IsAt now arena r d → IsNext r.region (disk.bytes d) head.clumps f.clumps f.used window cuts) where
-  next_at : (r : ArenaRegion) (d : D) → IsTrue disk.tells → IsAt old arena r d → IsNext r.region (disk.bytes d) head.clumps f.clumps f.used window cuts
+    (it : IsChecking score disk old now arena head f) (window : List ℕ) (cuts : List Cut) (reads : OnlyReadsLog score disk 2 now new)
+    (next : (r : ArenaRegion) (d : D) → IsTrue disk.tells → IsArenaAt now arena r d → AreNextCuts r.region (disk.bytes d) head.clumps f.clumps f.used window cuts) where
+  next_at : (r : ArenaRegion) (d : D) → IsTrue disk.tells → IsArenaAt old arena r d → AreNextCuts r.region (disk.bytes d) head.clumps f.clumps f.used window cuts
   next_at r d tells at =
       let there = stands_same score disk (2 * f.clumps) old now it.reads arena r d at in
-      subst (λ (file : List ℕ). IsNext r.region file head.clumps f.clumps f.used window cuts) there.2 (next r there.0 tells there.1)
+      subst (λ (file : List ℕ). AreNextCuts r.region file head.clumps f.clumps f.used window cuts) there.2 (next r there.0 tells there.1)
 
-  clumps_next : (r : ArenaRegion) (d : D) → IsTrue disk.tells → IsAt old arena r d
-      → clumps_at r.region head.clumps (disk.bytes d) ≡ (it.clumps ++ map (bytes_in window) cuts)
-      ++ clumps_in (head.clumps - f.clumps - length cuts) (drop (f.used + bytes_of cuts) (area_of r.region (disk.bytes d)))
+  clumps_next : (r : ArenaRegion) (d : D) → IsTrue disk.tells → IsArenaAt old arena r d
+      → clumps_at r.region head.clumps (disk.bytes d) ≡ (it.clumps ++ map (cut_bytes window) cuts)
+      ++ clumps_in (head.clumps - f.clumps - length cuts) (drop (f.used + bytes_of_cuts cuts) (area_of r.region (disk.bytes d)))
   clumps_next r d tells at =
       it.clumps_are r d tells at
       ∙ ap (λ (l : List (List ℕ)). it.clumps ++ l) (next_at r d tells at).next
-      ∙ sym (append_assoc it.clumps (map (bytes_in window) cuts) (clumps_in (head.clumps - f.clumps - length cuts) (drop (f.used + bytes_of cuts) (area_of r.region (disk.bytes d)))))
+      ∙ sym (append_assoc it.clumps (map (cut_bytes window) cuts) (clumps_in (head.clumps - f.clumps - length cuts) (drop (f.used + bytes_of_cuts cuts) (area_of r.region (disk.bytes d)))))
 
   -- they are sound
-  pub check_more : (g : Followed) → HasFollowed score (it.clumps ++ map (bytes_in window) cuts) (it.entries ++ map (λ cut. cut.entry) cuts) g
-      → g.clumps ≡ f.clumps + length cuts → g.used ≡ f.used + bytes_of cuts → 0 < length cuts → f.clumps + length cuts ≤ head.clumps
-      → ((r : ArenaRegion) → slice_get old.layout arena ≡ Some r → ARENA_HEAD_LEN + f.used + bytes_of cuts ≤ r.region.len)
+  pub check_more : (g : Followed) → HasFollowed score (it.clumps ++ map (cut_bytes window) cuts) (it.entries ++ map (λ cut. cut.entry) cuts) g
+      → g.clumps ≡ f.clumps + length cuts → g.used ≡ f.used + bytes_of_cuts cuts → 0 < length cuts → f.clumps + length cuts ≤ head.clumps
+      → ((r : ArenaRegion) → slice_get old.layout arena ≡ Some r → ARENA_HEAD_LEN + f.used + bytes_of_cuts cuts ≤ r.region.len)
       → map disk.faults new.disks ≡ map disk.faults now.disks → IsChecking score disk old new arena head g
   check_more g followed count used some few room faults = record {
     reads = reads_then score disk (2 * f.clumps) 2 (2 * g.clumps) old now new (omega (arith, count, some)) it.reads reads;
     faults = faults ∙ it.faults;
     few = omega (arith, count, few);
     room = λ r at. omega (arith, used, room r at);
-    clumps = it.clumps ++ map (bytes_in window) cuts;
+    clumps = it.clumps ++ map (cut_bytes window) cuts;
     entries = it.entries ++ map (λ cut. cut.entry) cuts;
     followed = followed;
     clumps_are = λ r d tells at.
         let left : head.clumps - f.clumps - length cuts ≡ head.clumps - g.clumps = omega (arith, count) in
         clumps_next r d tells at
-        ∙ (λ i. (it.clumps ++ map (bytes_in window) cuts) ++ clumps_in (left i) (drop (sym used i) (area_of r.region (disk.bytes d))));
+        ∙ (λ i. (it.clumps ++ map (cut_bytes window) cuts) ++ clumps_in (left i) (drop (sym used i) (area_of r.region (disk.bytes d))));
     entries_are = λ r d tells at.
         let left : head.clumps - f.clumps - length cuts ≡ head.clumps - g.clumps = omega (arith, count) in
         it.entries_are r d tells at
@@ -119,10 +119,10 @@ module _ {D : Type 0} (score : List ℕ → List ℕ) (disk : DiskOf D) (old now
 
   -- one of them isn't
   pub check_stops : (damage : Damage)
-      → ((behind : List (List ℕ)) → bad_clump score (it.clumps ++ map (bytes_in window) cuts ++ behind) ≡ Some damage)
-      → (r : ArenaRegion) (d : D) → IsTrue disk.tells → IsAt old arena r d → first_damage score r.region head (disk.bytes d) ≡ Some damage
+      → ((behind : List (List ℕ)) → bad_clump score (it.clumps ++ map (cut_bytes window) cuts ++ behind) ≡ Some damage)
+      → (r : ArenaRegion) (d : D) → IsTrue disk.tells → IsArenaAt old arena r d → first_damage score r.region head (disk.bytes d) ≡ Some damage
   check_stops damage bad r d tells at =
-      let rest : List (List ℕ) = clumps_in (head.clumps - f.clumps - length cuts) (drop (f.used + bytes_of cuts) (area_of r.region (disk.bytes d))) in
+      let rest : List (List ℕ) = clumps_in (head.clumps - f.clumps - length cuts) (drop (f.used + bytes_of_cuts cuts) (area_of r.region (disk.bytes d))) in
       let clumps : List (List ℕ) = clumps_at r.region head.clumps (disk.bytes d) in
       let entries : List (List ℕ) = entries_at r.region 0 head.clumps (disk.bytes d) in
       let found : bad_clump score clumps ≡ Some damage =
@@ -131,7 +131,7 @@ module _ {D : Type 0} (score : List ℕ → List ℕ) (disk : DiskOf D) (old now
 
 -- all were followed
 pub check_ends : {D : Type 0} (score : List ℕ → List ℕ) (disk : DiskOf D) (old now : LogState D) (arena : ℕ) (head : ArenaHead) (f : Followed)
-    (it : IsChecking score disk old now arena head f) → head.clumps ≤ f.clumps → (r : ArenaRegion) (d : D) → IsTrue disk.tells → IsAt old arena r d
+    (it : IsChecking score disk old now arena head f) → head.clumps ≤ f.clumps → (r : ArenaRegion) (d : D) → IsTrue disk.tells → IsArenaAt old arena r d
     → (clumps_at r.region head.clumps (disk.bytes d) ≡ it.clumps) × (entries_at r.region 0 head.clumps (disk.bytes d) ≡ it.entries)
 check_ends {D} score disk old now arena head f it past r d tells at =
     let none : head.clumps - f.clumps ≡ 0 = omega (arith, past) in (

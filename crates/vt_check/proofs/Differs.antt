@@ -5,22 +5,22 @@ use Rattle.std.specs.Option.{option_map, option_or}
 use Rattle.std.specs.Str.{bytes_eq}
 use Rattle.std.proofs.lemmas.Bool.{eqb-false, ltb-true}
 use Rattle.std.proofs.lemmas.Slice.Eq.{bytes_eq-Decides}
-use Rattle.vt_arena.specs.Directory.{kind_in, score_in, size_in as size_in_entry, uncsize_in as uncsize_in_entry}
-use Rattle.vt_arena.specs.Reading.{damage_of}
+use Rattle.vt_arena.specs.Directory.{kind_in, score_in_entry, size_in_entry, uncsize_in_entry}
+use Rattle.vt_arena.specs.Reading.{damage_of_clump}
 use Rattle.vt_base.specs.declared.score.Score.{Score}
 use Rattle.vt_base.specs.declared.why.FieldValue.{FieldValue}
 use Rattle.vt_base.specs.declared.why.FieldValue.TheVariants.{Number, Score as ScoreValue}
 use Rattle.vt_base.specs.Damage.{Differ}
 use Rattle.vt_base.specs.Kind.{is_kind}
 use Rattle.vt_clump.specs.declared.reading.ClumpBad.{ClumpBad}
-use Rattle.vt_clump.specs.Faults.{bad_encoding, bad_header, bad_size, first_bad, or_else, other_score}
+use Rattle.vt_clump.specs.Faults.{bad_encoding, bad_header, bad_size, first_bad_clump, first_fault, other_score}
 use Rattle.vt_clump.specs.Spelling.{Stored, size_in, stored_in, uncsize_in}
 use Rattle.vt_check.specs.declared.checking.Damage.{Damage}
-use Rattle.vt_check.specs.Checking.{DamageDiffers, bad_chain, bad_clump, bad_entry, bad_sum, chain_of, clump_damage, damage_by, entry_damage, numbers, scores}
+use Rattle.vt_check.specs.Checking.{DamageDiffers, bad_chain, bad_clump, bad_entry, bad_sum, chain_of_entries, clump_damage, damage_by, entry_damage, damage_of_numbers, scores}
 
 -- this fault of a clump, if there is one, has two values
 abbrev HasTwo : Option ClumpBad → Type 0
-HasTwo (Some bad) = Differ (damage_of bad).0 (damage_of bad).1
+HasTwo (Some bad) = Differ (damage_of_clump bad).0 (damage_of_clump bad).1
 HasTwo None = Unit
 
 two_numbers : (m n : ℕ) → m ≢ n → Differ (Number m) (Number n)
@@ -40,7 +40,7 @@ choose : {A : Type 0} (P : A → Type 0) (b : Bool) (x y : A) → (b ≡ true �
 choose P true x y first other = first refl
 choose P false x y first other = other refl
 
-joined : (x y : Option ClumpBad) → HasTwo x → HasTwo y → HasTwo (or_else x y)
+joined : (x y : Option ClumpBad) → HasTwo x → HasTwo y → HasTwo (first_fault x y)
 joined None y first later = later
 joined (Some bad) y first later = first
 
@@ -91,7 +91,7 @@ score_two : (want found : List ℕ) → HasTwo (other_score want found)
 score_two want found =
     choose HasTwo (bytes_eq found want) _ _ (λ _. tt) (λ other. two_scores want found other)
 
-first_two : (score : List ℕ → List ℕ) (bytes : List ℕ) → HasTwo (first_bad score bytes)
+first_two : (score : List ℕ → List ℕ) (bytes : List ℕ) → HasTwo (first_bad_clump score bytes)
 first_two score bytes =
     joined (bad_header bytes) _ (header_two bytes) (score_two (stored_in bytes).score (score (stored_in bytes).block))
 
@@ -111,7 +111,7 @@ either_differs (Some damage) b first later = first
 pub bad_clump_differs : (score : List ℕ → List ℕ) (clumps : List (List ℕ)) → Differs (bad_clump score clumps)
 bad_clump_differs score [] = tt
 bad_clump_differs score (clump ∷ clumps) =
-    either_differs (clump_damage score clump) (bad_clump score clumps) (mapped (first_bad score clump) (first_two score clump)) (bad_clump_differs score clumps)
+    either_differs (clump_damage score clump) (bad_clump score clumps) (mapped (first_bad_clump score clump) (first_two score clump)) (bad_clump_differs score clumps)
 
 pub bad_sum_differs : (used : ℕ) (clumps : List (List ℕ)) → Differs (bad_sum used clumps)
 bad_sum_differs used clumps =
@@ -126,7 +126,7 @@ entry_differs s entry =
     (λ other. two_numbers n (size_in_entry entry) (λ same. eqb-false (size_in_entry entry) n (not_true _ other) (sym same)))
     (λ _. choose Differs (not (uncsize_in_entry entry == n)) _ _
     (λ other. two_numbers n (uncsize_in_entry entry) (λ same. eqb-false (uncsize_in_entry entry) n (not_true _ other) (sym same)))
-    (λ _. choose Differs (not (bytes_eq (score_in entry) s.score)) _ _ (λ other. two_scores s.score (score_in entry) (not_true _ other)) (λ _. tt))))
+    (λ _. choose Differs (not (bytes_eq (score_in_entry entry) s.score)) _ _ (λ other. two_scores s.score (score_in_entry entry) (not_true _ other)) (λ _. tt))))
 
 pub bad_entry_differs : (clumps entries : List (List ℕ)) → Differs (bad_entry clumps entries)
 bad_entry_differs [] entries = tt
@@ -135,7 +135,7 @@ bad_entry_differs (clump ∷ clumps) (entry ∷ entries) =
     either_differs (entry_damage (stored_in clump) entry) (bad_entry clumps entries) (entry_differs (stored_in clump) entry) (bad_entry_differs clumps entries)
 
 pub bad_chain_differs : (score : List ℕ → List ℕ) (entries : List (List ℕ)) (found : List ℕ) → Differs (bad_chain score entries found)
-bad_chain_differs score entries found = choose Differs (bytes_eq found (chain_of score entries)) _ _ (λ _. tt) (λ other. two_scores (chain_of score entries) found other)
+bad_chain_differs score entries found = choose Differs (bytes_eq found (chain_of_entries score entries)) _ _ (λ _. tt) (λ other. two_scores (chain_of_entries score entries) found other)
 
 -- this one
 pub differs_at : (o : Option Damage) (damage : Damage) → Differs o → o ≡ Some damage → DamageDiffers damage

@@ -13,7 +13,7 @@ use Rattle.vt_arena.proofs.Layouts.{part-part}
 use Rattle.vt_base.specs.Bytes.{AreBytes}
 use Rattle.vt_clump.specs.declared.reading.ClumpBad.{ClumpBad}
 use Rattle.vt_clump.specs.declared.reading.ClumpBad.TheVariants.{Short, Magic, Kind, Encoding, Size, Score, NoMemory as ClumpNoMemory}
-use Rattle.vt_clump.specs.Faults.{IsRefusal, first_bad}
+use Rattle.vt_clump.specs.Faults.{IsClumpRefusal, first_bad_clump}
 use Rattle.vt_clump.specs.Spelling.{clump_len, size_in, stored_in}
 use Rattle.vt_disk.specs.Disk.{part}
 use Rattle.vt_disk.specs.declared.region.Region.{Region}
@@ -22,8 +22,8 @@ use Rattle.vt_check.specs.declared.clumps.Cut.{Cut}
 use Rattle.vt_check.specs.declared.clumps.Followed.{Followed}
 use Rattle.vt_check.specs.declared.clumps.Tested.{Tested}
 use Rattle.vt_check.specs.declared.clumps.Tested.TheVariants.{BadClump, NoMemory}
-use Rattle.vt_check.specs.Checking.{bad_clump, bad_entry, chain_of, clump_damage, clump_in, clumps_in, damage_by, entries_at, entry_damage}
-use Rattle.vt_check.specs.Following.{CutsFirst, HasFollowed, IsEntryRead, IsFrontOf, IsSoundClump, IsWithin, TestsAs, bytes_in, bytes_of, entries_in}
+use Rattle.vt_check.specs.Checking.{bad_clump, bad_entry, chain_of_entries, clump_damage, clump_in, clumps_in, damage_by, entries_at, entry_damage}
+use Rattle.vt_check.specs.Following.{CutsFirst, HasFollowed, IsEntryRead, IsFrontOf, IsSoundClump, IsWithinWindow, TestsAs, cut_bytes, bytes_of_cuts, entries_in}
 use Rattle.vt_check.proofs.Judging.{all_cons, size-take}
 
 -- ---- one more
@@ -125,9 +125,9 @@ behind_clump bytes = drop_len (clump_len (size_in bytes)) bytes
 -- ---- cutting in turn
 
 pub record IsCutting (bytes : List ℕ) (more : Bool) (entries : List ℕ) (count start left : ℕ) (cuts : List Cut) : Type 0 where
-  pub within : All (IsWithin bytes) cuts
+  pub within : All (IsWithinWindow bytes) cuts
   pub count_is : left + length cuts ≡ count
-  pub start_is : start ≡ bytes_of cuts
+  pub start_is : start ≡ bytes_of_cuts cuts
   pub start_most : start ≤ length bytes
   pub entries_are : map (λ cut. cut.entry) cuts ++ entries_in left entries ≡ entries_in count entries
   pub first : (all : List ℕ) → IsFrontOf more bytes all → CutsFirst bytes all cuts
@@ -149,12 +149,12 @@ module _ (bytes : List ℕ) (more : Bool) (entries : List ℕ) (count start left
   short : n ≤ length bytes - start
   short = omega (arith, len, length-take (clump_len (size_in (drop start bytes))) (drop start bytes), length-drop start bytes)
 
-  bytes_of_cut : bytes_in bytes cut ≡ clump_in (drop start bytes)
+  bytes_of_cut : cut_bytes bytes cut ≡ clump_in (drop start bytes)
   bytes_of_cut =
       let n_is : cut.end - cut.start ≡ n = omega (arith, start_here, end_here) in
       (λ i. take (n_is i) (drop (start_here i) bytes)) ∙ clump
 
-  sum_is : bytes_of (cuts ++ cut ∷ []) ≡ start + n
+  sum_is : bytes_of_cuts (cuts ++ cut ∷ []) ≡ start + n
   sum_is = omega (arith, sum_by-append (λ (c : Cut). c.end - c.start) cuts (cut ∷ []), it.start_is, start_here, end_here)
 
   module _ (all : List ℕ) (front : IsFrontOf more bytes all) where
@@ -164,7 +164,7 @@ module _ (bytes : List ℕ) (more : Bool) (entries : List ℕ) (count start left
     same_clump : clump_in (drop start all) ≡ clump_in (drop start bytes)
     same_clump = first_clump all bytes start more front it.start_most room small
 
-    behind_is : drop (clump_len (size_in (drop start all))) (drop start all) ≡ drop (bytes_of (cuts ++ cut ∷ [])) all
+    behind_is : drop (clump_len (size_in (drop start all))) (drop start all) ≡ drop (bytes_of_cuts (cuts ++ cut ∷ [])) all
     behind_is =
         behind_clump (drop start all)
         ∙ ap (λ (k : ℕ). drop k (drop start all)) (ap (λ (l : List ℕ). length l) same_clump ∙ sym len)
@@ -175,15 +175,15 @@ module _ (bytes : List ℕ) (more : Bool) (entries : List ℕ) (count start left
         let many : length (cuts ++ cut ∷ []) ≡ length cuts + 1 = length-append cuts (cut ∷ []) in
         let count_left : m - length cuts ≡ suc (m - length (cuts ++ cut ∷ [])) = omega (arith, few, many) in
         it.first all front m (omega (arith, few, many))
-        ∙ (λ i. map (bytes_in bytes) cuts ++ clumps_in (count_left i) (drop (sym it.start_is i) all))
-        ∙ (λ i. map (bytes_in bytes) cuts ++ (same_clump i ∷ clumps_in (m - length (cuts ++ cut ∷ [])) (behind_is i)))
-        ∙ ap (λ (c : List ℕ). map (bytes_in bytes) cuts ++ (c ∷ clumps_in (m - length (cuts ++ cut ∷ [])) (drop (bytes_of (cuts ++ cut ∷ [])) all))) (sym bytes_of_cut)
-        ∙ sym (append_assoc (map (bytes_in bytes) cuts) (bytes_in bytes cut ∷ []) (clumps_in (m - length (cuts ++ cut ∷ [])) (drop (bytes_of (cuts ++ cut ∷ [])) all)))
-        ∙ ap (λ (l : List (List ℕ)). l ++ clumps_in (m - length (cuts ++ cut ∷ [])) (drop (bytes_of (cuts ++ cut ∷ [])) all)) (sym (map-append (bytes_in bytes) cuts (cut ∷ [])))
+        ∙ (λ i. map (cut_bytes bytes) cuts ++ clumps_in (count_left i) (drop (sym it.start_is i) all))
+        ∙ (λ i. map (cut_bytes bytes) cuts ++ (same_clump i ∷ clumps_in (m - length (cuts ++ cut ∷ [])) (behind_is i)))
+        ∙ ap (λ (c : List ℕ). map (cut_bytes bytes) cuts ++ (c ∷ clumps_in (m - length (cuts ++ cut ∷ [])) (drop (bytes_of_cuts (cuts ++ cut ∷ [])) all))) (sym bytes_of_cut)
+        ∙ sym (append_assoc (map (cut_bytes bytes) cuts) (cut_bytes bytes cut ∷ []) (clumps_in (m - length (cuts ++ cut ∷ [])) (drop (bytes_of_cuts (cuts ++ cut ∷ [])) all)))
+        ∙ ap (λ (l : List (List ℕ)). l ++ clumps_in (m - length (cuts ++ cut ∷ [])) (drop (bytes_of_cuts (cuts ++ cut ∷ [])) all)) (sym (map-append (cut_bytes bytes) cuts (cut ∷ [])))
 
   pub cut_more : IsCutting bytes more entries count (start + n) less (cuts ++ cut ∷ [])
   cut_more = record {
-    within = all_snoc (IsWithin bytes) cuts cut it.within (record {
+    within = all_snoc (IsWithinWindow bytes) cuts cut it.within (record {
       is_cut = record { order = omega (arith, start_here, end_here); entry = read };
       end = omega (arith, end_here, short, it.start_most);
     });
@@ -260,17 +260,17 @@ take_one_more {X} xs i x at =
 -- ---- testing
 
 -- bytes that are no clump
-pub refused_as : (score : List ℕ → List ℕ) (bytes entry : List ℕ) (bad : ClumpBad) (result : Tested) → IsRefusal (first_bad score bytes) bad
+pub refused_as : (score : List ℕ → List ℕ) (bytes entry : List ℕ) (bad : ClumpBad) (result : Tested) → IsClumpRefusal (first_bad_clump score bytes) bad
     → (¬ (bad ≡ ClumpNoMemory) → result ≡ BadClump (damage_by bad)) → (bad ≡ ClumpNoMemory → result ≡ NoMemory) → TestsAs score bytes entry result
 refused_as score bytes entry bad result refusal damaged memory = ⊎_elim
-    (λ (first : first_bad score bytes ≡ Some bad). by_case bad first damaged memory)
+    (λ (first : first_bad_clump score bytes ≡ Some bad). by_case bad first damaged memory)
     (λ none. subst (λ (t : Tested). TestsAs score bytes entry t) (sym (memory none.1)) tt)
     refusal
   where
-    told : (b : ClumpBad) → first_bad score bytes ≡ Some b → result ≡ BadClump (damage_by b) → TestsAs score bytes entry result
+    told : (b : ClumpBad) → first_bad_clump score bytes ≡ Some b → result ≡ BadClump (damage_by b) → TestsAs score bytes entry result
     told b first is = subst (λ (t : Tested). TestsAs score bytes entry t) (sym is) (ap (λ (o : Option ClumpBad). option_map damage_by o) first)
 
-    by_case : (b : ClumpBad) → first_bad score bytes ≡ Some b → (¬ (b ≡ ClumpNoMemory) → result ≡ BadClump (damage_by b)) → (b ≡ ClumpNoMemory → result ≡ NoMemory)
+    by_case : (b : ClumpBad) → first_bad_clump score bytes ≡ Some b → (¬ (b ≡ ClumpNoMemory) → result ≡ BadClump (damage_by b)) → (b ≡ ClumpNoMemory → result ≡ NoMemory)
         → TestsAs score bytes entry result
     by_case ClumpNoMemory first damaged memory = subst (λ (t : Tested). TestsAs score bytes entry t) (sym (memory refl)) tt
     by_case Short first damaged memory = told Short first (damaged (λ is. cc))
@@ -281,7 +281,7 @@ refused_as score bytes entry bad result refusal damaged memory = ⊎_elim
     by_case (Score want it) first damaged memory = told (Score want it) first (damaged (λ is. cc))
 
 -- bytes that are a clump
-pub sound_as : (score : List ℕ → List ℕ) (bytes : List ℕ) → AreBytes bytes → first_bad score bytes ≡ None → IsSoundClump score bytes
+pub sound_as : (score : List ℕ → List ℕ) (bytes : List ℕ) → AreBytes bytes → first_bad_clump score bytes ≡ None → IsSoundClump score bytes
 sound_as score bytes are none = record { bytes = are; none = ap (λ (o : Option ClumpBad). option_map damage_by o) none }
 
 -- ---- following in turn
@@ -289,14 +289,14 @@ sound_as score bytes are none = record { bytes = are; none = ap (λ (o : Option 
 pub step_on : (score : List ℕ → List ℕ) (window : List ℕ) (clumps entries : List (List ℕ)) (f new : Followed) (x cut : Cut) (damage : Option Damage)
     → ((cs es : List (List ℕ)) (clump : List ℕ) → HasFollowed score cs es f → length clump ≡ cut.end - cut.start → IsSoundClump score clump
     → entry_damage (stored_in clump) cut.entry ≡ damage → HasFollowed score (cs ++ clump ∷ []) (es ++ cut.entry ∷ []) new)
-    → cut ≡ x → HasFollowed score clumps entries f → IsWithin window x → IsSoundClump score (bytes_in window x)
-    → entry_damage (stored_in (bytes_in window x)) x.entry ≡ damage → HasFollowed score (clumps ++ bytes_in window x ∷ []) (entries ++ x.entry ∷ []) new
+    → cut ≡ x → HasFollowed score clumps entries f → IsWithinWindow window x → IsSoundClump score (cut_bytes window x)
+    → entry_damage (stored_in (cut_bytes window x)) x.entry ≡ damage → HasFollowed score (clumps ++ cut_bytes window x ∷ []) (entries ++ x.entry ∷ []) new
 step_on score window clumps entries f new x cut damage step is it inside sound entry =
-    let len : length (bytes_in window x) ≡ x.end - x.start =
+    let len : length (cut_bytes window x) ≡ x.end - x.start =
     omega (arith, length-take (x.end - x.start) (drop x.start window), length-drop x.start window, inside.end, inside.is_cut.order) in
-    subst (λ (e : List ℕ). HasFollowed score (clumps ++ bytes_in window x ∷ []) (entries ++ e ∷ []) new) (ap (λ (t : Cut). t.entry) is)
-    (step clumps entries (bytes_in window x) it (len ∙ sym (ap (λ (t : Cut). t.end - t.start) is)) sound
-    (ap (λ (t : Cut). entry_damage (stored_in (bytes_in window x)) t.entry) is ∙ entry))
+    subst (λ (e : List ℕ). HasFollowed score (clumps ++ cut_bytes window x ∷ []) (entries ++ e ∷ []) new) (ap (λ (t : Cut). t.entry) is)
+    (step clumps entries (cut_bytes window x) it (len ∙ sym (ap (λ (t : Cut). t.end - t.start) is)) sound
+    (ap (λ (t : Cut). entry_damage (stored_in (cut_bytes window x)) t.entry) is ∙ entry))
 
 pub used_on : (old new : ℕ) (x cut : Cut) → new ≡ old + (cut.end - cut.start) → cut ≡ x → new ≡ old + (x.end - x.start)
 used_on old new x cut used is = used ∙ ap (λ (t : Cut). old + (t.end - t.start)) is
@@ -307,7 +307,7 @@ grows f front cuts i x at =
     append_assoc front (map f (take i cuts)) (f x ∷ [])
     ∙ ap (λ (l : List (List ℕ)). front ++ l) (sym (map-append f (take i cuts) (x ∷ [])) ∙ ap (λ (l : List Cut). map f l) (sym (take_one_more cuts i x at)))
 
-pub sum_grows : (cuts : List Cut) (i : ℕ) (x : Cut) → slice_get cuts i ≡ Some x → bytes_of (take (i + 1) cuts) ≡ bytes_of (take i cuts) + (x.end - x.start)
+pub sum_grows : (cuts : List Cut) (i : ℕ) (x : Cut) → slice_get cuts i ≡ Some x → bytes_of_cuts (take (i + 1) cuts) ≡ bytes_of_cuts (take i cuts) + (x.end - x.start)
 sum_grows cuts i x at =
-    let more : bytes_of (take (i + 1) cuts) ≡ bytes_of (take i cuts ++ x ∷ []) = ap (λ (l : List Cut). bytes_of l) (take_one_more cuts i x at) in
+    let more : bytes_of_cuts (take (i + 1) cuts) ≡ bytes_of_cuts (take i cuts ++ x ∷ []) = ap (λ (l : List Cut). bytes_of_cuts l) (take_one_more cuts i x at) in
     omega (arith, more, sum_by-append (λ (c : Cut). c.end - c.start) (take i cuts) (x ∷ []))

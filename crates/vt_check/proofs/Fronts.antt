@@ -10,8 +10,8 @@ use Rattle.vt_disk.specs.declared.region.Region.{Region}
 use Rattle.vt_model.specs.declared.TheConstants.{ARENA_HEAD_LEN}
 use Rattle.vt_check.specs.declared.clumps.Cut.{Cut}
 use Rattle.vt_check.specs.Checking.{area_of, clumps_in, entries_at}
-use Rattle.vt_check.specs.Following.{CutsFirst, IsFrontOf, bytes_in, bytes_of, entries_in}
-use Rattle.vt_check.specs.Reading.{IsNext}
+use Rattle.vt_check.specs.Following.{CutsFirst, IsFrontOf, cut_bytes, bytes_of_cuts, entries_in}
+use Rattle.vt_check.specs.Reading.{AreNextCuts}
 use Rattle.vt_check.proofs.Following.{entries_read, entries_split}
 use Rattle.vt_check.proofs.Judging.{length-entries_at}
 
@@ -57,10 +57,10 @@ module _ (region : Region) (file : List ℕ) (all k used : ℕ) (window entries 
       ∙ ap (λ (l : List (List ℕ)). take m l) (entered ∙ read_all ∙ split)
       ∙ take_at (entries_at region k m file) (entries_at region (k + m) (count - m) file) m (length-entries_at region k m file)
 
-  pub is_next : IsNext region file all k used window cuts
+  pub is_next : AreNextCuts region file all k used window cuts
   is_next = record {
     next = first (drop used (area_of region file)) front (all - k) (omega (arith, few, cuts_few))
-        ∙ ap (λ (l : List ℕ). map (bytes_in window) cuts ++ clumps_in (all - k - length cuts) l) (drop-drop (bytes_of cuts) used (area_of region file));
+        ∙ ap (λ (l : List ℕ). map (cut_bytes window) cuts ++ clumps_in (all - k - length cuts) l) (drop-drop (bytes_of_cuts cuts) used (area_of region file));
     entries =
         let split : all - k ≡ length cuts + (all - k - length cuts) = omega (arith, few, cuts_few) in
         ap (λ (n : ℕ). entries_at region k n file) split

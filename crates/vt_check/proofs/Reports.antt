@@ -5,20 +5,20 @@ use Rattle.std.proofs.lemmas.Bool.{cases_lt, eqb-true, not-false}
 use Rattle.std.proofs.lemmas.List.{length-map, take_all}
 use Rattle.std.proofs.lemmas.List.Sums.{sum_by-take-le, sum_by_more}
 use Rattle.std.proofs.lemmas.Option.{get_or_from_slice_get, same_Some, slice_get-get_or, slice_get_within}
-use Rattle.vt_arena.specs.declared.bad.ArenaBad.{ArenaBad}
+use Rattle.vt_arena.specs.declared.error.ArenaBad.{ArenaBad}
 use Rattle.vt_arena.specs.declared.head.Found.{Found}
-use Rattle.vt_arena.specs.Faults.{bad_value, first_bad as first_bad_in, taken_in}
+use Rattle.vt_arena.specs.Faults.{bad_value, first_bad_head, room_taken}
 use Rattle.vt_arena.specs.Heads.{fields_of, number_in, sealed_in, version_in}
 use Rattle.vt_arena.specs.Layout.{fields_at}
 use Rattle.vt_disk.specs.Members.{DiskOf}
-use Rattle.vt_log.specs.declared.bad.LogBad.{LogBad}
-use Rattle.vt_log.specs.Answers.{OnlyReads}
-use Rattle.vt_log.specs.Faults.{bad_arena, first_bad, first_of_two, out_of_order}
+use Rattle.vt_log.specs.declared.error.LogBad.{LogBad}
+use Rattle.vt_log.specs.Answers.{OnlyReadsLog}
+use Rattle.vt_log.specs.Faults.{bad_arena, first_bad_log, first_of_two, out_of_order}
 use Rattle.vt_log.specs.Log.{LogState}
-use Rattle.vt_log.specs.Sound.{IsAt}
+use Rattle.vt_log.specs.Sound.{IsArenaAt}
 use Rattle.vt_part.specs.declared.layout.ArenaRegion.{ArenaRegion}
 use Rattle.vt_check.specs.declared.checking.ArenaReport.{ArenaReport}
-use Rattle.vt_check.specs.Following.{IsHeadOf}
+use Rattle.vt_check.specs.Following.{IsReadableHead}
 use Rattle.vt_check.specs.Checking.{AreReports, AreTold, HasItsHeads, IsReportOf, TellsOf}
 use Rattle.vt_check.proofs.Checks.{reads_none, reads_then}
 use Rattle.vt_check.proofs.Judging.{then_none}
@@ -33,33 +33,33 @@ arena_none : (behind : Bool) (i : ℕ) (bad : Option ArenaBad) (fields : List �
 arena_none behind i (Some bad) fields none = absurd (cc)
 arena_none behind i None fields none = refl
 
-head_passes : (number len : ℕ) (fields : List ℕ) → first_bad_in number len fields ≡ None → (version_in fields ≡ 1) × (number_in fields ≡ number)
+head_passes : (number len : ℕ) (fields : List ℕ) → first_bad_head number len fields ≡ None → (version_in fields ≡ 1) × (number_in fields ≡ number)
 head_passes number len fields none =
-    let magic = then_none _ _ (bad_value number len (version_in fields) (number_in fields) (sealed_in fields) (taken_in fields)) none in
+    let magic = then_none _ _ (bad_value number len (version_in fields) (number_in fields) (sealed_in fields) (room_taken fields)) none in
     let version = then_none (not (version_in fields == 1)) _ _ magic.1 in
     let numbered = then_none (not (number_in fields == number)) _ _ version.1 in
     (eqb-true _ _ (not-false _ version.0), eqb-true _ _ (not-false _ numbered.0))
 
-pub head_is : (behind : Bool) (k : ℕ) (layout : List ArenaRegion) (fields : List (List ℕ)) → first_bad behind k layout fields ≡ None
+pub head_is : (behind : Bool) (k : ℕ) (layout : List ArenaRegion) (fields : List (List ℕ)) → first_bad_log behind k layout fields ≡ None
     → (i : ℕ) (r : ArenaRegion) (f : List ℕ) → slice_get layout i ≡ Some r → slice_get fields i ≡ Some f → (version_in f ≡ 1) × (number_in f ≡ r.number)
 head_is behind k [] fields none i r f at there = absurd (cc)
 head_is behind k (q ∷ rest) [] none i r f at there = absurd (cc)
 head_is behind k (q ∷ rest) (e ∷ es) none zero r f at there =
-    let parts = first_none (bad_arena behind k (first_bad_in q.number q.region.len e) e) (first_bad (behind || sealed_in e == 0) (k + 1) rest es) none in
+    let parts = first_none (bad_arena behind k (first_bad_head q.number q.region.len e) e) (first_bad_log (behind || sealed_in e == 0) (k + 1) rest es) none in
     let same : e ≡ f = cc in
     let arena : q ≡ r = cc in
-    let it = head_passes q.number q.region.len e (arena_none behind k (first_bad_in q.number q.region.len e) e parts.0) in (
+    let it = head_passes q.number q.region.len e (arena_none behind k (first_bad_head q.number q.region.len e) e parts.0) in (
       ap (λ (l : List ℕ). version_in l) (sym same) ∙ it.0,
       ap (λ (l : List ℕ). number_in l) (sym same) ∙ it.1 ∙ ap (λ (a : ArenaRegion). a.number) arena,
     )
 head_is behind k (q ∷ rest) (e ∷ es) none (suc i) r f at there =
-    let parts = first_none (bad_arena behind k (first_bad_in q.number q.region.len e) e) (first_bad (behind || sealed_in e == 0) (k + 1) rest es) none in
+    let parts = first_none (bad_arena behind k (first_bad_head q.number q.region.len e) e) (first_bad_log (behind || sealed_in e == 0) (k + 1) rest es) none in
     head_is (behind || sealed_in e == 0) (k + 1) rest es parts.1 i r f at there
 
 -- what a mounted log's head says is what the disk has
 pub head_there : {D : Type 0} (disk : DiskOf D) (l : LogState D) → HasItsHeads disk l → (i : ℕ) (r : ArenaRegion) (found : Found) (file : List ℕ)
     → slice_get l.layout i ≡ Some r → slice_get l.heads i ≡ Some found → slice_get (map disk.bytes l.disks) r.part ≡ Some file
-    → (fields_at r.region file ≡ fields_of found.head) × IsHeadOf r.number found.head
+    → (fields_at r.region file ≡ fields_of found.head) × IsReadableHead r.number found.head
 head_there {D} disk l its i r found file at head there =
     let below : i < length l.heads = slice_get_within l.heads i found head in
     let named : slice_get its.fields i ≡ Some (fields_of found.head) =
@@ -77,7 +77,7 @@ head_there {D} disk l its i r found file at head there =
 -- ---- the reports
 
 pub record IsReporting {D : Type 0} (score : List ℕ → List ℕ) (disk : DiskOf D) (old now : LogState D) (number : ℕ) (reports : List ArenaReport) : Type 0 where
-  pub reads : OnlyReads score disk (2 * sum_by (λ found. found.head.clumps) (take number old.heads)) old now
+  pub reads : OnlyReadsLog score disk (2 * sum_by (λ found. found.head.clumps) (take number old.heads)) old now
   pub faults : map disk.faults now.disks ≡ map disk.faults old.disks
   pub many : length reports ≡ number
   pub each : (i : ℕ) (found : Found) (report : ArenaReport) → slice_get old.heads i ≡ Some found → slice_get reports i ≡ Some report → IsReportOf i found.head report
@@ -101,7 +101,7 @@ last_or (z ∷ zs) x y (suc i) at = ⊎_elim (λ front. inl front) (λ last. inr
 
 module _ {D : Type 0} (score : List ℕ → List ℕ) (disk : DiskOf D) (old now new : LogState D) (number : ℕ) (reports : List ArenaReport)
     (it : IsReporting score disk old now number reports) (found : Found) (head : slice_get old.heads number ≡ Some found) (report : ArenaReport)
-    (reads : OnlyReads score disk (2 * found.head.clumps) now new) (faults : map disk.faults new.disks ≡ map disk.faults now.disks)
+    (reads : OnlyReadsLog score disk (2 * found.head.clumps) now new) (faults : map disk.faults new.disks ≡ map disk.faults now.disks)
     (is : IsReportOf number found.head report)
     (tells_of : IsTrue disk.tells → HasItsHeads disk old → (r : ArenaRegion) (file : List ℕ) → slice_get old.layout number ≡ Some r
     → slice_get (map disk.bytes old.disks) r.part ≡ Some file → TellsOf score r found.head file report.damage) where
@@ -136,8 +136,8 @@ module _ {D : Type 0} (score : List ℕ → List ℕ) (disk : DiskOf D) (old now
 
 -- what is read of one more arena is within what may be read of all
 pub reads_within : {D : Type 0} (score : List ℕ → List ℕ) (disk : DiskOf D) (old now new : LogState D) (number : ℕ) (reports : List ArenaReport)
-    → IsReporting score disk old now number reports → (found : Found) → slice_get old.heads number ≡ Some found → OnlyReads score disk (2 * found.head.clumps) now new
-    → OnlyReads score disk (2 * sum_by (λ found. found.head.clumps) old.heads) old new
+    → IsReporting score disk old now number reports → (found : Found) → slice_get old.heads number ≡ Some found → OnlyReadsLog score disk (2 * found.head.clumps) now new
+    → OnlyReadsLog score disk (2 * sum_by (λ found. found.head.clumps) old.heads) old new
 reads_within score disk old now new number reports it found head reads =
     let below : number < length old.heads = slice_get_within old.heads number found head in
     let more = sum_by_more (λ (f : Found). f.head.clumps) old.heads number found below in
@@ -147,7 +147,7 @@ reads_within score disk old now new number reports it found head reads =
     (omega (arith, more, here, most)) it.reads reads
 
 pub reads_so_far : {D : Type 0} (score : List ℕ → List ℕ) (disk : DiskOf D) (old now : LogState D) (number : ℕ) (reports : List ArenaReport)
-    → IsReporting score disk old now number reports → OnlyReads score disk (2 * sum_by (λ found. found.head.clumps) old.heads) old now
+    → IsReporting score disk old now number reports → OnlyReadsLog score disk (2 * sum_by (λ found. found.head.clumps) old.heads) old now
 reads_so_far score disk old now number reports it =
     let most = sum_by-take-le (λ (f : Found). f.head.clumps) old.heads number in
     reads_then score disk (2 * sum_by (λ f. f.head.clumps) (take number old.heads)) 0 (2 * sum_by (λ f. f.head.clumps) old.heads) old now now

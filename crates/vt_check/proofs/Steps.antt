@@ -12,40 +12,40 @@ use Rattle.vt_arena.proofs.Layouts.{all_head, all_tail}
 use Rattle.vt_base.specs.Bytes.{AreBytes}
 use Rattle.vt_disk.specs.Members.{DiskOf}
 use Rattle.vt_log.specs.Log.{LogState}
-use Rattle.vt_log.specs.Sound.{IsAt}
+use Rattle.vt_log.specs.Sound.{IsArenaAt}
 use Rattle.vt_model.specs.declared.TheConstants.{ARENA_HEAD_LEN}
 use Rattle.vt_part.specs.declared.layout.ArenaRegion.{ArenaRegion}
 use Rattle.vt_check.specs.declared.checking.Damage.{Damage}
 use Rattle.vt_check.specs.declared.clumps.Cut.{Cut}
 use Rattle.vt_check.specs.declared.clumps.Followed.{Followed}
 use Rattle.vt_check.specs.Checking.{DamageDiffers, TellsOf, bad_chain, bad_clump, bad_entry, bad_sum, clumps_at, entries_at, first_damage}
-use Rattle.vt_check.specs.Following.{HasFollowed, IsEntryRead, IsHeadOf, IsWithin, bytes_in, bytes_of}
+use Rattle.vt_check.specs.Following.{HasFollowed, IsEntryRead, IsReadableHead, IsWithinWindow, cut_bytes, bytes_of_cuts}
 use Rattle.vt_check.proofs.Checks.{IsChecking, check_ends}
 use Rattle.vt_check.proofs.Differs.{bad_chain_differs, bad_entry_differs, bad_sum_differs, either_differs}
 use Rattle.vt_check.proofs.Judging.{is_arena, no_damage}
 
 -- ---- how much was followed
 
-bytes_sum : (window : List ℕ) (cuts : List Cut) → All (IsWithin window) cuts → sum_by (λ clump. length clump) (map (bytes_in window) cuts) ≡ bytes_of cuts
+bytes_sum : (window : List ℕ) (cuts : List Cut) → All (IsWithinWindow window) cuts → sum_by (λ clump. length clump) (map (cut_bytes window) cuts) ≡ bytes_of_cuts cuts
 bytes_sum window [] all = refl
 bytes_sum window (x ∷ xs) all =
-    let it : IsWithin window x = all_head (IsWithin window) x xs all in
-    let here : length (bytes_in window x) ≡ x.end - x.start =
+    let it : IsWithinWindow window x = all_head (IsWithinWindow window) x xs all in
+    let here : length (cut_bytes window x) ≡ x.end - x.start =
     omega (arith, length-take (x.end - x.start) (drop x.start window), length-drop x.start window, it.end, it.is_cut.order) in
-    let rest : sum_by (λ clump. length clump) (map (bytes_in window) xs) ≡ bytes_of xs = bytes_sum window xs (all_tail (IsWithin window) x xs all) in
+    let rest : sum_by (λ clump. length clump) (map (cut_bytes window) xs) ≡ bytes_of_cuts xs = bytes_sum window xs (all_tail (IsWithinWindow window) x xs all) in
     omega (
       arith,
-      sum_by-cons (λ (c : List ℕ). length c) (bytes_in window x) (map (bytes_in window) xs),
+      sum_by-cons (λ (c : List ℕ). length c) (cut_bytes window x) (map (cut_bytes window) xs),
       sum_by-cons (λ (c : Cut). c.end - c.start) x xs,
       here,
       rest,
     )
 
 pub counted : (score : List ℕ → List ℕ) (window : List ℕ) (clumps entries more : List (List ℕ)) (cuts : List Cut) (f g : Followed) → HasFollowed score clumps entries f
-    → HasFollowed score (clumps ++ map (bytes_in window) cuts) more g → All (IsWithin window) cuts → (g.clumps ≡ f.clumps + length cuts) × (g.used ≡ f.used + bytes_of cuts)
+    → HasFollowed score (clumps ++ map (cut_bytes window) cuts) more g → All (IsWithinWindow window) cuts → (g.clumps ≡ f.clumps + length cuts) × (g.used ≡ f.used + bytes_of_cuts cuts)
 counted score window clumps entries more cuts f g old new within = (
-  omega (arith, new.count, old.count, length-append clumps (map (bytes_in window) cuts), length-map cuts (bytes_in window)),
-  omega (arith, new.used, old.used, sum_by-append (λ (c : List ℕ). length c) clumps (map (bytes_in window) cuts), bytes_sum window cuts within),
+  omega (arith, new.count, old.count, length-append clumps (map (cut_bytes window) cuts), length-map cuts (cut_bytes window)),
+  omega (arith, new.used, old.used, sum_by-append (λ (c : List ℕ). length c) clumps (map (cut_bytes window) cuts), bytes_sum window cuts within),
 )
 
 -- ---- what is told
@@ -62,7 +62,7 @@ module _ (score : List ℕ → List ℕ) (r : ArenaRegion) (head : ArenaHead) (f
   }
 
   -- all clumps were followed
-  pub tells_end : (clumps entries : List (List ℕ)) (f : Followed) → HasFollowed score clumps entries f → IsHeadOf r.number head
+  pub tells_end : (clumps entries : List (List ℕ)) (f : Followed) → HasFollowed score clumps entries f → IsReadableHead r.number head
       → clumps_at r.region head.clumps file ≡ clumps → entries_at r.region 0 head.clumps file ≡ entries → (damage : Option Damage)
       → damage ≡ option_or (bad_sum head.used clumps) (option_or (bad_entry clumps entries) (bad_chain score entries head.chain.0)) → TellsOf score r head file damage
   tells_end clumps entries f it its clumps_are entries_are damage is =

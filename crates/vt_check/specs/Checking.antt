@@ -3,15 +3,15 @@
 use Rattle.std.specs.Prelude.{◌≡◌, ◌↔◌, ℕ, zero, suc, ◌+◌, ◌-◌, ◌==◌, not, if◌then◌else◌, Bool, true, false, Option, Some, None, IfSome, List, [], ◌∷◌, ◌++◌, fold, length, map, replicate, slice_get, sum_by, take, drop}
 use Rattle.std.specs.Option.{option_map, option_or}
 use Rattle.std.specs.Str.{bytes_eq}
-use Rattle.vt_arena.specs.Directory.{kind_in, last_entry, score_in, size_in as size_in_entry, uncsize_in}
+use Rattle.vt_arena.specs.Directory.{kind_in, last_entry, score_in_entry, size_in_entry, uncsize_in_entry}
 use Rattle.vt_arena.specs.Layout.{Content, IsArena}
-use Rattle.vt_arena.specs.Reading.{damage_of}
+use Rattle.vt_arena.specs.Reading.{damage_of_clump}
 use Rattle.vt_arena.specs.declared.head.ArenaHead.{ArenaHead}
 use Rattle.vt_arena.specs.declared.head.Found.{Found}
 use Rattle.vt_base.specs.Damage.{Differ}
 use Rattle.vt_base.specs.declared.why.FieldValue.TheVariants.{Number, Score as ScoreValue}
 use Rattle.vt_clump.specs.declared.reading.ClumpBad.{ClumpBad}
-use Rattle.vt_clump.specs.Faults.{first_bad}
+use Rattle.vt_clump.specs.Faults.{first_bad_clump}
 use Rattle.vt_clump.specs.Spelling.{Stored, clump_len, size_in, stored_in}
 use Rattle.vt_disk.specs.Disk.{part}
 use Rattle.vt_disk.specs.Members.{DiskOf}
@@ -52,8 +52,8 @@ entries_at region i (suc n) file = last_entry region (i + 1) file ∷ entries_at
 
 -- ---- the tests
 
-abbrev pub numbers : (want found : ℕ) → Damage
-numbers want found = record { want = Number want; found = Number found }
+abbrev pub damage_of_numbers : (want found : ℕ) → Damage
+damage_of_numbers want found = record { want = Number want; found = Number found }
 
 abbrev pub scores : (want found : List ℕ) → Damage
 scores want found =
@@ -61,10 +61,10 @@ scores want found =
 
 -- a clump: its first test that fails, as when it is read
 abbrev pub damage_by : ClumpBad → Damage
-damage_by bad = record { want = (damage_of bad).0; found = (damage_of bad).1 }
+damage_by bad = record { want = (damage_of_clump bad).0; found = (damage_of_clump bad).1 }
 
 abbrev pub clump_damage : (List ℕ → List ℕ) → (clump : List ℕ) → Option Damage
-clump_damage score clump = option_map damage_by (first_bad score clump)
+clump_damage score clump = option_map damage_by (first_bad_clump score clump)
 
 abbrev pub bad_clump : (List ℕ → List ℕ) → List (List ℕ) → Option Damage
 bad_clump score [] = None
@@ -74,16 +74,19 @@ bad_clump score (clump ∷ rest) = option_or (clump_damage score clump) (bad_clu
 abbrev pub bad_sum : (used : ℕ) → List (List ℕ) → Option Damage
 bad_sum used clumps =
     let sum = sum_by (λ clump. length clump) clumps in
-    if sum == used then None else Some (numbers used sum)
+    if sum == used then None else Some (damage_of_numbers used sum)
 
 -- the fields of an entry are those of the clump
 abbrev pub entry_damage : Stored → (entry : List ℕ) → Option Damage
 entry_damage s entry =
     let size = length s.block in
-    if not (kind_in entry == s.kind) then Some (numbers s.kind (kind_in entry))
-    else if not (size_in_entry entry == size) then Some (numbers size (size_in_entry entry))
-    else if not (uncsize_in entry == size) then Some (numbers size (uncsize_in entry))
-    else if not (bytes_eq (score_in entry) s.score) then Some (scores s.score (score_in entry))
+    if not (kind_in entry == s.kind) then Some (damage_of_numbers s.kind (kind_in entry))
+    else if not (size_in_entry entry == size) then Some
+    (damage_of_numbers size (size_in_entry entry))
+    else if not (uncsize_in_entry entry == size) then Some
+    (damage_of_numbers size (uncsize_in_entry entry))
+    else if not (bytes_eq (score_in_entry entry) s.score) then Some
+    (scores s.score (score_in_entry entry))
     else None
 
 -- each entry is that of its clump
@@ -94,12 +97,14 @@ bad_entry (clump ∷ clumps) (entry ∷ entries) =
     option_or (entry_damage (stored_in clump) entry) (bad_entry clumps entries)
 
 -- the chain of the entries is the head's
-abbrev pub chain_of : (List ℕ → List ℕ) → (entries : List (List ℕ)) → List ℕ
-chain_of score entries = fold (λ chain entry. score (chain ++ entry)) (replicate 20 0) entries
+abbrev pub chain_of_entries : (List ℕ → List ℕ) → (entries : List (List ℕ)) → List ℕ
+chain_of_entries score entries =
+    fold (λ chain entry. score (chain ++ entry)) (replicate 20 0) entries
 
 abbrev pub bad_chain : (List ℕ → List ℕ) → (entries : List (List ℕ)) → (found : List ℕ) → Option Damage
 bad_chain score entries found =
-    if bytes_eq found (chain_of score entries) then None else Some (scores (chain_of score entries) found)
+    if bytes_eq found (chain_of_entries score entries) then None else Some
+    (scores (chain_of_entries score entries) found)
 
 -- the first that fails, in an arena with this head
 abbrev pub first_damage : (List ℕ → List ℕ) → Region → ArenaHead → (file : List ℕ) → Option Damage
@@ -116,9 +121,9 @@ abbrev pub DamageDiffers : Damage → Type 0
 DamageDiffers damage = Differ damage.want damage.found
 
 -- the answer tells of a fault of a disk in this call
-abbrev pub is_fault : CheckErr → Bool
-is_fault Fault = true
-is_fault NoMemory = false
+abbrev pub is_check_fault : CheckErr → Bool
+is_check_fault Fault = true
+is_check_fault NoMemory = false
 
 -- The report of arena i says what its head does, and its damage has two values that differ.
 pub record IsReportOf (i : ℕ) (head : ArenaHead) (report : ArenaReport) : Type 0 where

@@ -11,13 +11,13 @@ use Rattle.vt_check.specs.declared.clumps.Cut.{Cut}
 use Rattle.vt_check.specs.declared.clumps.Followed.{Followed}
 use Rattle.vt_check.specs.declared.clumps.Tested.{Tested}
 use Rattle.vt_check.specs.declared.clumps.Tested.TheVariants.{Sound, BadEntry, BadClump, NoMemory}
-use Rattle.vt_check.specs.Checking.{bad_clump, bad_entry, chain_of, clump_damage, clumps_in, entry_damage}
+use Rattle.vt_check.specs.Checking.{bad_clump, bad_entry, chain_of_entries, clump_damage, clumps_in, entry_damage}
 
 -- ---- cutting
 
 -- the bytes of a cut
-abbrev pub bytes_in : (window : List ℕ) → Cut → List ℕ
-bytes_in window cut = part cut.start (cut.end - cut.start) window
+abbrev pub cut_bytes : (window : List ℕ) → Cut → List ℕ
+cut_bytes window cut = part cut.start (cut.end - cut.start) window
 
 -- an entry as it is read
 pub record IsEntryRead (entry : List ℕ) : Type 0 where
@@ -29,13 +29,13 @@ pub record IsCut (cut : Cut) : Type 0 where
   pub order : cut.start ≤ cut.end
   pub entry : IsEntryRead cut.entry
 
-pub record IsWithin (window : List ℕ) (cut : Cut) : Type 0 where
+pub record IsWithinWindow (window : List ℕ) (cut : Cut) : Type 0 where
   pub is_cut : IsCut cut
   pub end : cut.end ≤ length window
 
 -- how many bytes all of them have
-abbrev pub bytes_of : List Cut → ℕ
-bytes_of cuts = sum_by (λ cut. cut.end - cut.start) cuts
+abbrev pub bytes_of_cuts : List Cut → ℕ
+bytes_of_cuts cuts = sum_by (λ cut. cut.end - cut.start) cuts
 
 -- so many entries, of which the last stands first
 abbrev pub entries_in : (n : ℕ) → (bytes : List ℕ) → List (List ℕ)
@@ -50,7 +50,8 @@ pub record IsFrontOf (more : Bool) (bytes all : List ℕ) : Type 0 where
 -- the cuts are the first of the clumps that these bytes begin with
 abbrev pub CutsFirst : (window all : List ℕ) → List Cut → Type 0
 CutsFirst window all cuts = (n : ℕ) → length cuts ≤ n
-    → clumps_in n all ≡ map (bytes_in window) cuts ++ clumps_in (n - length cuts) (drop (bytes_of cuts) all)
+    → clumps_in n all ≡ map (cut_bytes window) cuts
+    ++ clumps_in (n - length cuts) (drop (bytes_of_cuts cuts) all)
 
 -- ---- testing
 
@@ -80,11 +81,11 @@ pub record HasFollowed (score : List ℕ → List ℕ) (clumps entries : List (L
   pub entry : f.entry ≡ bad_entry clumps entries
   pub bytes : All AreBytes clumps
   pub reads : All IsEntryRead entries
-  pub chain : f.chain.0 ≡ chain_of score entries
+  pub chain : f.chain.0 ≡ chain_of_entries score entries
 
 -- ---- the head
 
 -- a head of the version that is read, which has the number of its arena
-pub record IsHeadOf (number : ℕ) (head : ArenaHead) : Type 0 where
+pub record IsReadableHead (number : ℕ) (head : ArenaHead) : Type 0 where
   pub version : version_in (fields_of head) ≡ 1
   pub number_is : number_in (fields_of head) ≡ number

@@ -8,13 +8,13 @@ ghost use Rattle.vt_arena.specs.Layout.{fields_at};
 ghost use Rattle.vt_arena.specs.Places.{arena_room, directory_room};
 ghost use Rattle.vt_arena.specs.declared.head.Found.{Found};
 ghost use Rattle.vt_disk.specs.Disk.{part};
-ghost use Rattle.vt_log.specs.Answers.{OnlyReads};
+ghost use Rattle.vt_log.specs.Answers.{OnlyReadsLog};
 ghost use Rattle.vt_log.specs.Faults.{CountsFaults};
-ghost use Rattle.vt_log.specs.Sound.{IsAt};
+ghost use Rattle.vt_log.specs.Sound.{IsArenaAt};
 ghost use Rattle.vt_part.specs.declared.layout.ArenaRegion.{ArenaRegion};
-ghost use Rattle.vt_check.specs.Checking.{AreReports, AreTold, DamageDiffers, HasItsHeads, TellsOf, bad_chain, bad_entry, bad_sum, is_fault};
-ghost use Rattle.vt_check.specs.Following.{HasFollowed, IsHeadOf, IsWithin, bytes_of};
-ghost use Rattle.vt_check.specs.Reading.{IsNext};
+ghost use Rattle.vt_check.specs.Checking.{AreReports, AreTold, DamageDiffers, HasItsHeads, TellsOf, bad_chain, bad_entry, bad_sum, is_check_fault};
+ghost use Rattle.vt_check.specs.Following.{HasFollowed, IsReadableHead, IsWithinWindow, bytes_of_cuts};
+ghost use Rattle.vt_check.specs.Reading.{AreNextCuts};
 
 use crate::clumps::{Cut, Followed, MOST_CLUMP, cut_all, test_clumps};
 use std::alloc::Global;
@@ -52,10 +52,10 @@ pub struct Damage {
 }
 
 impl Damage {
-    ghost use Rattle.vt_check.specs.Checking.{numbers, scores};
+    ghost use Rattle.vt_check.specs.Checking.{damage_of_numbers, scores};
 
     pub(crate) fn of_numbers(want: u64, found: u64) -> Damage
-        ensures { result ≡ numbers want found }
+        ensures { result ≡ damage_of_numbers want found }
     {
         Damage {
             want: FieldValue::Number(u128::from(want)),
@@ -113,9 +113,9 @@ pub fn check<D: Disk, S: Scorer + Sync, G: Progress>(
         → AreTold S.score_of D.Disk log.old report.arenas.items) }
 
     // The log is only read from, at most twice for each block that its heads count.
-    ensures reads { OnlyReads S.score_of D.Disk
+    ensures reads { OnlyReadsLog S.score_of D.Disk
         (2 * sum_by (λ found. found.head.clumps) log.old.heads) log.old log.new }
-    ensures faults { CountsFaults D.Disk is_fault result log.old.disks log.new.disks }
+    ensures faults { CountsFaults D.Disk is_check_fault result log.old.disks log.new.disks }
 {
     let mut arenas = Vec::new(alloc);
     let mut room = Room::new(alloc);
@@ -158,13 +158,13 @@ fn check_arena<D: Disk, S: Scorer + Sync>(
     requires { arena < length log.old.layout }
     ensures differs { IfOk result (λ damage. IfSome damage DamageDiffers) }
     ensures told { (r : ArenaRegion) (disk : D) (found : Found) → IsTrue D.tells
-        → IsAt log.old arena r disk → slice_get log.old.heads arena ≡ Some found
+        → IsArenaAt log.old arena r disk → slice_get log.old.heads arena ≡ Some found
         → fields_at r.region (D.bytes disk) ≡ fields_of found.head
-        → IsHeadOf r.number found.head
+        → IsReadableHead r.number found.head
         → IfOk result (TellsOf S.score_of r found.head (D.bytes disk)) }
     ensures reads { (found : Found) × (slice_get log.old.heads arena ≡ Some found)
-        × OnlyReads S.score_of D.Disk (2 * found.head.clumps) log.old log.new }
-    ensures faults { CountsFaults D.Disk is_fault result log.old.disks log.new.disks }
+        × OnlyReadsLog S.score_of D.Disk (2 * found.head.clumps) log.old log.new }
+    ensures faults { CountsFaults D.Disk is_check_fault result log.old.disks log.new.disks }
 {
     let head = log.head(arena);
     let len = log.arena_len(arena);
@@ -227,17 +227,18 @@ impl Room {
         requires left { followed.now.clumps < head.now.clumps }
         requires begun { ARENA_HEAD_LEN + followed.now.used ≤ len }
         requires fit { head.now.used + directory_room head.now.clumps ≤ arena_room len }
-        ensures cuts { OnOk result (All (IsWithin self.new.clumps.items) self.new.cuts.items) }
+        ensures cuts { OnOk result (All (IsWithinWindow self.new.clumps.items) self.new.cuts.items) }
         ensures some { OnOk result (0 < length self.new.cuts.items) }
         ensures few { OnOk result
             (followed.now.clumps + length self.new.cuts.items ≤ head.now.clumps) }
         ensures room { OnOk result
-            (ARENA_HEAD_LEN + followed.now.used + bytes_of self.new.cuts.items ≤ len) }
-        ensures next { (r : ArenaRegion) (disk : D) → IsTrue D.tells → IsAt log.old arena r disk
-            → OnOk result (IsNext r.region (D.bytes disk) head.now.clumps followed.now.clumps
+            (ARENA_HEAD_LEN + followed.now.used + bytes_of_cuts self.new.cuts.items ≤ len) }
+        ensures next { (r : ArenaRegion) (disk : D) → IsTrue D.tells
+            → IsArenaAt log.old arena r disk
+            → OnOk result (AreNextCuts r.region (D.bytes disk) head.now.clumps followed.now.clumps
             followed.now.used self.new.clumps.items self.new.cuts.items) }
-        ensures reads { OnlyReads S.score_of D.Disk 2 log.old log.new }
-        ensures faults { CountsFaults D.Disk is_fault result log.old.disks log.new.disks }
+        ensures reads { OnlyReadsLog S.score_of D.Disk 2 log.old log.new }
+        ensures faults { CountsFaults D.Disk is_check_fault result log.old.disks log.new.disks }
     {
         let left = len - ARENA_HEAD_LEN as u64 - followed.used;
         let count = (head.clumps - followed.clumps).min(CLUMPS_AT_ONCE as u32);
@@ -280,10 +281,10 @@ fn read<D: Disk, S: Scorer>(
     requires within { (r : ArenaRegion) → slice_get log.old.layout arena ≡ Some r
         → at + len ≤ r.region.len }
     ensures len { OnOk result (length bytes.new.items ≡ len) }
-    ensures read { (r : ArenaRegion) (disk : D) → IsTrue D.tells → IsAt log.old arena r disk
+    ensures read { (r : ArenaRegion) (disk : D) → IsTrue D.tells → IsArenaAt log.old arena r disk
         → OnOk result (bytes.new.items ≡ part (r.region.start + at) len (D.bytes disk)) }
-    ensures reads { OnlyReads S.score_of D.Disk 1 log.old log.new }
-    ensures faults { CountsFaults D.Disk is_fault result log.old.disks log.new.disks }
+    ensures reads { OnlyReadsLog S.score_of D.Disk 1 log.old log.new }
+    ensures faults { CountsFaults D.Disk is_check_fault result log.old.disks log.new.disks }
 {
     let Ok(()) = bytes.resize(len, 0) else {
         return Err(CheckErr::NoMemory);

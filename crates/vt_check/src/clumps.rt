@@ -2,21 +2,21 @@
 
 ghost use Rattle.std.specs.Prelude.{Bool, ◌≡◌, ◌+◌, ◌-◌, ◌*◌, ◌^◌, ◌<◌, ◌≤◌, ◌∷◌, ◌++◌, [], ℕ, List, All, IsTrue, IfOk, IfErr, OnOk, OnErr, Some, None, MatchOption, length, map, take};
 ghost use Rattle.std.specs.List.{AllZip};
-ghost use Rattle.vt_clump.specs.Clumps.{IsRead};
+ghost use Rattle.vt_clump.specs.Clumps.{IsClumpRead};
 ghost use Rattle.vt_clump.specs.declared.header.TheConstants.{HEADER_LEN};
 ghost use Rattle.vt_clump.specs.Spelling.{Stored, size_in, stored_in};
 ghost use Rattle.vt_disk.specs.Disk.{part};
 ghost use Rattle.vt_model.specs.declared.TheConstants.{DIRECTORY_ENTRY_LEN};
 ghost use Rattle.vt_check.specs.Checking.{bad_clump, clump_in, damage_by, entry_damage};
-ghost use Rattle.vt_check.specs.Following.{CutsFirst, HasFollowed, IsCut, IsEntryRead, IsFrontOf, IsSoundClump, IsWithin, TestsAs, bytes_in, bytes_of, entries_in};
+ghost use Rattle.vt_check.specs.Following.{CutsFirst, HasFollowed, IsCut, IsEntryRead, IsFrontOf, IsSoundClump, IsWithinWindow, TestsAs, cut_bytes, bytes_of_cuts, entries_in};
 
 use crate::{CheckErr, Damage};
 use rayon::prelude::*;
 use std::alloc::Global;
 use std::thread::Threads;
+use vt_base::fields::{put, u16_at};
 use vt_base::{FieldValue, Score, Scorer};
 use vt_clump::{Clump, ClumpBad, Encoding, HEADER_LEN, block_len, unpack};
-use vt_fields::{put, u16_at};
 use vt_model::DIRECTORY_ENTRY_LEN;
 
 /// How many clumps a thread tests at least, where there are as many.
@@ -76,17 +76,17 @@ impl Followed {
         requires many { length tested.now ≡ length cuts.now }
         requires cuts { All IsCut cuts.now }
         requires few { self.old.clumps + length cuts.now < 2 ^ 32 }
-        requires small { self.old.used + bytes_of cuts.now < 2 ^ 63 }
+        requires small { self.old.used + bytes_of_cuts cuts.now < 2 ^ 63 }
         ensures followed { (window : List ℕ) (clumps entries : List (List ℕ))
             → HasFollowed S.score_of clumps entries self.old
-            → All (IsWithin window) cuts.now
-            → AllZip (λ cut found. TestsAs S.score_of (bytes_in window cut) cut.entry found)
+            → All (IsWithinWindow window) cuts.now
+            → AllZip (λ cut found. TestsAs S.score_of (cut_bytes window cut) cut.entry found)
             cuts.now tested.now
             → IfOk result (λ damage. MatchOption damage
-            (HasFollowed S.score_of (clumps ++ map (bytes_in window) cuts.now)
+            (HasFollowed S.score_of (clumps ++ map (cut_bytes window) cuts.now)
             (entries ++ map (λ cut. cut.entry) cuts.now) self.new)
             (λ it. (behind : List (List ℕ)) → bad_clump S.score_of
-            (clumps ++ map (bytes_in window) cuts.now ++ behind) ≡ Some it)) }
+            (clumps ++ map (cut_bytes window) cuts.now ++ behind) ≡ Some it)) }
         ensures refused { IfErr result (λ bad. bad ≡ CheckErr.NoMemory) }
     {
         for i in 0..cuts.len() {
@@ -134,8 +134,8 @@ pub(crate) fn cut_all(
 ) -> Result<(), CheckErr>
     requires entries { length entries.now ≡ DIRECTORY_ENTRY_LEN * count }
     requires room { IsTrue more → MOST_CLUMP ≤ length bytes.now }
-    ensures within { All (IsWithin bytes.now) cuts.new.items }
-    ensures sum { bytes_of cuts.new.items ≤ length bytes.now }
+    ensures within { All (IsWithinWindow bytes.now) cuts.new.items }
+    ensures sum { bytes_of_cuts cuts.new.items ≤ length bytes.now }
     ensures few { length cuts.new.items ≤ count }
     ensures some { OnOk result (0 < count → 0 < length cuts.new.items) }
     ensures first { OnOk result ((all : List ℕ) → IsFrontOf more bytes.now all
@@ -209,9 +209,9 @@ pub(crate) fn test_clumps<S: Scorer + Sync>(
     cuts: &[Cut],
     scorer: &S,
 ) -> Result<Vec<Tested>, CheckErr>
-    requires { All (IsWithin bytes.now) cuts.now }
+    requires { All (IsWithinWindow bytes.now) cuts.now }
     ensures tested { IfOk result (λ tested.
-        AllZip (λ cut found. TestsAs S.score_of (bytes_in bytes.now cut) cut.entry found)
+        AllZip (λ cut found. TestsAs S.score_of (cut_bytes bytes.now cut) cut.entry found)
         cuts.now tested.items) }
     ensures refused { IfErr result (λ bad. bad ≡ CheckErr.NoMemory) }
 {
@@ -220,8 +220,9 @@ pub(crate) fn test_clumps<S: Scorer + Sync>(
         .with_min_len(LEAST_PIECE)
         .map(
             |cut: &Cut| -> Tested
-                requires { IsWithin bytes.now cut.now }
-                ensures { TestsAs S.score_of (bytes_in bytes.entry.now cut.now) cut.now.entry result }
+                requires { IsWithinWindow bytes.now cut.now }
+                ensures { TestsAs S.score_of (cut_bytes bytes.entry.now cut.now) cut.now.entry
+                    result }
             { test_cut(alloc, bytes, cut, scorer) },
         )
         .collect(rt, alloc);
@@ -233,8 +234,8 @@ pub(crate) fn test_clumps<S: Scorer + Sync>(
 
 /// Tests a clump among these bytes, and its entry.
 fn test_cut<S: Scorer>(alloc: Global, bytes: &[u8], cut: &Cut, scorer: &S) -> Tested
-    requires { IsWithin bytes.now cut.now }
-    ensures { TestsAs S.score_of (bytes_in bytes.now cut.now) cut.now.entry result }
+    requires { IsWithinWindow bytes.now cut.now }
+    ensures { TestsAs S.score_of (cut_bytes bytes.now cut.now) cut.now.entry result }
 {
     test_clump(alloc, &bytes[cut.start..cut.end], &cut.entry, scorer)
 }
@@ -259,7 +260,7 @@ fn test_clump<S: Scorer>(
 
 /// The first field of a directory entry that isn't the clump's.
 fn test_entry(clump: &Clump, entry: &[u8; DIRECTORY_ENTRY_LEN]) -> Option<Damage>
-    ensures { (s : Stored) → IsRead s clump.now → result ≡ entry_damage s entry.now }
+    ensures { (s : Stored) → IsClumpRead s clump.now → result ≡ entry_damage s entry.now }
 {
     let kind = u64::from(clump.kind.wire());
     let size = clump.bytes.len() as u64;

@@ -6,23 +6,23 @@ use Rattle.std.proofs.lemmas.List.{take_at}
 use Rattle.vt_base.specs.Protocol.{TMessage, RMessage}
 use Rattle.vt_wire.specs.Frames.{IsFrame}
 use Rattle.vt_wire.specs.Messages.{asked}
-use Rattle.vt_client.specs.declared.err.ClientErr.{ClientErr}
-use Rattle.vt_client.specs.declared.err.ClientErr.TheVariants as errs
-use Rattle.vt_client.specs.Clients.{ClientState, Asks, CountsSides, MayRefuse, is_read_fault, is_write_fault, spent_by}
-use Rattle.vt_client.specs.Exchanges.{Answers, Exchanges, Fails, Judges, Moves, Traffic, Wanted, traffic_of}
+use Rattle.vt_client.specs.declared.error.ClientErr.{ClientErr}
+use Rattle.vt_client.specs.declared.error.ClientErr.TheVariants as errs
+use Rattle.vt_client.specs.Clients.{ClientState, AsksRequest, CountsSides, MayRefuse, is_read_fault, is_write_fault, spent_by}
+use Rattle.vt_client.specs.Exchanges.{AnswersCall, Exchanges, FailsWithoutReply, JudgesReply, MovesBytes, Traffic, Wanted, traffic_of}
 use Rattle.vt_client.specs.Members.{LinkOf}
-use Rattle.vt_client.specs.Taking.{IsOfExchange, Reads}
+use Rattle.vt_client.specs.Taking.{IsOfExchange, ReadsReplyFrame}
 
 -- ---- what came for the reply
 
 pub answered : {T : Type 0} (score_of : List ℕ → List ℕ) (tag : ℕ) (w : Wanted T)
     (before after : Traffic) (frame : List ℕ) (result : Result T ClientErr)
-    → (body : List ℕ) × IsFrame frame body → Moves before after (asked tag w.request) frame
-    → Reads score_of tag w frame result → Answers score_of tag w before after result
+    → (body : List ℕ) × IsFrame frame body → MovesBytes before after (asked tag w.request) frame
+    → ReadsReplyFrame score_of tag w frame result → AnswersCall score_of tag w before after result
 answered score_of tag w before after frame result whole moves (inl (reply, is, judged)) =
     inl (reply, record { frame = frame; is_reply = is; moves = moves }, judged)
 answered score_of tag w before after frame result whole moves (inr (place, is, wrong)) =
-    inr (subst (λ (r : Result _ ClientErr). IsErrAnd r (Fails before after tag w.request)) (sym is)
+    inr (subst (λ (r : Result _ ClientErr). IsErrAnd r (FailsWithoutReply before after tag w.request)) (sym is)
     (record {
       frame = frame;
       body = whole.0;
@@ -42,7 +42,7 @@ pub record Mild {L T : Type 0} (link : LinkOf L) (w : Wanted T) (l l' : L) (resu
 
 module _ {L T : Type 0} (link : LinkOf L) (score_of : List ℕ → List ℕ) (w : Wanted T) (l l' : L)
   where
-    mild_judged : (reply : RMessage) (result : Result T ClientErr) → Judges score_of w reply result
+    mild_judged : (reply : RMessage) (result : Result T ClientErr) → JudgesReply score_of w reply result
         → link.read_faults l' ≡ link.read_faults l → link.write_faults l' ≡ link.write_faults l
         → Mild link w l l' result
     mild_judged reply (Ok value) judged r s =
@@ -94,7 +94,7 @@ module _ {L T : Type 0} (link : LinkOf L) (score_of : List ℕ → List ℕ) (w 
     mild_failed errs.NoMemory about sides = absurd about
 
     pub mild : (tag : ℕ) (frame : List ℕ) (result : Result T ClientErr)
-        → Reads score_of tag w frame result → link.read_faults l' ≡ link.read_faults l
+        → ReadsReplyFrame score_of tag w frame result → link.read_faults l' ≡ link.read_faults l
         → link.write_faults l' ≡ link.write_faults l → Mild link w l l' result
     mild tag frame result (inl (reply, is, judged)) r s = mild_judged reply result judged r s
     mild tag frame result (inr (place, is, wrong)) r s =
@@ -106,7 +106,7 @@ module _ {L T : Type 0} (link : LinkOf L) (score_of : List ℕ → List ℕ) (w 
 pub record Asked {L T : Type 0} (link : LinkOf L) (score_of : List ℕ → List ℕ) (tag : ℕ) (w : Wanted T)
     (l l' : L) (result : Result T ClientErr) : Type 0 where
   pub answers : IsTrue link.tells
-      → Answers score_of tag w (traffic_of link l) (traffic_of link l') result
+      → AnswersCall score_of tag w (traffic_of link l) (traffic_of link l') result
   pub mild : Mild link w l l' result
 
 -- a frame came
@@ -114,8 +114,8 @@ pub asked_by_frame : {L T : Type 0} (link : LinkOf L) (score_of : List ℕ → L
     (w : Wanted T) (l l' : L) (frame : List ℕ) (result : Result T ClientErr)
     → (body : List ℕ) × IsFrame frame body
     → (IsTrue link.tells
-    → Moves (traffic_of link l) (traffic_of link l') (asked tag w.request) frame)
-    → CountsSides {T = ℕ} link l l' (Ok 0) → Reads score_of tag w frame result
+    → MovesBytes (traffic_of link l) (traffic_of link l') (asked tag w.request) frame)
+    → CountsSides {T = ℕ} link l l' (Ok 0) → ReadsReplyFrame score_of tag w frame result
     → Asked link score_of tag w l l' result
 asked_by_frame link score_of tag w l l' frame result whole moves sides reads = record {
   answers = λ told. answered score_of tag w (traffic_of link l) (traffic_of link l') frame result
@@ -130,21 +130,21 @@ pub asked_by_buffer : {L T : Type 0} (link : LinkOf L) (score_of : List ℕ → 
     → now ≡ take room (new ++ rest) → length new ≡ room
     → (body : List ℕ) × IsFrame (take len new) body
     → (IsTrue link.tells
-    → Moves (traffic_of link l) (traffic_of link l') (asked tag w.request) (take len new))
-    → CountsSides {T = ℕ} link l l' (Ok len) → Reads score_of tag w (take len now) result
+    → MovesBytes (traffic_of link l) (traffic_of link l') (asked tag w.request) (take len new))
+    → CountsSides {T = ℕ} link l l' (Ok len) → ReadsReplyFrame score_of tag w (take len now) result
     → Asked link score_of tag w l l' answer
 asked_by_buffer link score_of tag w l l' new rest now room len result answer answered_so is full
     whole moves sides reads =
     subst (Asked link score_of tag w l l') (sym answered_so)
     (asked_by_frame link score_of tag w l l' (take len new) result whole moves
     (record { reads = sides.reads; writes = sides.writes })
-    (subst (λ (b : List ℕ). Reads score_of tag w (take len b) result)
+    (subst (λ (b : List ℕ). ReadsReplyFrame score_of tag w (take len b) result)
     (is ∙ take_at new rest room full) reads))
 
 -- none came
 pub asked_in_vain : {L T : Type 0} (link : LinkOf L) (score_of : List ℕ → List ℕ) (tag : ℕ)
     (w : Wanted T) (l l' : L) (err : ClientErr) (answer : Result T ClientErr) → answer ≡ Err err
-    → (IsTrue link.tells → Fails (traffic_of link l) (traffic_of link l') tag w.request err)
+    → (IsTrue link.tells → FailsWithoutReply (traffic_of link l) (traffic_of link l') tag w.request err)
     → IsOfExchange err → CountsSides {T = ℕ} link l l' (Err err)
     → Asked link score_of tag w l l' answer
 asked_in_vain link score_of tag w l l' err answer answered_so fails about sides =
@@ -157,7 +157,7 @@ asked_in_vain link score_of tag w l l' err answer answered_so fails about sides 
 pub asks_so : {L T : Type 0} (link : LinkOf L) (score_of : List ℕ → List ℕ) (w : Wanted T)
     (c : ClientState L) (l' : L) (spent : Bool) (result : Result T ClientErr) → c.spent ≡ false
     → spent ≡ spent_by result → Asked link score_of c.tag w c.link l' result
-    → Asks link score_of w c
+    → AsksRequest link score_of w c
     (record c { link = l'; tag = (c.tag + 1) % 256; spent = spent }) result
 asks_so link score_of w c l' spent result unspent is a = record {
   answers = λ told _. a.answers told;

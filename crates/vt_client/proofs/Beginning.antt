@@ -1,19 +1,19 @@
 -- How a greeting goes: to the lines, and behind them.
 use Rattle.std.proofs.Common.{◌≡◌, inl, inr, ℕ, true, Result, Ok, Err, List, [], ◌++◌, refl, sym, subst, append-nil}
 use Rattle.std.specs.Prelude.{IfErr, IsErrOf}
-use Rattle.vt_client.specs.declared.err.ClientErr.{ClientErr}
-use Rattle.vt_client.specs.declared.err.ClientErr.TheVariants as errs
-use Rattle.vt_client.specs.Exchanges.{Traffic, Moves, Answers}
+use Rattle.vt_client.specs.declared.error.ClientErr.{ClientErr}
+use Rattle.vt_client.specs.declared.error.ClientErr.TheVariants as errs
+use Rattle.vt_client.specs.Exchanges.{Traffic, MovesBytes, AnswersCall}
 use Rattle.vt_client.specs.Clients.{MayRefuse}
-use Rattle.vt_client.specs.Greetings.{Begins, EndsAtLine, Greets, MayEndGreeting, client_line, welcome}
+use Rattle.vt_client.specs.Greetings.{ExchangesLines, EndsAtLine, Greets, MayEndGreeting, client_line, welcome}
 use Rattle.vt_client.specs.Taking.{IsOfExchange, IsOfLine, TakesLine}
 use Rattle.vt_client.proofs.Moving.{Moves-append}
 
-module _ (before between after : Traffic) (put : Moves before between client_line []) where
+module _ (before between after : Traffic) (put : MovesBytes before between client_line []) where
   -- the line went out, and then this came in
-  both : (taken : List ℕ) → Moves between after [] taken → Moves before after client_line taken
+  both : (taken : List ℕ) → MovesBytes between after [] taken → MovesBytes before after client_line taken
   both taken moves =
-      subst (λ (l : List ℕ). Moves before after l taken) (append-nil client_line)
+      subst (λ (l : List ℕ). MovesBytes before after l taken) (append-nil client_line)
       (Moves-append before between after client_line [] [] taken put moves)
 
   ends_at_line : (why : ClientErr) → IsOfLine why → TakesLine between after (Err why)
@@ -38,7 +38,7 @@ module _ (before between after : Traffic) (put : Moves before between client_lin
   greets_to_line score_of why result is about stops =
       subst (Greets score_of before after) (sym is) (inl (ends_at_line why about stops))
 
-  pub begins : TakesLine between after (Ok tt) → Begins before after
+  pub begins : TakesLine between after (Ok tt) → ExchangesLines before after
   begins (line, offers, moves) =
       record { line = line; offers = offers; moves = both line moves }
 

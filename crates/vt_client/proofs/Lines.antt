@@ -8,22 +8,22 @@ use Rattle.vt_wire.specs.Lines.{line_of}
 use Rattle.vt_wire.specs.declared.line.Line.{Line}
 use Rattle.vt_wire.specs.declared.line.Line.TheVariants.{Whole, More, Bad}
 use Rattle.vt_wire.proofs.WholeLines.{line_under, more_is}
-use Rattle.vt_client.specs.declared.err.ClientErr.{ClientErr}
-use Rattle.vt_client.specs.Exchanges.{Traffic, Moves}
+use Rattle.vt_client.specs.declared.error.ClientErr.{ClientErr}
+use Rattle.vt_client.specs.Exchanges.{Traffic, MovesBytes}
 use Rattle.vt_client.specs.Greetings.{OffersVersion, LacksVersion}
-use Rattle.vt_client.specs.Taking.{EndsHere, EndsLine, StopsInLine, TakesToNewline, offers_version}
+use Rattle.vt_client.specs.Taking.{EndsWithNothingLeft, EndsLine, StopsInLine, TakesToNewline, offers_version}
 use Rattle.vt_client.proofs.Moving.{Moves-append}
 
 -- bytes without a newline came in, and then none
 pub stops_in_line : (before between after : Traffic) (front buf : List ℕ) (why : ClientErr)
     (result : Result ℕ ClientErr) → result ≡ Err why → All (λ b. b ≢ 10) front
-    → length front ≤ 1024 → Moves before between [] front
-    → Moves between after [] [] × EndsHere after why → TakesToNewline before after buf result
+    → length front ≤ 1024 → MovesBytes before between [] front
+    → MovesBytes between after [] [] × EndsWithNothingLeft after why → TakesToNewline before after buf result
 stops_in_line before between after front buf why result is plain short first last =
     subst (TakesToNewline before after buf) (sym is) (record {
       part = front;
       partial = line_under front plain short;
-      moves = subst (λ (l : List ℕ). Moves before after [] l) (append-nil front)
+      moves = subst (λ (l : List ℕ). MovesBytes before after [] l) (append-nil front)
           (Moves-append before between after [] [] front [] first last.0);
       ends = last.1;
     })

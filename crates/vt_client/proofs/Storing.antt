@@ -2,10 +2,10 @@
 use Rattle.std.proofs.Common.{◌≡◌, inl, inr, Option, Some, Result, Ok, Err, List, ℕ, refl, sym, ◌∙◌, ap}
 use Rattle.std.specs.Option.{option_or}
 use Rattle.std.proofs.lemmas.Bool.{cases_Bool}
-use Rattle.vt_tree.specs.Calls.{Counts, counted}
-use Rattle.vt_tree.specs.declared.err.BlockErr.{BlockErr}
-use Rattle.vt_client.specs.declared.err.ClientErr.{ClientErr}
-use Rattle.vt_client.specs.Clients.{ClientState, Asks}
+use Rattle.vt_tree.specs.Calls.{Counts, with_refusal}
+use Rattle.vt_tree.specs.declared.error.BlockErr.{BlockErr}
+use Rattle.vt_client.specs.declared.error.ClientErr.{ClientErr}
+use Rattle.vt_client.specs.Clients.{ClientState, AsksRequest}
 use Rattle.vt_client.specs.Exchanges.{Wanted}
 use Rattle.vt_client.specs.Members.{LinkOf}
 use Rattle.vt_client.specs.Stores.{DoesOnce, IsToldAs}
@@ -18,7 +18,7 @@ module _ {L T : Type 0} (link : LinkOf L) (score_of : List ℕ → List ℕ) (w 
     pub refused : after.refused ≡ c.refused
     pub sent : after.sent ≡ c.sent
 
-  pub kept : (result : Result T ClientErr) → Asks link score_of w c after result → Keeps
+  pub kept : (result : Result T ClientErr) → AsksRequest link score_of w c after result → Keeps
   kept result asks = elim (cases_Bool c.spent) [
     | inl spent ↦
         let same = asks.untouched spent in
@@ -37,7 +37,7 @@ module _ {L T : Type 0} (link : LinkOf L) (score_of : List ℕ → List ℕ) (w 
   ]
 
   -- it was answered, behind which so many blocks were sent
-  pub gave : (value : T) (sent : ℕ) → Asks link score_of w c after (Ok value)
+  pub gave : (value : T) (sent : ℕ) → AsksRequest link score_of w c after (Ok value)
       → DoesOnce link score_of w c (record after { sent = sent }) (Ok value)
   gave value sent asks = record {
     result = Ok value;
@@ -53,12 +53,12 @@ module _ {L T : Type 0} (link : LinkOf L) (score_of : List ℕ → List ℕ) (w 
 
   module _ (why : ClientErr) (err : BlockErr) (told : IsToldAs why err) (c' : ClientState L)
       (left : c' ≡ record after {
-        counts = counted (Some err) after.counts;
+        counts = with_refusal (Some err) after.counts;
         refused = option_or after.refused (Some why);
-      }) (asks : Asks link score_of w c after (Err why)) where
-    pub refused_counts : c'.counts ≡ counted (Some err) c.counts
+      }) (asks : AsksRequest link score_of w c after (Err why)) where
+    pub refused_counts : c'.counts ≡ with_refusal (Some err) c.counts
     refused_counts = ap (λ (s : ClientState L). s.counts) left
-        ∙ ap (counted (Some err)) (kept (Err why) asks).counts
+        ∙ ap (with_refusal (Some err)) (kept (Err why) asks).counts
 
     pub refused_sent : c'.sent ≡ c.sent
     refused_sent = ap (λ (s : ClientState L). s.sent) left ∙ (kept (Err why) asks).sent

@@ -6,10 +6,10 @@ use Rattle.vt_base.specs.declared.TheConstants.{MAX_BLOCK}
 use Rattle.vt_base.specs.declared.score.Score.{Score}
 use Rattle.vt_tree.specs.Calls.{Counts}
 use Rattle.vt_wire.specs.Messages.{asked}
-use Rattle.vt_client.specs.declared.err.ClientErr.{ClientErr}
-use Rattle.vt_client.specs.declared.err.ClientErr.TheVariants as errs
-use Rattle.vt_client.specs.declared.err.Parted.{Parted}
-use Rattle.vt_client.specs.Exchanges.{Moves, Wanted, Answers, traffic_of}
+use Rattle.vt_client.specs.declared.error.ClientErr.{ClientErr}
+use Rattle.vt_client.specs.declared.error.ClientErr.TheVariants as errs
+use Rattle.vt_client.specs.declared.error.LinkError.{LinkError}
+use Rattle.vt_client.specs.Exchanges.{MovesBytes, Wanted, AnswersCall, traffic_of}
 use Rattle.vt_client.specs.Members.{LinkOf}
 
 -- The link; the tag of the next request; whether it is spent; and of its calls as a store of blocks
@@ -26,8 +26,8 @@ pub record ClientState (L : Type 0) : Type 0 where
 -- ---- what is wanted of a server
 
 -- the block of a type and score
-abbrev pub block_of : (score : List ℕ) (kind : ℕ) → Wanted (List ℕ)
-block_of score kind = record {
+abbrev pub wanted_block : (score : List ℕ) (kind : ℕ) → Wanted (List ℕ)
+wanted_block score kind = record {
   request = t_ask (read score kind MAX_BLOCK);
   reply = r_read;
   score = Some score;
@@ -112,10 +112,10 @@ next_tag tag = (tag + 1) % 256
 
 -- One request went out under the client's tag, and its one reply came in. A spent client touches
 -- nothing, and says so.
-pub record Asks {L T : Type 0} (link : LinkOf L) (score_of : List ℕ → List ℕ) (w : Wanted T)
+pub record AsksRequest {L T : Type 0} (link : LinkOf L) (score_of : List ℕ → List ℕ) (w : Wanted T)
     (c c' : ClientState L) (result : Result T ClientErr) : Type 0 where
   pub answers : IsTrue link.tells → c.spent ≡ false
-      → Answers score_of c.tag w (traffic_of link c.link) (traffic_of link c'.link) result
+      → AnswersCall score_of c.tag w (traffic_of link c.link) (traffic_of link c'.link) result
   pub sides : CountsSides link c.link c'.link result
   pub refuses : IfErr result (MayRefuse w)
   pub spent : IsErrOf result errs.Spent ↔ (c.spent ≡ true)
@@ -130,13 +130,13 @@ pub record Asks {L T : Type 0} (link : LinkOf L) (score_of : List ℕ → List �
 
 -- A goodbye went out, to which there is no reply, and the link is given back. It is given back too
 -- where the client is spent, and where the write failed, which may have written a front of it.
-abbrev pub SaysGoodbye : {L : Type 0} → LinkOf L → ClientState L → Result L (Parted L) → Type 0
+abbrev pub SaysGoodbye : {L : Type 0} → LinkOf L → ClientState L → Result L (LinkError L) → Type 0
 SaysGoodbye link c (Ok l) = (c.spent ≡ false) × CountsSides {T = Unit {0}} link c.link l (Ok tt)
-    × (IsTrue link.tells → Moves (traffic_of link c.link) (traffic_of link l)
+    × (IsTrue link.tells → MovesBytes (traffic_of link c.link) (traffic_of link l)
     (asked c.tag t_goodbye) [])
 SaysGoodbye link c (Err parted) =
     ((c.spent ≡ true) × (parted ≡ record { link = c.link; why = errs.Spent }))
     ⊎ ((c.spent ≡ false) × (parted.why ≡ errs.WriteFault)
     × CountsSides {T = Unit {0}} link c.link parted.link (Err errs.WriteFault)
-    × (IsTrue link.tells → (n : ℕ) × Moves (traffic_of link c.link)
+    × (IsTrue link.tells → (n : ℕ) × MovesBytes (traffic_of link c.link)
     (traffic_of link parted.link) (take n (asked c.tag t_goodbye)) []))

@@ -4,8 +4,8 @@ use Rattle.vt_base.specs.Protocol.{TMessage, RMessage, r_ping, r_hello, r_read, 
 use Rattle.vt_wire.specs.Awaited.{IsWanted, IsWrongAt}
 use Rattle.vt_wire.specs.Frames.{IsFrame, IsPartial}
 use Rattle.vt_wire.specs.Messages.{asked, request_type, reply_type, SpellsReply, FitsReply}
-use Rattle.vt_client.specs.declared.err.ClientErr.{ClientErr}
-use Rattle.vt_client.specs.declared.err.ClientErr.TheVariants as errs
+use Rattle.vt_client.specs.declared.error.ClientErr.{ClientErr}
+use Rattle.vt_client.specs.declared.error.ClientErr.TheVariants as errs
 use Rattle.vt_client.specs.Members.{LinkOf}
 
 -- ---- a link that tells
@@ -20,7 +20,7 @@ abbrev pub traffic_of : {L : Type 0} → LinkOf L → L → Traffic
 traffic_of link l = record { came = link.given l; left = link.left l; sent = link.written l }
 
 -- from one moment to another these bytes went out, and those came in
-pub record Moves (before after : Traffic) (out taken : List ℕ) : Type 0 where
+pub record MovesBytes (before after : Traffic) (out taken : List ℕ) : Type 0 where
   pub sent : after.sent ≡ before.sent ++ out
   pub came : after.came ≡ before.came ++ taken
   pub left : before.left ≡ taken ++ after.left
@@ -49,26 +49,26 @@ told_score score_of (r_error text) = None
 
 -- What a reply comes to: the value that it gives, the text of an Rerror, or a score that isn't the
 -- one wanted. Memory may run out over it.
-abbrev pub Judges : {T : Type 0} → (score_of : List ℕ → List ℕ) → Wanted T → RMessage
+abbrev pub JudgesReply : {T : Type 0} → (score_of : List ℕ → List ℕ) → Wanted T → RMessage
     → Result T ClientErr → Type 0
-Judges score_of w reply (Ok value) =
+JudgesReply score_of w reply (Ok value) =
     (reply ≡ w.reply value) × (told_score score_of reply ≡ w.score)
-Judges score_of w reply (Err (errs.Remote text)) = reply ≡ r_error text
-Judges score_of w reply (Err (errs.WrongScore want found)) =
+JudgesReply score_of w reply (Err (errs.Remote text)) = reply ≡ r_error text
+JudgesReply score_of w reply (Err (errs.WrongScore want found)) =
     (w.score ≡ Some want.0) × (told_score score_of reply ≡ Some found.0) × (want.0 ≢ found.0)
-Judges score_of w reply (Err errs.NoMemory) = ⊤
-Judges score_of w reply (Err errs.ReadFault) = ⊥
-Judges score_of w reply (Err errs.WriteFault) = ⊥
-Judges score_of w reply (Err errs.Cut) = ⊥
-Judges score_of w reply (Err (errs.BadReply place)) = ⊥
-Judges score_of w reply (Err errs.NoVersion) = ⊥
-Judges score_of w reply (Err errs.Spent) = ⊥
+JudgesReply score_of w reply (Err errs.NoMemory) = ⊤
+JudgesReply score_of w reply (Err errs.ReadFault) = ⊥
+JudgesReply score_of w reply (Err errs.WriteFault) = ⊥
+JudgesReply score_of w reply (Err errs.Cut) = ⊥
+JudgesReply score_of w reply (Err (errs.BadReply place)) = ⊥
+JudgesReply score_of w reply (Err errs.NoVersion) = ⊥
+JudgesReply score_of w reply (Err errs.Spent) = ⊥
 
 -- ---- a request and its reply
 
 -- The frame is a reply under this tag: one of the type that is wanted, or an Rerror, with no more
 -- bytes than a block.
-pub record IsReply (tag wanted : ℕ) (reply : RMessage) (frame : List ℕ) : Type 0 where
+pub record IsWantedReply (tag wanted : ℕ) (reply : RMessage) (frame : List ℕ) : Type 0 where
   pub spelled : SpellsReply tag reply frame
   pub type_wanted : IsWanted wanted (reply_type reply)
   pub fits : FitsReply reply
@@ -77,14 +77,14 @@ pub record IsReply (tag wanted : ℕ) (reply : RMessage) (frame : List ℕ) : Ty
 pub record Exchanges (before after : Traffic) (tag : ℕ) (m : TMessage) (reply : RMessage)
     : Type 0 where
   pub frame : List ℕ
-  pub is_reply : IsReply tag (awaited m) reply frame
-  pub moves : Moves before after (asked tag m) frame
+  pub is_reply : IsWantedReply tag (awaited m) reply frame
+  pub moves : MovesBytes before after (asked tag m) frame
 
 -- the request went out, and less than a whole frame came in
 pub record TakesPart (before after : Traffic) (tag : ℕ) (m : TMessage) : Type 0 where
   pub part : List ℕ
   pub partial : IsPartial part
-  pub moves : Moves before after (asked tag m) part
+  pub moves : MovesBytes before after (asked tag m) part
 
 -- the request went out, and a whole frame came in that is no reply to it
 pub record TakesWrong (before after : Traffic) (tag : ℕ) (m : TMessage) (place : ℕ) : Type 0 where
@@ -92,27 +92,28 @@ pub record TakesWrong (before after : Traffic) (tag : ℕ) (m : TMessage) (place
   pub body : List ℕ
   pub is_frame : IsFrame frame body
   pub wrong : IsWrongAt tag (awaited m) body place
-  pub moves : Moves before after (asked tag m) frame
+  pub moves : MovesBytes before after (asked tag m) frame
 
 -- No reply came, and why: the link failed, where a failed write may have written a front of the
 -- request; what comes in ended; or something is wrong in what came.
-abbrev pub Fails : (before after : Traffic) (tag : ℕ) (m : TMessage) → ClientErr → Type 0
-Fails before after tag m errs.ReadFault = TakesPart before after tag m
-Fails before after tag m errs.WriteFault =
-    (n : ℕ) × Moves before after (take n (asked tag m)) []
-Fails before after tag m errs.Cut = TakesPart before after tag m × (after.left ≡ [])
-Fails before after tag m (errs.BadReply place) = TakesWrong before after tag m place
-Fails before after tag m (errs.Remote text) = ⊥
-Fails before after tag m (errs.WrongScore want found) = ⊥
-Fails before after tag m errs.NoVersion = ⊥
-Fails before after tag m errs.Spent = ⊥
-Fails before after tag m errs.NoMemory = ⊥
+abbrev pub FailsWithoutReply : (before after : Traffic) (tag : ℕ) (m : TMessage) → ClientErr
+    → Type 0
+FailsWithoutReply before after tag m errs.ReadFault = TakesPart before after tag m
+FailsWithoutReply before after tag m errs.WriteFault =
+    (n : ℕ) × MovesBytes before after (take n (asked tag m)) []
+FailsWithoutReply before after tag m errs.Cut = TakesPart before after tag m × (after.left ≡ [])
+FailsWithoutReply before after tag m (errs.BadReply place) = TakesWrong before after tag m place
+FailsWithoutReply before after tag m (errs.Remote text) = ⊥
+FailsWithoutReply before after tag m (errs.WrongScore want found) = ⊥
+FailsWithoutReply before after tag m errs.NoVersion = ⊥
+FailsWithoutReply before after tag m errs.Spent = ⊥
+FailsWithoutReply before after tag m errs.NoMemory = ⊥
 
 -- A call for which this was wanted, under this tag, answers so: the reply came, and this is what it
 -- comes to; or none came.
-abbrev pub Answers : {T : Type 0} → (score_of : List ℕ → List ℕ) → (tag : ℕ) → Wanted T
+abbrev pub AnswersCall : {T : Type 0} → (score_of : List ℕ → List ℕ) → (tag : ℕ) → Wanted T
     → (before after : Traffic) → Result T ClientErr → Type 0
-Answers score_of tag w before after result =
+AnswersCall score_of tag w before after result =
     ((reply : RMessage) × Exchanges before after tag w.request reply
-    × Judges score_of w reply result)
-    ⊎ IsErrAnd result (Fails before after tag w.request)
+    × JudgesReply score_of w reply result)
+    ⊎ IsErrAnd result (FailsWithoutReply before after tag w.request)

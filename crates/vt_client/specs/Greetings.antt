@@ -4,9 +4,9 @@ use Rattle.vt_base.specs.Protocol.{t_hello, r_hello}
 use Rattle.vt_wire.specs.Lines.{line_of}
 use Rattle.vt_wire.specs.declared.line.Line.{Line}
 use Rattle.vt_wire.specs.declared.line.Line.TheVariants.{Whole, Bad, More}
-use Rattle.vt_client.specs.declared.err.ClientErr.{ClientErr}
-use Rattle.vt_client.specs.declared.err.ClientErr.TheVariants as errs
-use Rattle.vt_client.specs.Exchanges.{Traffic, Moves, Wanted, Answers}
+use Rattle.vt_client.specs.declared.error.ClientErr.{ClientErr}
+use Rattle.vt_client.specs.declared.error.ClientErr.TheVariants as errs
+use Rattle.vt_client.specs.Exchanges.{Traffic, MovesBytes, Wanted, AnswersCall}
 
 -- what this client says first
 abbrev pub client_line : List ℕ
@@ -30,26 +30,26 @@ abbrev pub LacksVersion : (line : List ℕ) → Type 0
 LacksVersion line = OffersVersion false line ⊎ ((place : ℕ) × IsLineSo line (Bad place))
 
 -- the lines went over the link, of which the server's offers the version
-pub record Begins (before after : Traffic) : Type 0 where
+pub record ExchangesLines (before after : Traffic) : Type 0 where
   pub line : List ℕ
   pub offers : OffersVersion true line
-  pub moves : Moves before after client_line line
+  pub moves : MovesBytes before after client_line line
 
 -- this client's line went out, and less than a line came in
 pub record TakesPartOfLine (before after : Traffic) : Type 0 where
   pub part : List ℕ
   pub partial : line_of part ≡ More
-  pub moves : Moves before after client_line part
+  pub moves : MovesBytes before after client_line part
 
 -- the greeting ends at the lines; memory may have run out before anything was done
 abbrev pub EndsAtLine : (before after : Traffic) → Result (Unit {0}) ClientErr → Type 0
 EndsAtLine before after (Ok done) = ⊥
 EndsAtLine before after (Err errs.ReadFault) = TakesPartOfLine before after
 EndsAtLine before after (Err errs.WriteFault) =
-    (n : ℕ) × Moves before after (take n client_line) []
+    (n : ℕ) × MovesBytes before after (take n client_line) []
 EndsAtLine before after (Err errs.Cut) = TakesPartOfLine before after × (after.left ≡ [])
 EndsAtLine before after (Err errs.NoVersion) =
-    (line : List ℕ) × LacksVersion line × Moves before after client_line line
+    (line : List ℕ) × LacksVersion line × MovesBytes before after client_line line
 EndsAtLine before after (Err errs.NoMemory) = after ≡ before
 EndsAtLine before after (Err (errs.Remote text)) = ⊥
 EndsAtLine before after (Err (errs.WrongScore want found)) = ⊥
@@ -74,5 +74,5 @@ abbrev pub Greets : (score_of : List ℕ → List ℕ) → (before after : Traff
     → Result (Unit {0}) ClientErr → Type 0
 Greets score_of before after result =
     EndsAtLine before after result
-    ⊎ ((between : Traffic) × Begins before between
-    × Answers score_of 0 welcome between after result)
+    ⊎ ((between : Traffic) × ExchangesLines before between
+    × AnswersCall score_of 0 welcome between after result)

@@ -2,12 +2,12 @@
 use Rattle.std.specs.Prelude.{ℕ, ◌≡◌, ◌⊎◌, ⊤, Option, Some, Result, Ok, Err, List, codes}
 use Rattle.std.specs.Option.{option_or}
 use Rattle.vt_base.specs.Faults.{one_more}
-use Rattle.vt_tree.specs.declared.err.BlockErr.{BlockErr}
-use Rattle.vt_tree.specs.declared.err.BlockErr.TheVariants as blocks
-use Rattle.vt_tree.specs.Calls.{Call, get, put, sync, refusal_of, counted}
-use Rattle.vt_client.specs.declared.err.ClientErr.{ClientErr}
-use Rattle.vt_client.specs.declared.err.ClientErr.TheVariants as errs
-use Rattle.vt_client.specs.Clients.{ClientState, Asks, block_of, taking_in, committing}
+use Rattle.vt_tree.specs.declared.error.BlockErr.{BlockErr}
+use Rattle.vt_tree.specs.declared.error.BlockErr.TheVariants as blocks
+use Rattle.vt_tree.specs.Calls.{Call, get, put, sync, refusal_of, with_refusal}
+use Rattle.vt_client.specs.declared.error.ClientErr.{ClientErr}
+use Rattle.vt_client.specs.declared.error.ClientErr.TheVariants as errs
+use Rattle.vt_client.specs.Clients.{ClientState, AsksRequest, wanted_block, taking_in, committing}
 use Rattle.vt_client.specs.Exchanges.{Wanted}
 use Rattle.vt_client.specs.Members.{LinkOf}
 
@@ -43,9 +43,9 @@ abbrev pub IsToldAs : ClientErr → BlockErr → Type 0
 IsToldAs why err = (err ≡ err_of why) ⊎ (HasText why × (err ≡ blocks.NoMemory))
 
 -- the answer to a call of the store is that of the client
-abbrev pub StandsFor : {T : Type 0} → Result T BlockErr → Result T ClientErr → Type 0
-StandsFor (Ok value) result = result ≡ Ok value
-StandsFor (Err err) result = (why : ClientErr) × (result ≡ Err why) × IsToldAs why err
+abbrev pub AnswersAsClient : {T : Type 0} → Result T BlockErr → Result T ClientErr → Type 0
+AnswersAsClient (Ok value) result = result ≡ Ok value
+AnswersAsClient (Err err) result = (why : ClientErr) × (result ≡ Err why) × IsToldAs why err
 
 -- why the first refusal was that wasn't taken out, after an answer of the client
 abbrev pub refused_after : {T : Type 0} → Result T ClientErr → Option ClientErr → Option ClientErr
@@ -65,28 +65,28 @@ sent_after (sync answer) n = n
 pub record DoesOnce {L T : Type 0} (link : LinkOf L) (score_of : List ℕ → List ℕ) (w : Wanted T)
     (c c' : ClientState L) (answer : Result T BlockErr) : Type 0 where
   pub result : Result T ClientErr
-  pub stands : StandsFor answer result
+  pub stands : AnswersAsClient answer result
   pub after : ClientState L
-  pub asked : Asks link score_of w c after result
+  pub asked : AsksRequest link score_of w c after result
   pub is : c' ≡ record after {
     counts = c'.counts;
     refused = refused_after result c.refused;
     sent = c'.sent;
   }
 
-abbrev pub AsksServer : {L : Type 0} → LinkOf L → (score_of : List ℕ → List ℕ) → ClientState L
+abbrev pub AsksAsStore : {L : Type 0} → LinkOf L → (score_of : List ℕ → List ℕ) → ClientState L
     → Call → ClientState L → Type 0
-AsksServer link score_of c (get kind s answer) c' =
-    DoesOnce link score_of (block_of s kind) c c' answer
-AsksServer link score_of c (put b answer) c' =
+AsksAsStore link score_of c (get kind s answer) c' =
+    DoesOnce link score_of (wanted_block s kind) c c' answer
+AsksAsStore link score_of c (put b answer) c' =
     DoesOnce link score_of (taking_in score_of b.kind b.bytes) c c' answer
-AsksServer link score_of c (sync answer) c' =
+AsksAsStore link score_of c (sync answer) c' =
     DoesOnce link score_of committing c c' answer
 
 -- What a client does at a call of the store. Each failed call counts, each refused one, and each
 -- block that the server took in.
 pub record DoesAsClient {L : Type 0} (link : LinkOf L) (score_of : List ℕ → List ℕ)
     (c : ClientState L) (call : Call) (c' : ClientState L) : Type 0 where
-  pub asks : AsksServer link score_of c call c'
-  pub counts : c'.counts ≡ counted (refusal_of call) c.counts
+  pub asks : AsksAsStore link score_of c call c'
+  pub counts : c'.counts ≡ with_refusal (refusal_of call) c.counts
   pub sent : c'.sent ≡ sent_after call c.sent

@@ -9,9 +9,9 @@ use Rattle.vt_wire.specs.declared.line.Line.{Line}
 use Rattle.vt_wire.specs.declared.line.Line.TheVariants.{Whole, More, Bad}
 use Rattle.vt_wire.specs.declared.line.TheConstants.{MAX_LINE}
 use Rattle.vt_wire.specs.Messages.{asked}
-use Rattle.vt_client.specs.declared.err.ClientErr.{ClientErr}
-use Rattle.vt_client.specs.declared.err.ClientErr.TheVariants as errs
-use Rattle.vt_client.specs.Exchanges.{Traffic, Moves, Wanted, Judges, Fails, IsReply, awaited}
+use Rattle.vt_client.specs.declared.error.ClientErr.{ClientErr}
+use Rattle.vt_client.specs.declared.error.ClientErr.TheVariants as errs
+use Rattle.vt_client.specs.Exchanges.{Traffic, MovesBytes, Wanted, JudgesReply, FailsWithoutReply, IsWantedReply, awaited}
 use Rattle.vt_client.specs.Greetings.{OffersVersion, LacksVersion}
 
 -- the link failed while bytes were taken, or they ended
@@ -55,52 +55,52 @@ abbrev pub IsRemote : (text : List ℕ) → ClientErr → Type 0
 IsRemote text err = (err ≡ errs.Remote text) ⊎ (err ≡ errs.NoMemory)
 
 -- where what comes in ended, nothing is left of it
-abbrev pub EndsHere : (after : Traffic) → ClientErr → Type 0
-EndsHere after err = err ≡ errs.Cut → after.left ≡ []
+abbrev pub EndsWithNothingLeft : (after : Traffic) → ClientErr → Type 0
+EndsWithNothingLeft after err = err ≡ errs.Cut → after.left ≡ []
 
 -- fewer bytes came than were to come
 pub record Stops (len : ℕ) (before after : Traffic) (err : ClientErr) : Type 0 where
   pub part : List ℕ
   pub few : length part < len
-  pub moves : Moves before after [] part
-  pub ends : EndsHere after err
+  pub moves : MovesBytes before after [] part
+  pub ends : EndsWithNothingLeft after err
 
 -- so many bytes came in, and nothing went out
-abbrev pub TakesAll : (len : ℕ) (before after : Traffic) (taken : List ℕ)
+abbrev pub TakesInAll : (len : ℕ) (before after : Traffic) (taken : List ℕ)
     → Result (Unit {0}) ClientErr → Type 0
-TakesAll len before after taken (Ok done) = Moves before after [] taken
-TakesAll len before after taken (Err err) = Stops len before after err
+TakesInAll len before after taken (Ok done) = MovesBytes before after [] taken
+TakesInAll len before after taken (Err err) = Stops len before after err
 
 -- one byte came in, or none
 abbrev pub TakesByte : (before after : Traffic) → Result ℕ ClientErr → Type 0
-TakesByte before after (Ok byte) = Moves before after [] (byte ∷ [])
-TakesByte before after (Err err) = Moves before after [] [] × EndsHere after err
+TakesByte before after (Ok byte) = MovesBytes before after [] (byte ∷ [])
+TakesByte before after (Err err) = MovesBytes before after [] [] × EndsWithNothingLeft after err
 
 -- less than a frame came in
 pub record StopsInFrame (before after : Traffic) (err : ClientErr) : Type 0 where
   pub part : List ℕ
   pub partial : IsPartial part
-  pub moves : Moves before after [] part
-  pub ends : EndsHere after err
+  pub moves : MovesBytes before after [] part
+  pub ends : EndsWithNothingLeft after err
 
 -- one frame came in, at the front of a buffer, and nothing went out
 abbrev pub TakesFrame : (before after : Traffic) (buf : List ℕ) → Result ℕ ClientErr → Type 0
-TakesFrame before after buf (Ok n) = Moves before after [] (take n buf)
+TakesFrame before after buf (Ok n) = MovesBytes before after [] (take n buf)
 TakesFrame before after buf (Err err) = StopsInFrame before after err
 
 -- the request went out, and one frame came in, at the front of a buffer
 abbrev pub TakesAnswer : (before after : Traffic) (tag : ℕ) (m : TMessage) (buf : List ℕ)
     → Result ℕ ClientErr → Type 0
-TakesAnswer before after tag m buf (Ok n) = Moves before after (asked tag m) (take n buf)
-TakesAnswer before after tag m buf (Err err) = Fails before after tag m err
+TakesAnswer before after tag m buf (Ok n) = MovesBytes before after (asked tag m) (take n buf)
+TakesAnswer before after tag m buf (Err err) = FailsWithoutReply before after tag m err
 
 -- What a frame comes to that came for the reply: it is the reply, which is judged, or something is
 -- wrong in it.
-abbrev pub Reads : {T : Type 0} → (score_of : List ℕ → List ℕ) → (tag : ℕ) → Wanted T
+abbrev pub ReadsReplyFrame : {T : Type 0} → (score_of : List ℕ → List ℕ) → (tag : ℕ) → Wanted T
     → (frame : List ℕ) → Result T ClientErr → Type 0
-Reads score_of tag w frame result =
-    ((reply : RMessage) × IsReply tag (awaited w.request) reply frame
-    × Judges score_of w reply result)
+ReadsReplyFrame score_of tag w frame result =
+    ((reply : RMessage) × IsWantedReply tag (awaited w.request) reply frame
+    × JudgesReply score_of w reply result)
     ⊎ ((place : ℕ) × (result ≡ Err (errs.BadReply place))
     × ((body : List ℕ) → IsFrame frame body → IsWrongAt tag (awaited w.request) body place))
 
@@ -108,8 +108,8 @@ Reads score_of tag w frame result =
 pub record StopsInLine (before after : Traffic) (err : ClientErr) : Type 0 where
   pub part : List ℕ
   pub partial : line_of part ≡ More
-  pub moves : Moves before after [] part
-  pub ends : EndsHere after err
+  pub moves : MovesBytes before after [] part
+  pub ends : EndsWithNothingLeft after err
 
 -- it is whole, and offers version 02
 abbrev pub offers_version : Line → Bool
@@ -120,9 +120,9 @@ offers_version (Bad place) = false
 -- the other side's line came in, and nothing went out
 abbrev pub TakesLine : (before after : Traffic) → Result (Unit {0}) ClientErr → Type 0
 TakesLine before after (Ok done) =
-    (line : List ℕ) × OffersVersion true line × Moves before after [] line
+    (line : List ℕ) × OffersVersion true line × MovesBytes before after [] line
 TakesLine before after (Err errs.NoVersion) =
-    (line : List ℕ) × LacksVersion line × Moves before after [] line
+    (line : List ℕ) × LacksVersion line × MovesBytes before after [] line
 TakesLine before after (Err err) = StopsInLine before after err
 
 -- these are the bytes of a line up to a newline, or so many that it is too long
@@ -136,5 +136,5 @@ pub record EndsLine (line : List ℕ) : Type 0 where
 
 -- such bytes came in, at the front of a buffer, and nothing went out
 abbrev pub TakesToNewline : (before after : Traffic) (buf : List ℕ) → Result ℕ ClientErr → Type 0
-TakesToNewline before after buf (Ok n) = Moves before after [] (take n buf)
+TakesToNewline before after buf (Ok n) = MovesBytes before after [] (take n buf)
 TakesToNewline before after buf (Err err) = StopsInLine before after err

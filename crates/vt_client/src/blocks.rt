@@ -24,14 +24,14 @@ impl<L: Link, S: Scorer + Drop> Scorer for Client<L, S> {
 impl<L: Link, S: Scorer + Drop> Client<L, S> {
     ghost use Rattle.std.specs.Prelude.{◌≡◌, Some};
     ghost use Rattle.std.specs.Option.{option_or};
-    ghost use Rattle.vt_tree.specs.Calls.{counted};
+    ghost use Rattle.vt_tree.specs.Calls.{with_refusal};
     ghost use Rattle.vt_client.specs.Stores.{IsToldAs};
 
     /// What a refusal is to who sees a store of blocks, counted; why the first was is kept.
     fn refuse(&mut self, alloc: Global, why: ClientErr) -> BlockErr
         ensures err { IsToldAs why result }
         ensures left { self.new ≡ record self.old {
-          counts = counted (Some result) self.old.counts;
+          counts = with_refusal (Some result) self.old.counts;
           refused = option_or self.old.refused (Some why);
         } }
     {

@@ -3,12 +3,12 @@
 ghost use Rattle.std.specs.Prelude.{◌≡◌, ◌≤◌, ℕ, List, IfOk, length};
 ghost use Rattle.vt_base.specs.declared.TheConstants.{MAX_BLOCK};
 ghost use Rattle.vt_wire.specs.Frames.{IsFrame};
-ghost use Rattle.vt_client.specs.Clients.{block_of, committing, spent_by, taking_in};
-ghost use Rattle.vt_client.specs.Taking.{Reads};
+ghost use Rattle.vt_client.specs.Clients.{wanted_block, committing, spent_by, taking_in};
+ghost use Rattle.vt_client.specs.Taking.{ReadsReplyFrame};
 
 use crate::exchange::{FRAME_MAX, exchange, remote, reply_in};
 use crate::greeting::say_hello;
-use crate::{ClientErr, Parted};
+use crate::{ClientErr, LinkError};
 use std::alloc::Global;
 use std::marker::Model;
 use vt_base::{Bytes, Kind, MAX_BLOCK, Score, Scorer};
@@ -57,14 +57,14 @@ impl<L: Link, S: Scorer + Drop> Client<L, S> {
     ghost use Rattle.std.specs.Prelude.{◌≡◌, ◌≢◌, ◌≤◌, ◌+◌, ◌%◌, true, false, None, Ok, Err, IsTrue};
     ghost use Rattle.std.specs.Prelude.{IfOk, IfErr, MatchResult, length};
     ghost use Rattle.vt_base.specs.declared.TheConstants.{MAX_BLOCK};
-    ghost use Rattle.vt_client.specs.Clients.{Asks, CountsSides, SaysGoodbye, block_of, committing};
+    ghost use Rattle.vt_client.specs.Clients.{AsksRequest, CountsSides, SaysGoodbye, wanted_block, committing};
     ghost use Rattle.vt_client.specs.Clients.{taking_in};
     ghost use Rattle.vt_client.specs.Exchanges.{traffic_of};
     ghost use Rattle.vt_client.specs.Greetings.{Greets, MayEndGreeting};
 
     /// Greets the server at the other end: puts this client's line, takes the server's, and then
     /// says hello, under tag 0. A refusal gives the link back.
-    pub fn greet(alloc: Global, link: L, scorer: S) -> Result<Self, Parted<L>>
+    pub fn greet(alloc: Global, link: L, scorer: S) -> Result<Self, LinkError<L>>
         ensures greets { MatchResult result
             (λ client. IsTrue L.tells → Greets S.score_of (traffic_of L.Link link)
             (traffic_of L.Link client.link) (Ok tt))
@@ -86,7 +86,7 @@ impl<L: Link, S: Scorer + Drop> Client<L, S> {
         let mut link = link;
         let Ok(mut buf) = vec![in alloc; 0u8; FRAME_MAX] else {
             let why = ClientErr::NoMemory;
-            return Err(Parted { link, why });
+            return Err(LinkError { link, why });
         };
         match say_hello(alloc, &mut link, &mut buf) {
             Ok(()) => Ok(Client {
@@ -100,13 +100,13 @@ impl<L: Link, S: Scorer + Drop> Client<L, S> {
                 refused: None,
                 sent: 0,
             }),
-            Err(why) => Err(Parted { link, why }),
+            Err(why) => Err(LinkError { link, why }),
         }
     }
 
     /// The block of this type and score. Whatever the server sends, the score is that of the bytes.
     pub fn get(&mut self, alloc: Global, kind: Kind, score: &Score) -> Result<Bytes, ClientErr>
-        ensures asks { Asks L.Link S.score_of (block_of score.now.0 kind)
+        ensures asks { AsksRequest L.Link S.score_of (wanted_block score.now.0 kind)
             self.old self.new result }
         ensures scored { IfOk result (λ bytes. S.score_of bytes ≡ score.now.0) }
         ensures most { IfOk result (λ bytes. length bytes ≤ MAX_BLOCK) }
@@ -133,7 +133,7 @@ impl<L: Link, S: Scorer + Drop> Client<L, S> {
     /// Hands a block in, and gives its score, which the server must have told.
     pub fn put(&mut self, alloc: Global, kind: Kind, bytes: &[u8]) -> Result<Score, ClientErr>
         requires { length bytes.now ≤ MAX_BLOCK }
-        ensures asks { Asks L.Link S.score_of (taking_in S.score_of kind bytes.now)
+        ensures asks { AsksRequest L.Link S.score_of (taking_in S.score_of kind bytes.now)
             self.old self.new result }
         ensures scored { IfOk result (λ score. score.0 ≡ S.score_of bytes.now) }
     {
@@ -157,7 +157,7 @@ impl<L: Link, S: Scorer + Drop> Client<L, S> {
 
     /// After it, the server has committed what was handed in.
     pub fn sync(&mut self, alloc: Global) -> Result<(), ClientErr>
-        ensures { Asks L.Link S.score_of committing self.old self.new result }
+        ensures { AsksRequest L.Link S.score_of committing self.old self.new result }
     {
         if self.spent {
             return Err(ClientErr::Spent);
@@ -174,7 +174,7 @@ impl<L: Link, S: Scorer + Drop> Client<L, S> {
 
     /// Says goodbye, to which there is no reply, and gives the link back, also beside a refusal: a
     /// spent client's, or a failed write.
-    pub fn goodbye(self) -> Result<L, Parted<L>>
+    pub fn goodbye(self) -> Result<L, LinkError<L>>
         ensures { SaysGoodbye L.Link self result }
     {
         let Client {
@@ -191,7 +191,7 @@ impl<L: Link, S: Scorer + Drop> Client<L, S> {
         let mut link = link;
         if spent {
             let why = ClientErr::Spent;
-            return Err(Parted { link, why });
+            return Err(LinkError { link, why });
         }
         let mut frame = [0; 4];
         let len = encode_request(tag, &Request::Goodbye, &mut frame);
@@ -199,7 +199,7 @@ impl<L: Link, S: Scorer + Drop> Client<L, S> {
             Ok(()) => Ok(link),
             Err(_) => {
                 let why = ClientErr::WriteFault;
-                Err(Parted { link, why })
+                Err(LinkError { link, why })
             }
         }
     }
@@ -241,7 +241,7 @@ fn block_in<S: Scorer>(
 ) -> Result<Bytes, ClientErr>
     requires { (body : List ℕ) × IsFrame frame.now body }
     ensures reads { (kind : ℕ) →
-        Reads S.score_of tag (block_of want.0 kind) frame.now result }
+        ReadsReplyFrame S.score_of tag (wanted_block want.0 kind) frame.now result }
     ensures scored { IfOk result (λ bytes. S.score_of bytes ≡ want.0) }
     ensures most { IfOk result (λ bytes. length bytes ≤ MAX_BLOCK) }
 {
@@ -263,7 +263,7 @@ fn score_in(alloc: Global, frame: &[u8], tag: u8, want: Score) -> Result<Score, 
     requires { (body : List ℕ) × IsFrame frame.now body }
     ensures reads { (score_of : List ℕ → List ℕ) (kind : ℕ) (bytes : List ℕ)
         → want.0 ≡ score_of bytes
-        → Reads score_of tag (taking_in score_of kind bytes) frame.now result }
+        → ReadsReplyFrame score_of tag (taking_in score_of kind bytes) frame.now result }
     ensures scored { IfOk result (λ score. score ≡ want) }
 {
     match reply_in(frame, tag, WRITE)? {
@@ -277,7 +277,8 @@ fn score_in(alloc: Global, frame: &[u8], tag: u8, want: Score) -> Result<Score, 
 /// Whether a frame that came for the reply says that all is committed.
 fn synced_in(alloc: Global, frame: &[u8], tag: u8) -> Result<(), ClientErr>
     requires { (body : List ℕ) × IsFrame frame.now body }
-    ensures { (score_of : List ℕ → List ℕ) → Reads score_of tag committing frame.now result }
+    ensures { (score_of : List ℕ → List ℕ)
+        → ReadsReplyFrame score_of tag committing frame.now result }
 {
     match reply_in(frame, tag, SYNC)? {
         Reply::Error(text) => Err(remote(alloc, text)),

@@ -7,13 +7,13 @@ ghost use Rattle.vt_wire.specs.Frames.{IsFrame, IsPartial};
 ghost use Rattle.vt_wire.specs.Messages.{FitsRequest};
 ghost use Rattle.vt_wire.specs.Views.{message_of, reply_of};
 ghost use Rattle.vt_client.specs.Clients.{CountsSides};
-ghost use Rattle.vt_client.specs.Exchanges.{IsReply, traffic_of};
-ghost use Rattle.vt_client.specs.Taking.{IsOfExchange, IsOfTaking, IsRemote, TakesAll, TakesAnswer, TakesFrame};
+ghost use Rattle.vt_client.specs.Exchanges.{IsWantedReply, traffic_of};
+ghost use Rattle.vt_client.specs.Taking.{IsOfExchange, IsOfTaking, IsRemote, TakesInAll, TakesAnswer, TakesFrame};
 
 use crate::ClientErr;
 use std::alloc::Global;
+use vt_base::fields::u16_at;
 use vt_base::{MAX_BLOCK, Text};
-use vt_fields::u16_at;
 use vt_out::Link;
 use vt_wire::{Reply, Request, decode_reply, encode_request};
 
@@ -28,7 +28,7 @@ const READ: u8 = 13;
 
 /// Fills the buffer from the link.
 pub(crate) fn take_all<L: Link>(link: &mut L, buf: &mut [u8]) -> Result<(), ClientErr>
-    ensures taken { IsTrue L.tells → TakesAll (length buf.old)
+    ensures taken { IsTrue L.tells → TakesInAll (length buf.old)
         (traffic_of L.Link link.old) (traffic_of L.Link link.new) buf.new result }
     ensures about { IfErr result IsOfTaking }
     ensures sides { CountsSides L.Link link.old link.new result }
@@ -90,7 +90,7 @@ pub(crate) fn exchange<L: Link>(
 /// an Rerror.
 pub(crate) fn reply_in(frame: &[u8], tag: u8, wanted: u8) -> Result<Reply<'_>, ClientErr>
     requires { (body : List ℕ) × IsFrame frame.now body }
-    ensures ok { IfOk result (λ reply. IsReply tag wanted (reply_of reply) frame.now) }
+    ensures ok { IfOk result (λ reply. IsWantedReply tag wanted (reply_of reply) frame.now) }
     ensures bad { IfErr result (λ err. (place : ℕ) × (err ≡ ClientErr.BadReply place)
         × ((body : List ℕ) → IsFrame frame.now body → IsWrongAt tag wanted body place)) }
 {

@@ -6,7 +6,7 @@ ghost use Rattle.vt_client.specs.Clients.{CountsSides};
 ghost use Rattle.vt_client.specs.Exchanges.{traffic_of};
 ghost use Rattle.vt_client.specs.Greetings.{Greets, MayEndGreeting, welcome};
 ghost use Rattle.vt_client.specs.Taking.{EndsLine, IsOfLine, IsOfTaking, TakesByte, TakesLine};
-ghost use Rattle.vt_client.specs.Taking.{Reads, TakesToNewline, offers_version};
+ghost use Rattle.vt_client.specs.Taking.{ReadsReplyFrame, TakesToNewline, offers_version};
 
 use crate::ClientErr;
 use crate::exchange::{exchange, remote, reply_in, take_all};
@@ -43,7 +43,7 @@ pub(crate) fn say_hello<L: Link>(
 /// Whether a frame says welcome.
 fn welcome_in(alloc: Global, frame: &[u8]) -> Result<(), ClientErr>
     requires { (body : List ℕ) × IsFrame frame.now body }
-    ensures { (score_of : List ℕ → List ℕ) → Reads score_of 0 welcome frame.now result }
+    ensures { (score_of : List ℕ → List ℕ) → ReadsReplyFrame score_of 0 welcome frame.now result }
 {
     match reply_in(frame, 0, HELLO)? {
         Reply::Error(text) => Err(remote(alloc, text)),

@@ -4,10 +4,10 @@
 
 mod blocks;
 mod client;
-mod err;
+mod error;
 mod exchange;
 mod greeting;
 pub mod laws;
 
 pub use client::Client;
-pub use err::{ClientErr, Parted};
+pub use error::{ClientErr, LinkError};

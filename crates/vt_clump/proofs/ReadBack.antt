@@ -10,14 +10,14 @@ use Rattle.byteorder.specs.Endian.{big_number, big_bytes}
 use Rattle.byteorder.specs.Numbers.{big_number-reads_back, big_from-lt}
 use Rattle.vt_base.specs.Bytes.{AreBytes}
 use Rattle.vt_base.specs.Kind.{is_kind, IsKind}
-use Rattle.vt_fields.specs.Fields.{drop-field, drop-byte, drop-number}
+use Rattle.vt_base.specs.Fields.{drop-field, drop-byte, drop-number}
 use Rattle.vt_clump.specs.declared.reading.ClumpBad.{ClumpBad}
 use Rattle.vt_clump.specs.declared.reading.ClumpBad.TheVariants.{Score as BadScore, NoMemory}
 use Rattle.vt_clump.specs.declared.reading.Clump.{Clump}
 use Rattle.vt_clump.specs.declared.packed.Packed.{Packed}
-use Rattle.vt_clump.specs.Clumps.{IsRead, IsPacked, stored_of}
-use Rattle.vt_clump.specs.Spelling.{Stored, IsStored, spelled, sizes, size_in, uncsize_in, stored_in, BeginsWith}
-use Rattle.vt_clump.specs.Faults.{bad_encoding, bad_size, bad_header, other_score, bad_score, or_else, first_bad, IsRefusal}
+use Rattle.vt_clump.specs.Clumps.{IsClumpRead, IsPacked, stored_of}
+use Rattle.vt_clump.specs.Spelling.{Stored, IsStoredBlock, clump_bytes, sizes, size_in, uncsize_in, stored_in, BeginsWithClump}
+use Rattle.vt_clump.specs.Faults.{bad_encoding, bad_size, bad_header, other_score, bad_score, first_fault, first_bad_clump, IsClumpRefusal}
 
 -- no test of the header fails
 pub record Passes (bytes : List ℕ) : Type 0 where
@@ -49,7 +49,7 @@ none_then : (b : Bool) (bad : ClumpBad) (later : Option ClumpBad) → cond b (So
 none_then true bad later none = absurd (cc)
 none_then false bad later none = (refl, none)
 
-none_first : (first later : Option ClumpBad) → or_else first later ≡ None → (first ≡ None) × (later ≡ None)
+none_first : (first later : Option ClumpBad) → first_fault first later ≡ None → (first ≡ None) × (later ≡ None)
 none_first (Some bad) later none = absurd (cc)
 none_first None later none = (refl, none)
 
@@ -87,13 +87,13 @@ passed bytes none =
 abbrev behind_score : Stored → List ℕ → List ℕ
 behind_score s rest = 1 ∷ (s.creator ++ (big_bytes 4 s.time ++ (s.block ++ rest)))
 
-fields : (s : Stored) (rest : List ℕ) → spelled s ++ rest ≡ codes "VCLP" ++ (s.kind ∷ (sizes (length s.block) ++ (s.score ++ behind_score s rest)))
-unfolding spelled
+fields : (s : Stored) (rest : List ℕ) → clump_bytes s ++ rest ≡ codes "VCLP" ++ (s.kind ∷ (sizes (length s.block) ++ (s.score ++ behind_score s rest)))
+unfolding clump_bytes
 fields s rest = simp append_assoc
 
-module _ (score_of : List ℕ → List ℕ) (s : Stored) (rest : List ℕ) (is : IsStored score_of s) where
+module _ (score_of : List ℕ → List ℕ) (s : Stored) (rest : List ℕ) (is : IsStoredBlock score_of s) where
   abbrev bytes : List ℕ
-  bytes = spelled s ++ rest
+  bytes = clump_bytes s ++ rest
 
   at_9 : drop 9 bytes ≡ s.score ++ behind_score s rest
   at_9 = ap (λ (l : List ℕ). drop 9 l) (fields s rest)
@@ -146,7 +146,7 @@ module _ (score_of : List ℕ → List ℕ) (s : Stored) (rest : List ℕ) (is :
       )
 
   -- and no test fails
-  pub first_bad-spelled : first_bad score_of bytes ≡ None
+  pub first_bad-spelled : first_bad_clump score_of bytes ≡ None
   first_bad-spelled =
       let pass : Passes bytes = record {
         long = omega (arith, length-spelled);
@@ -158,12 +158,12 @@ module _ (score_of : List ℕ → List ℕ) (s : Stored) (rest : List ℕ) (is :
         most = omega (arith, size, is.most);
         inside = omega (arith, size, length-spelled);
       } in
-      ap (λ (first : Option ClumpBad). or_else first (bad_score score_of (stored_in bytes))) (passing bytes pass)
+      ap (λ (first : Option ClumpBad). first_fault first (bad_score score_of (stored_in bytes))) (passing bytes pass)
       ∙ ap (λ (t : Stored). bad_score score_of t) stored_in-spelled
       ∙ ap (λ (same : Bool). cond same None (Some (BadScore (record { 0 = s.score }) (record { 0 = score_of s.block })))) ((bytes_eq-Decides (score_of s.block) s.score).1 (sym is.scored))
 
 -- where no test of the header fails, what the fields say is spelled at the front
-pub spelled-stored_in : (file : List ℕ) → AreBytes file → Passes file → file ≡ spelled (stored_in file) ++ drop (38 + size_in file) file
+pub spelled-stored_in : (file : List ℕ) → AreBytes file → Passes file → file ≡ clump_bytes (stored_in file) ++ drop (38 + size_in file) file
 spelled-stored_in file are pass =
     let s = stored_in file in
     let rest : List ℕ = drop (38 + size_in file) file in
@@ -186,7 +186,7 @@ spelled-stored_in file are pass =
 
 -- and it is a clump where the score is that of the block
 pub stored_in-stored : (score_of : List ℕ → List ℕ) (file : List ℕ) → AreBytes file → Passes file
-    → (stored_in file).score ≡ score_of (stored_in file).block → IsStored score_of (stored_in file)
+    → (stored_in file).score ≡ score_of (stored_in file).block → IsStoredBlock score_of (stored_in file)
 stored_in-stored score_of file are pass scored = record {
   kind = pass.kind;
   scored = scored;
@@ -198,28 +198,28 @@ stored_in-stored score_of file are pass scored = record {
 }
 
 -- what begins with a clump
-module _ (score_of : List ℕ → List ℕ) (s : Stored) (file : List ℕ) (begins : BeginsWith score_of s file) where
+module _ (score_of : List ℕ → List ℕ) (s : Stored) (file : List ℕ) (begins : BeginsWithClump score_of s file) where
   pub begins_stored : stored_in file ≡ s
   begins_stored = ap stored_in begins.spelling.1 ∙ stored_in-spelled score_of s begins.spelling.0 begins.stored
 
-  pub begins_good : first_bad score_of file ≡ None
-  begins_good = ap (first_bad score_of) begins.spelling.1 ∙ first_bad-spelled score_of s begins.spelling.0 begins.stored
+  pub begins_good : first_bad_clump score_of file ≡ None
+  begins_good = ap (first_bad_clump score_of) begins.spelling.1 ∙ first_bad-spelled score_of s begins.spelling.0 begins.stored
 
-  pub begins_refused : (bad : ClumpBad) → IsRefusal (first_bad score_of file) bad → bad ≡ NoMemory
+  pub begins_refused : (bad : ClumpBad) → IsClumpRefusal (first_bad_clump score_of file) bad → bad ≡ NoMemory
   begins_refused bad (inl fault) = absurd (cc (begins_good, fault))
   begins_refused bad (inr memory) = memory.1
 
-pub one_stored : (score_of : List ℕ → List ℕ) (s t : Stored) (file : List ℕ) → BeginsWith score_of s file → BeginsWith score_of t file → s ≡ t
+pub one_stored : (score_of : List ℕ → List ℕ) (s t : Stored) (file : List ℕ) → BeginsWithClump score_of s file → BeginsWithClump score_of t file → s ≡ t
 one_stored score_of s t file one other = sym (begins_stored score_of s file one) ∙ begins_stored score_of t file other
 
-pub read_as : (s t : Stored) (clump : Clump) → s ≡ t → IsRead s clump → IsRead t clump
-read_as s t clump same read = subst (λ (u : Stored). IsRead u clump) same read
+pub read_as : (s t : Stored) (clump : Clump) → s ≡ t → IsClumpRead s clump → IsClumpRead t clump
+read_as s t clump same read = subst (λ (u : Stored). IsClumpRead u clump) same read
 
-pub header_fault : (score_of : List ℕ → List ℕ) (file : List ℕ) (bad : ClumpBad) → bad_header file ≡ Some bad → first_bad score_of file ≡ Some bad
-header_fault score_of file bad fault = ap (λ (first : Option ClumpBad). or_else first (bad_score score_of (stored_in file))) fault
+pub header_fault : (score_of : List ℕ → List ℕ) (file : List ℕ) (bad : ClumpBad) → bad_header file ≡ Some bad → first_bad_clump score_of file ≡ Some bad
+header_fault score_of file bad fault = ap (λ (first : Option ClumpBad). first_fault first (bad_score score_of (stored_in file))) fault
 
 -- bytes in which no test fails begin with what their fields say
-pub good_begins : (score_of : List ℕ → List ℕ) (file : List ℕ) → AreBytes file → first_bad score_of file ≡ None → BeginsWith score_of (stored_in file) file
+pub good_begins : (score_of : List ℕ → List ℕ) (file : List ℕ) → AreBytes file → first_bad_clump score_of file ≡ None → BeginsWithClump score_of (stored_in file) file
 good_begins score_of file are good =
     let parts = none_first (bad_header file) (bad_score score_of (stored_in file)) good in
     let pass : Passes file = passed file parts.0 in
@@ -235,18 +235,18 @@ module _ (score_of : List ℕ → List ℕ) (file : List ℕ) (size : ℕ) (want
   block_is = ap (λ (n : ℕ). take n (drop 38 file)) (omega (arith, size_is))
 
   -- the first test that fails is that of the score
-  pub score_is_left : first_bad score_of file ≡ other_score want (score_of (take (38 + size - 38) (drop 38 file)))
+  pub score_is_left : first_bad_clump score_of file ≡ other_score want (score_of (take (38 + size - 38) (drop 38 file)))
   score_is_left =
-      ap (λ (first : Option ClumpBad). or_else first (bad_score score_of (stored_in file))) good
+      ap (λ (first : Option ClumpBad). first_fault first (bad_score score_of (stored_in file))) good
       ∙ (λ i. other_score (sym want_is i) (score_of (sym block_is i)))
 
 -- what is packed
-pub packed_is : (score_of : List ℕ → List ℕ) (s : Stored) (p : Packed) → IsStored score_of s → p.bytes ≡ spelled s → p.kind ≡ s.kind → p.score.0 ≡ s.score → p.len ≡ length s.block
+pub packed_is : (score_of : List ℕ → List ℕ) (s : Stored) (p : Packed) → IsStoredBlock score_of s → p.bytes ≡ clump_bytes s → p.kind ≡ s.kind → p.score.0 ≡ s.score → p.len ≡ length s.block
     → IsPacked score_of p
 packed_is score_of s p is bytes kind score len =
-    let back : stored_of p ≡ s = ap stored_in (bytes ∙ sym (append-nil (spelled s))) ∙ stored_in-spelled score_of s [] is in record {
-      stored = subst (IsStored score_of) (sym back) is;
-      bytes = bytes ∙ ap spelled (sym back);
+    let back : stored_of p ≡ s = ap stored_in (bytes ∙ sym (append-nil (clump_bytes s))) ∙ stored_in-spelled score_of s [] is in record {
+      stored = subst (IsStoredBlock score_of) (sym back) is;
+      bytes = bytes ∙ ap clump_bytes (sym back);
       kind = kind ∙ ap (λ (t : Stored). t.kind) (sym back);
       score = score ∙ ap (λ (t : Stored). t.score) (sym back);
       len = len ∙ ap (λ (t : Stored). length t.block) (sym back);

@@ -11,9 +11,9 @@ use Rattle.vt_clump.specs.declared.reading.Clump.{Clump}
 use Rattle.vt_clump.specs.declared.reading.ClumpBad.{ClumpBad}
 use Rattle.vt_base.specs.Kind.{is_kind}
 use Rattle.vt_clump.specs.declared.reading.ClumpBad.TheVariants.{Short, Magic, Kind}
-use Rattle.vt_clump.specs.Clumps.{IsRead}
+use Rattle.vt_clump.specs.Clumps.{IsClumpRead}
 use Rattle.vt_clump.specs.Spelling.{size_in, stored_in}
-use Rattle.vt_clump.specs.Faults.{bad_fields, bad_header, bad_size, bad_encoding, other_score, bad_score, or_else, first_bad}
+use Rattle.vt_clump.specs.Faults.{bad_fields, bad_header, bad_size, bad_encoding, other_score, bad_score, first_fault, first_bad_clump}
 use Rattle.vt_clump.proofs.ReadBack.{Passes, passed}
 
 -- a number doesn't depend on what is behind it
@@ -36,7 +36,7 @@ tests short magic kind encoding size uncsize room =
     if short then Some Short
     else if not (bytes_eq magic (codes "VCLP")) then Some (Magic magic)
     else if not (is_kind kind) then Some (Kind kind)
-    else or_else (bad_encoding encoding) (bad_size size uncsize room)
+    else first_fault (bad_encoding encoding) (bad_size size uncsize room)
 
 module _ (header block : List ℕ) (whole : length header ≡ 38) where
   abbrev pub joined : List ℕ
@@ -89,7 +89,7 @@ module _ (header block : List ℕ) (whole : length header ≡ 38) where
 
     pub joined_read : (clump : Clump) → clump.kind ≡ (stored_in header).kind
         → clump.score.0 ≡ (stored_in header).score → clump.time ≡ (stored_in header).time
-        → clump.bytes ≡ block → IsRead (stored_in joined) clump
+        → clump.bytes ≡ block → IsClumpRead (stored_in joined) clump
     joined_read clump kind score time bytes = record {
       kind = kind ∙ sym (byte_in 4 (omega arith));
       score = score ∙ sym (field_in 9 20 (omega arith));
@@ -99,8 +99,8 @@ module _ (header block : List ℕ) (whole : length header ≡ 38) where
 
     -- the first test of the whole that fails is that of the score
     pub score_is_left-joined : (score_of : List ℕ → List ℕ) (want : List ℕ)
-        → want ≡ (stored_in header).score → first_bad score_of joined ≡ other_score want (score_of block)
+        → want ≡ (stored_in header).score → first_bad_clump score_of joined ≡ other_score want (score_of block)
     score_is_left-joined score_of want want_is =
-        ap (λ (first : Option ClumpBad). or_else first (bad_score score_of (stored_in joined)))
+        ap (λ (first : Option ClumpBad). first_fault first (bad_score score_of (stored_in joined)))
         (bad_header-joined ∙ good)
         ∙ (λ i. other_score ((field_in 9 20 (omega arith) ∙ sym want_is) i) (score_of (block_is i)))

@@ -2,10 +2,10 @@
 use Rattle.std.specs.Prelude.{◌≡◌, ℕ, List, length}
 use Rattle.vt_clump.specs.declared.packed.Packed.{Packed}
 use Rattle.vt_clump.specs.declared.reading.Clump.{Clump}
-use Rattle.vt_clump.specs.Spelling.{Stored, IsStored, spelled, stored_in}
+use Rattle.vt_clump.specs.Spelling.{Stored, IsStoredBlock, clump_bytes, stored_in}
 
 -- what was read is this; the creator isn't
-pub record IsRead (s : Stored) (clump : Clump) : Type 0 where
+pub record IsClumpRead (s : Stored) (clump : Clump) : Type 0 where
   pub kind : clump.kind ≡ s.kind
   pub score : clump.score.0 ≡ s.score
   pub time : clump.time ≡ s.time
@@ -17,8 +17,8 @@ stored_of p = stored_in p.bytes
 
 -- its bytes are a clump, of a block of this score, and its other fields say what the clump says
 pub record IsPacked (score_of : List ℕ → List ℕ) (p : Packed) : Type 0 where
-  pub stored : IsStored score_of (stored_of p)
-  pub bytes : p.bytes ≡ spelled (stored_of p)
+  pub stored : IsStoredBlock score_of (stored_of p)
+  pub bytes : p.bytes ≡ clump_bytes (stored_of p)
   pub kind : p.kind ≡ (stored_of p).kind
   pub score : p.score.0 ≡ (stored_of p).score
   pub len : p.len ≡ length (stored_of p).block

@@ -10,9 +10,9 @@ use Rattle.vt_clump.specs.declared.header.TheConstants.{HEADER_LEN}
 use Rattle.vt_clump.specs.Spelling.{Stored, stored_in, size_in, uncsize_in}
 
 -- the first fault of two tests
-abbrev pub or_else : Option ClumpBad → Option ClumpBad → Option ClumpBad
-or_else (Some bad) later = Some bad
-or_else None later = later
+abbrev pub first_fault : Option ClumpBad → Option ClumpBad → Option ClumpBad
+first_fault (Some bad) later = Some bad
+first_fault None later = later
 
 -- the encoding, of which 1 says that the block is stored as it is
 abbrev pub bad_encoding : ℕ → Option ClumpBad
@@ -36,7 +36,7 @@ bad_fields header room =
     if nat_lt (length header) HEADER_LEN then Some Short
     else if not (bytes_eq (take 4 header) (codes "VCLP")) then Some (Magic (take 4 header))
     else if not (is_kind (slice_index header 4)) then Some (Kind (slice_index header 4))
-    else or_else (bad_encoding (slice_index header 29))
+    else first_fault (bad_encoding (slice_index header 29))
     (bad_size (size_in header) (uncsize_in header) room)
 
 abbrev pub bad_header : List ℕ → Option ClumpBad
@@ -52,13 +52,14 @@ abbrev pub bad_score : (List ℕ → List ℕ) → Stored → Option ClumpBad
 bad_score score_of s = other_score s.score (score_of s.block)
 
 -- the first test of all that fails
-abbrev pub first_bad : (List ℕ → List ℕ) → List ℕ → Option ClumpBad
-first_bad score_of bytes = or_else (bad_header bytes) (bad_score score_of (stored_in bytes))
+abbrev pub first_bad_clump : (List ℕ → List ℕ) → List ℕ → Option ClumpBad
+first_bad_clump score_of bytes =
+    first_fault (bad_header bytes) (bad_score score_of (stored_in bytes))
 
 -- what tests the header, or a part of it, fails with this fault, and only where there is one
 abbrev pub FailsWith : {T : Type 0} → Option ClumpBad → Result T ClumpBad → Type 0
 FailsWith first result = MatchResult result (λ _. first ≡ None) (λ bad. first ≡ Some bad)
 
 -- the fault of the first test that fails, or memory ran out where none does
-abbrev pub IsRefusal : Option ClumpBad → ClumpBad → Type 0
-IsRefusal first bad = (first ≡ Some bad) ⊎ (first ≡ None) × (bad ≡ NoMemory)
+abbrev pub IsClumpRefusal : Option ClumpBad → ClumpBad → Type 0
+IsClumpRefusal first bad = (first ≡ Some bad) ⊎ (first ≡ None) × (bad ≡ NoMemory)

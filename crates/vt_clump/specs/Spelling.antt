@@ -17,7 +17,7 @@ pub record Stored : Type 0 where
   pub block : List ℕ
 
 -- the block is one, and the fields have their widths and the block's score
-pub record IsStored (score_of : List ℕ → List ℕ) (s : Stored) : Type 0 where
+pub record IsStoredBlock (score_of : List ℕ → List ℕ) (s : Stored) : Type 0 where
   pub kind : IsKind s.kind
   pub scored : s.score ≡ score_of s.block
   pub score_len : length s.score ≡ 20
@@ -35,19 +35,19 @@ abbrev pub sizes : ℕ → List ℕ
 sizes n = big_bytes 2 n ++ big_bytes 2 n
 
 -- the bytes before the block; encoding 1 says that the block is stored as it is
-abbrev pub header : Stored → List ℕ
-header s =
+abbrev pub clump_header : Stored → List ℕ
+clump_header s =
     codes "VCLP" ++ (s.kind ∷ (sizes (length s.block)
     ++ (s.score ++ (1 ∷ (s.creator ++ big_bytes 4 s.time)))))
 
 -- the bytes of a clump
-unfoldable pub spelled : Stored → List ℕ
-spelled s = header s ++ s.block
+unfoldable pub clump_bytes : Stored → List ℕ
+clump_bytes s = clump_header s ++ s.block
 
 -- the bytes begin with a clump that says this, of a block of this score; anything may follow
-pub record BeginsWith (score_of : List ℕ → List ℕ) (s : Stored) (bytes : List ℕ) : Type 0 where
-  pub stored : IsStored score_of s
-  pub spelling : (rest : List ℕ) × (bytes ≡ spelled s ++ rest)
+pub record BeginsWithClump (score_of : List ℕ → List ℕ) (s : Stored) (bytes : List ℕ) : Type 0 where
+  pub stored : IsStoredBlock score_of s
+  pub spelling : (rest : List ℕ) × (bytes ≡ clump_bytes s ++ rest)
 
 -- What the fields of a clump say, by their places.
 abbrev pub size_in : List ℕ → ℕ

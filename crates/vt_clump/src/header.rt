@@ -7,8 +7,8 @@ ghost use Rattle.vt_clump.specs.Spelling.{sizes, stored_in, size_in};
 ghost use Rattle.vt_clump.specs.Faults.{FailsWith, bad_encoding, bad_size, bad_fields, bad_header};
 
 use crate::{ClumpBad, Encoding};
+use vt_base::fields::{put, put_u8, put_u16, put_u32, u16_at, u32_at};
 use vt_base::{Kind, MAX_BLOCK, Score};
-use vt_fields::{put, put_u8, put_u16, put_u32, u16_at, u32_at};
 
 /// How many bytes a header has: magic, type, two sizes, score, encoding, creator and time.
 pub const HEADER_LEN: usize = 4 + 1 + 2 + 2 + 20 + 1 + 4 + 4;

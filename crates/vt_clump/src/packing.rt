@@ -2,7 +2,7 @@
 
 ghost use Rattle.std.specs.Prelude.{◌≡◌, ◌<◌, ◌≤◌, ℕ, List, length, replicate, IfOk};
 ghost use Rattle.vt_clump.specs.Clumps.{IsPacked};
-ghost use Rattle.vt_clump.specs.Spelling.{spelled};
+ghost use Rattle.vt_clump.specs.Spelling.{clump_bytes};
 
 use crate::Packed;
 use crate::header::{HEADER_LEN, Header};
@@ -22,7 +22,7 @@ pub fn pack(
     ensures kind { IfOk result (λ packed. packed.kind ≡ kind) }
     ensures score { IfOk result (λ packed. packed.score ≡ score) }
     ensures len { IfOk result (λ packed. packed.len ≡ length block.now) }
-    ensures bytes { IfOk result (λ packed. packed.bytes ≡ spelled (record {
+    ensures bytes { IfOk result (λ packed. packed.bytes ≡ clump_bytes (record {
       kind = kind;
       score = score.0;
       creator = replicate 4 0;

@@ -1,9 +1,9 @@
 //! From the bytes of a clump to its block.
 
 ghost use Rattle.std.specs.Prelude.{◌≡◌, ◌≤◌, ◌++◌, None, length, IfOk, MatchResult};
-ghost use Rattle.vt_clump.specs.Clumps.{IsRead};
-ghost use Rattle.vt_clump.specs.Faults.{first_bad, other_score, FailsWith, IsRefusal};
-ghost use Rattle.vt_clump.specs.Spelling.{Stored, BeginsWith, size_in, stored_in};
+ghost use Rattle.vt_clump.specs.Clumps.{IsClumpRead};
+ghost use Rattle.vt_clump.specs.Faults.{first_bad_clump, other_score, FailsWith, IsClumpRefusal};
+ghost use Rattle.vt_clump.specs.Spelling.{Stored, BeginsWithClump, size_in, stored_in};
 
 use crate::header::{HEADER_LEN, Header};
 use std::alloc::Global;
@@ -49,11 +49,11 @@ pub enum ClumpBad {
 /// Reads the clump that the bytes begin with. Bytes may follow it.
 pub fn unpack<S: Scorer>(alloc: Global, bytes: &[u8], scorer: &S) -> Result<Clump, ClumpBad>
     ensures read { IfOk result (λ clump. (s : Stored)
-        × BeginsWith S.score_of s bytes.now × IsRead s clump) }
-    ensures all_are_read { (s : Stored) → BeginsWith S.score_of s bytes.now
-        → MatchResult result (IsRead s) (λ bad. bad ≡ ClumpBad.NoMemory) }
-    ensures refused { MatchResult result (λ _. first_bad S.score_of bytes.now ≡ None)
-        (IsRefusal (first_bad S.score_of bytes.now)) }
+        × BeginsWithClump S.score_of s bytes.now × IsClumpRead s clump) }
+    ensures all_are_read { (s : Stored) → BeginsWithClump S.score_of s bytes.now
+        → MatchResult result (IsClumpRead s) (λ bad. bad ≡ ClumpBad.NoMemory) }
+    ensures refused { MatchResult result (λ _. first_bad_clump S.score_of bytes.now ≡ None)
+        (IsClumpRefusal (first_bad_clump S.score_of bytes.now)) }
 {
     let header = Header::decode(bytes)?;
     let block = &bytes[HEADER_LEN..HEADER_LEN + header.size as usize];
@@ -72,9 +72,9 @@ pub fn unpack_block<S: Scorer>(
     scorer: &S,
 ) -> Result<Clump, ClumpBad>
     requires { length block ≤ size_in header.now }
-    ensures read { let bytes = header.now ++ block in IfOk result (IsRead (stored_in bytes)) }
+    ensures read { let bytes = header.now ++ block in IfOk result (IsClumpRead (stored_in bytes)) }
     ensures refused { let bytes = header.now ++ block in
-        FailsWith (first_bad S.score_of bytes) result }
+        FailsWith (first_bad_clump S.score_of bytes) result }
 {
     let header = Header::decode_before(header, block.len())?;
     check_score(header.score, block.as_slice(), scorer)?;

@@ -13,27 +13,27 @@ use Rattle.vt_disk.specs.Members.{DiskOf}
 use Rattle.vt_model.specs.Answer.{answer}
 use Rattle.vt_model.specs.History.{History}
 use Rattle.vt_model.specs.Places.{Setup}
-use Rattle.vt_answer.specs.Serving.{answered, tells_failure}
+use Rattle.vt_handler.specs.Serving.{answered, tells_failure}
 use Rattle.vt_core.specs.Causes.{IsUndamagedWhy}
 use Rattle.vt_core.specs.Core.{CoreState, stops_of}
-use Rattle.vt_open.specs.declared.bad.OpenBad.{OpenBad}
+use Rattle.vt_open.specs.declared.error.OpenError.{OpenError}
 use Rattle.vt_open.specs.Opening.{IsFaultOrMemory, RefusesStore}
-use Rattle.vt_parts.specs.Parts.{Standing}
+use Rattle.vt_partitions.specs.Parts.{Standing}
 use Rattle.vt_alone.specs.Sessions.{FailsFor}
-use Rattle.vt_single.specs.declared.stored.StoredBad.{StoredBad}
-use Rattle.vt_single.specs.declared.stored.StoredBad.TheVariants as stored
+use Rattle.vt_single.specs.declared.stored.StoredError.{StoredError}
+use Rattle.vt_single.specs.declared.stored.StoredError.TheVariants as stored
 use Rattle.vt_single.specs.Single.{IsAnswer}
 use Rattle.vt_single.specs.Stored.{Uses, UsesStore}
-use Rattle.run_base.specs.declared.failure.Failure.{Failure}
-use Rattle.run_base.specs.declared.failure.Failure.TheVariants.{NoMemory, ReadFault, Refused as RefusedBy, WriteFault}
+use Rattle.run_base.specs.declared.error.CommandError.{CommandError}
+use Rattle.run_base.specs.declared.error.CommandError.TheVariants.{NoMemory, ReadFault, Refused as RefusedBy, WriteFault}
 use Rattle.run_base.specs.declared.place.Place.{Place}
 use Rattle.run_base.specs.declared.place.Place.TheVariants.{Memory, Server, Conf}
 use Rattle.vt_commands.specs.Answers.{TellsReply, TellsReplyOrMemory, WhereOpened}
-use Rattle.run_base.specs.Blocks.{DoesStored, TellsStored, refusal_for}
+use Rattle.run_base.specs.Blocks.{DoesStored, TellsStoredBlock, refusal_for}
 use Rattle.run_sessions.specs.Write.{TakesNoBlock, TakesNone}
-use Rattle.run_base.specs.Failure.{HasCauseIn, Outcome}
+use Rattle.run_base.specs.Errors.{HasCauseIn, CommandOutcome}
 use Rattle.run_base.specs.Formatting.{Prints}
-use Rattle.run_base.specs.Places.{Names}
+use Rattle.run_base.specs.Places.{NamesPlace}
 use Rattle.run_base.proofs.StoredCauses.{used_rises}
 use Rattle.vt_commands.specs.HandedIn.{NoneFails}
 use Rattle.vt_commands.specs.Work.{Work, causes_of}
@@ -44,9 +44,9 @@ use Rattle.vt_commands.proofs.CompleteConf.{none_opened_well}
 pub where_opened : {D T : Type 0} (score : List ℕ → List ℕ) (disk : DiskOf D) (told : Type 0)
     (conf : Configuration) (Does : Result T Why → (opened left : CoreState D) → Type 0)
     (old new : List ℕ → Standing D) (faults faults' : ℕ) (Holds : Result T Why → Type 0)
-    (unopened : Type 0) (result : Result T StoredBad)
+    (unopened : Type 0) (result : Result T StoredError)
     → ((answer : Result T Why) → Uses score disk told conf (Does answer) old new → Holds answer)
-    → ((bad : OpenBad) → RefusesStore score disk told conf old new faults faults' bad → unopened)
+    → ((bad : OpenError) → RefusesStore score disk told conf old new faults faults' bad → unopened)
     → UsesStore score disk told conf Does old new faults faults' result
     → WhereOpened Holds unopened result
 where_opened score disk told conf Does old new faults faults' Holds unopened (Ok value) of not uses =
@@ -60,7 +60,7 @@ where_opened score disk told conf Does old new faults faults' Holds unopened
 
 module _ {R K I P D N L : Type 0} (score : List ℕ → List ℕ) (disk : DiskOf D)
     (file : List ℕ) (conf : Configuration) (work : Work R K I P D N L) (fails : NoneFails disk work) where
-  pub printed_well : (text : List ℕ) (outcome : Outcome) → Prints text outcome work.sink
+  pub printed_well : (text : List ℕ) (outcome : CommandOutcome) → Prints text outcome work.sink
       → (outcome ≡ Ok tt) × (IsTrue work.sink.tells → work.sink.new ≡ work.sink.old ++ text)
   printed_well text (Ok done) prints = (refl, prints.0)
   printed_well text (Err WriteFault) prints = absurd (fails.sink prints.1)
@@ -68,13 +68,13 @@ module _ {R K I P D N L : Type 0} (score : List ℕ → List ℕ) (disk : DiskOf
 
   module _ {T : Type 0} (Does : Result T Why → (opened left : CoreState D) → Type 0)
       (message : T → RMessage) (text : T → List ℕ) (m : Operation) (c : Setup) (h : History)
-      (shows : (value : T) (outcome : Outcome) → Prints (text value) outcome work.sink
+      (shows : (value : T) (outcome : CommandOutcome) → Prints (text value) outcome work.sink
       → TellsReply (message value) outcome work.sink)
       (causes : (why : Why) (opened left : CoreState D)
       → All (λ stop. stop ≡ None) (stops_of opened) → Does (Err why) opened left
       → tells_failure why ≡ Bool.true → FailsFor disk why opened left) where
     -- the store failed, though no call did
-    failed_well : (why : Why) (outcome : Outcome) → outcome ≡ Err (refusal_for why)
+    failed_well : (why : Why) (outcome : CommandOutcome) → outcome ≡ Err (refusal_for why)
         → (x : Uses score disk (IsTrue work.parts.tells) conf (Does (Err why)) work.parts.old
         work.parts.new) → tells_failure why ≡ Bool.true → IsUndamagedWhy why
         → outcome ≡ Err NoMemory
@@ -91,13 +91,13 @@ module _ {R K I P D N L : Type 0} (score : List ℕ → List ℕ) (disk : DiskOf
     module _ (answers : (result : Result T Why)
         → Uses score disk (IsTrue work.parts.tells) conf (Does result) work.parts.old work.parts.new
         → IsAnswer score c h m (answered message result))
-        (found : (bad : OpenBad) → RefusesStore score disk (IsTrue work.parts.tells) conf
+        (found : (bad : OpenError) → RefusesStore score disk (IsTrue work.parts.tells) conf
         work.parts.old work.parts.new work.parts.faults work.parts.faults' bad
-        → IsFaultOrMemory bad) (outcome : Outcome) (cause : HasCauseIn (causes_of disk work) outcome) where
-      told_well : (result : Result T StoredBad)
+        → IsFaultOrMemory bad) (outcome : CommandOutcome) (cause : HasCauseIn (causes_of disk work) outcome) where
+      told_well : (result : Result T StoredError)
           → UsesStore score disk (IsTrue work.parts.tells) conf Does work.parts.old work.parts.new
           work.parts.faults work.parts.faults' result
-          → TellsStored file conf text result outcome work.sink
+          → TellsStoredBlock file conf text result outcome work.sink
           → TellsReplyOrMemory (answer score c h m).reply outcome work.sink
       told_well (Ok value) uses told = ⊎_elim
           (λ same. inr (subst (λ (r : RMessage). TellsReply r outcome work.sink) same
@@ -133,7 +133,7 @@ first_tells Bool.true b both = refl
 first_tells Bool.false b both = both
 
 module _ {R K I P D N L : Type 0} (score : List ℕ → List ℕ) (disk : DiskOf D)
-    (outcome : Outcome) (work : Work R K I P D N L) (fails : NoneFails disk work)
+    (outcome : CommandOutcome) (work : Work R K I P D N L) (fails : NoneFails disk work)
     (cause : HasCauseIn (causes_of disk work) outcome) where
   -- why no block came in, where no read failed
   pub none_taken : (c : Setup) (h : History) (kind : ℕ) → is_kind kind ≡ Bool.true
@@ -141,7 +141,7 @@ module _ {R K I P D N L : Type 0} (score : List ℕ → List ℕ) (disk : DiskOf
       → TellsReplyOrMemory (answer score c h (write kind work.source.old)).reply outcome work.sink
   none_taken c h kind is tells it = of it.failure it.takes it.outcome_is
     where
-      of : (failure : Failure) → TakesNone failure work.source → outcome ≡ Err failure
+      of : (failure : CommandError) → TakesNone failure work.source → outcome ≡ Err failure
           → TellsReplyOrMemory (answer score c h (write kind work.source.old)).reply outcome
           work.sink
       of (RefusedBy why) takes told =
@@ -157,8 +157,8 @@ module _ {R K I P D N L : Type 0} (score : List ℕ → List ℕ) (disk : DiskOf
       of failure takes told = absurd takes
 
 -- a word that names a file names no other place
-pub in_file : {X : Type 0} (file : List ℕ) (Does : Place → Type 0) → Names file Conf
-    → (Does Conf → X) → (place : Place) → Names file place → Does place → X
+pub in_file : {X : Type 0} (file : List ℕ) (Does : Place → Type 0) → NamesPlace file Conf
+    → (Does Conf → X) → (place : Place) → NamesPlace file place → Does place → X
 in_file file Does names of Memory named does = absurd (names.0 named)
 in_file file Does names of (Server address) named does = absurd (names.1 address named)
 in_file file Does names of Conf named does = of does

@@ -8,30 +8,30 @@ use Rattle.vt_base.specs.declared.why.Why.TheVariants as whys
 use Rattle.vt_session.specs.declared.Ended.{Ended}
 use Rattle.vt_session.specs.declared.Ended.TheVariants.{Goodbye, Closed, Cut, Malformed, Spent, ReadFault, WriteFault, NoMemory}
 use Rattle.vt_session.specs.Heard.{Item, Heard}
-use Rattle.vt_session.specs.Turns.{Turn, items_of}
+use Rattle.vt_session.specs.Turns.{Turn, items_of_turns}
 use Rattle.vt_session.specs.Talk.{Carries}
 use Rattle.vt_session.proofs.Hearings.{heard_one, heard_last}
-use Rattle.vt_answer.specs.Links.{ReadCause}
-use Rattle.vt_answer.specs.Sessions.{SinkCause}
+use Rattle.vt_handler.specs.Links.{ReadCause}
+use Rattle.vt_handler.specs.Sessions.{SinkCause}
 use Rattle.vt_alone.specs.declared.serving.StoreServed.{StoreServed}
 use Rattle.vt_alone.specs.Sessions.{NeedsMemory}
-use Rattle.run_base.specs.declared.failure.Failure.TheVariants as failures
-use Rattle.run_base.specs.Change.{Change}
+use Rattle.run_base.specs.declared.error.CommandError.TheVariants as failures
+use Rattle.run_base.specs.Change.{StreamChange}
 use Rattle.run_sessions.specs.Session.{DoesSession}
-use Rattle.run_base.specs.Failure.{Outcome}
-use Rattle.run_base.specs.Served.{EndsWell, PassesOver, closed_with, failed_in, failure_for, first_of, outcome_of, outcome_of_end}
+use Rattle.run_base.specs.Errors.{CommandOutcome}
+use Rattle.run_base.specs.Served.{InputEndsWell, PassesOver, closed_with, failed_in, failure_for, first_outcome, outcome_of, outcome_of_end}
 
 -- an input that ends well ends no other way
-well_is : (had : List ℕ) (items : List Item) (ended : Ended) → EndsWell had → Heard had items ended → (ended ≡ Goodbye) ⊎ (ended ≡ Closed)
+well_is : (had : List ℕ) (items : List Item) (ended : Ended) → InputEndsWell had → Heard had items ended → (ended ≡ Goodbye) ⊎ (ended ≡ Closed)
 well_is had items ended well heard =
     let same = heard_one had well.items items well.ended ended well.heard heard in
     elim (well.well) [ inl e ↦ inl (sym same.1 ∙ e) | inr e ↦ inr (sym same.1 ∙ e) ]
 
-abbrev pub IsWell : Outcome → Type 0
+abbrev pub IsWell : CommandOutcome → Type 0
 IsWell outcome = (outcome ≡ Ok tt) ⊎ (outcome ≡ Err failures.NoMemory)
 
 module _ (had input left output : List ℕ) (turns : List Turn) (bytes : AreBytes had)
-    (well : EndsWell had) (parts : had ≡ input ++ left) where
+    (well : InputEndsWell had) (parts : had ≡ input ++ left) where
   pub end_outcome : (ended : Ended) (n source source' sink sink' : ℕ) → (ended ≡ Cut → left ≡ [])
       → Carries input output turns ended → ReadCause ended source source'
       → SinkCause ended sink sink' → ¬ (HasRisen source source') → ¬ (HasRisen sink sink')
@@ -41,16 +41,16 @@ module _ (had input left output : List ℕ) (turns : List Turn) (bytes : AreByte
   end_outcome Cut n source source' sink sink' none carried read write no_read no_write =
       let whole : had ≡ input =
       parts ∙ ap (λ (l : List ℕ). input ++ l) (none refl) ∙ append-nil input in
-      elim (well_is had (items_of turns) Cut well
-      (subst (λ (i : List ℕ). Heard i (items_of turns) Cut) (sym whole) carried.0.0)) [
+      elim (well_is had (items_of_turns turns) Cut well
+      (subst (λ (i : List ℕ). Heard i (items_of_turns turns) Cut) (sym whole) carried.0.0)) [
         | inl e ↦ absurd (cc)
         | inr e ↦ absurd (cc)
       ]
   end_outcome (Malformed place) n source source' sink sink' none carried read write no_read no_write =
-      let heard = heard_last input left (items_of turns) (Malformed place)
+      let heard = heard_last input left (items_of_turns turns) (Malformed place)
       (subst AreBytes parts bytes) carried.0 (λ e. cc) (λ e. cc) in
-      elim (well_is had (items_of turns) (Malformed place) well
-      (subst (λ (i : List ℕ). Heard i (items_of turns) (Malformed place)) (sym parts) heard)) [
+      elim (well_is had (items_of_turns turns) (Malformed place) well
+      (subst (λ (i : List ℕ). Heard i (items_of_turns turns) (Malformed place)) (sym parts) heard)) [
         | inl e ↦ absurd (cc)
         | inr e ↦ absurd (cc)
       ]
@@ -64,7 +64,7 @@ module _ (had input left output : List ℕ) (turns : List Turn) (bytes : AreByte
 
 -- ---- the outcome of a store that needs memory alone
 
-first_well : (first second : Outcome) → IsWell first → IsWell second → IsWell (first_of first second)
+first_well : (first second : CommandOutcome) → IsWell first → IsWell second → IsWell (first_outcome first second)
 first_well (Ok done) second x y = y
 first_well (Err failure) second x y = x
 
@@ -74,10 +74,10 @@ failed_well None it = inl refl
 failed_well (Some why) it = inr (ap (λ (w : Why). Err (failure_for w)) it)
 
 pub served_well : {R K : Type 0} (end : StoreServed) (input output : List ℕ) (turns : List Turn)
-    (source : Change R) (sink : Change K) → NeedsMemory end
+    (source : StreamChange R) (sink : StreamChange K) → NeedsMemory end
     → PassesOver end input output source sink → Carries input output turns end.ended
     → ReadCause end.ended source.faults source.faults'
-    → SinkCause end.ended sink.faults sink.faults' → EndsWell source.old
+    → SinkCause end.ended sink.faults sink.faults' → InputEndsWell source.old
     → ¬ HasRisen source.faults source.faults' → ¬ HasRisen sink.faults sink.faults'
     → IsWell (outcome_of end)
 served_well end input output turns source sink needs passes carried read write well no_read no_write =
@@ -89,9 +89,9 @@ served_well end input output turns source sink needs passes carried read write w
     (inl (ap closed_with needs.closed)))
 
 -- in memory
-pub memory_well : {R K : Type 0} (score : List ℕ → List ℕ) (outcome : Outcome)
-    (source : Change R) (sink : Change K) → DoesSession score outcome source sink
-    → IsTrue (source.tells && sink.tells) → EndsWell source.old
+pub memory_well : {R K : Type 0} (score : List ℕ → List ℕ) (outcome : CommandOutcome)
+    (source : StreamChange R) (sink : StreamChange K) → DoesSession score outcome source sink
+    → IsTrue (source.tells && sink.tells) → InputEndsWell source.old
     → ¬ HasRisen source.faults source.faults' → ¬ HasRisen sink.faults sink.faults'
     → IsWell outcome
 memory_well score outcome source sink x tells well no_read no_write =

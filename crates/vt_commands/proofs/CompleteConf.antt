@@ -6,22 +6,22 @@ use Rattle.vt_base.specs.declared.mount.MountBad.{MountBad}
 use Rattle.vt_base.specs.declared.mount.MountBad.TheVariants as mount_bad
 use Rattle.vt_conf.specs.declared.conf.Conf.{Conf}
 use Rattle.vt_conf.specs.declared.conf.PartFile.{PartFile}
-use Rattle.vt_conf.specs.declared.why.ConfWhy.{ConfWhy}
+use Rattle.vt_conf.specs.declared.error.ConfCause.{ConfCause}
 use Rattle.vt_conf.specs.Configuration.{Configures, IsFirstCause, SameConf}
 use Rattle.vt_disk.specs.Members.{DiskOf}
-use Rattle.vt_format.specs.Index.{files_of as files_in}
+use Rattle.vt_format.specs.Index.{files_in_order}
 use Rattle.vt_core.specs.Files.{PerDevice, all_of}
-use Rattle.vt_open.specs.declared.bad.OpenBad.{OpenBad}
-use Rattle.vt_open.specs.declared.bad.OpenBad.TheVariants.{Missing, Refused}
+use Rattle.vt_open.specs.declared.error.OpenError.{OpenError}
+use Rattle.vt_open.specs.declared.error.OpenError.TheVariants.{Missing, Refused}
 use Rattle.vt_open.specs.Names.{AreUnder, HaveOneShape, StandUnder, files_of}
 use Rattle.vt_open.specs.Opening.{IsFaultOrMemory}
-use Rattle.vt_parts.specs.Parts.{Standing}
-use Rattle.run_base.specs.declared.failure.Failure.{Failure}
-use Rattle.run_base.specs.declared.failure.Failure.TheVariants.{BadConf, DiskFault, FileFault, NoMemory}
+use Rattle.vt_partitions.specs.Parts.{Standing}
+use Rattle.run_base.specs.declared.error.CommandError.{CommandError}
+use Rattle.run_base.specs.declared.error.CommandError.TheVariants.{BadConf, DiskFault, FileFault, NoMemory}
 use Rattle.run_base.specs.Change.{FilesChange}
 use Rattle.run_base.specs.Unopened.{IsOpenRefusal}
 use Rattle.run_base.specs.Configurations.{IsRefusalAmong, IsWrong, ReadsNone}
-use Rattle.run_base.specs.Failure.{HasCauseIn}
+use Rattle.run_base.specs.Errors.{HasCauseIn}
 use Rattle.vt_commands.specs.HandedIn.{NoneFails}
 use Rattle.vt_commands.specs.Work.{Work, causes_of}
 
@@ -58,15 +58,15 @@ under_same standing a b devices same under =
     }
 
 -- a text that says a configuration isn't refused
-never_wrong : (text : List ℕ) (conf : Conf) (line : ℕ) (why : ConfWhy) → Configures text conf
+never_wrong : (text : List ℕ) (conf : Conf) (line : ℕ) (why : ConfCause) → Configures text conf
     → ¬ IsFirstCause text line why → IsWrong text line why → ⊥
 never_wrong text conf line why says never wrong = ⊎_elim
     (λ long. omega (arith, long.0, says.are.is_text.most))
     (λ cause. never cause.1) wrong
 
-pub none_read : {I : Type 0} (file text : List ℕ) (conf : Conf) (failure : Failure)
+pub none_read : {I : Type 0} (file text : List ℕ) (conf : Conf) (failure : CommandError)
     (files : FilesChange I) → Configures text conf
-    → ((line : ℕ) (why : ConfWhy) → ¬ IsFirstCause text line why) → IsTrue files.tells
+    → ((line : ℕ) (why : ConfCause) → ¬ IsFirstCause text line why) → IsTrue files.tells
     → files.content file ≡ Some text → ReadsNone file failure files
     → (failure ≡ FileFault → ⊥) → failure ≡ NoMemory
 none_read file text conf (BadConf bad) files says never tells content none no_fault =
@@ -83,11 +83,11 @@ none_read file text conf failure files says never tells content none no_fault = 
 
 module _ {R K I P D N L : Type 0} (disk : DiskOf D) (work : Work R K I P D N L)
     (fails : NoneFails disk work) where
-  no_disk_fault : (failure : Failure) → failure ≡ DiskFault → HasCauseIn (causes_of disk work) (Err failure) → ⊥
+  no_disk_fault : (failure : CommandError) → failure ≡ DiskFault → HasCauseIn (causes_of disk work) (Err failure) → ⊥
   no_disk_fault failure is cause = ⊎_elim fails.parts fails.disks
-      (subst (λ (f : Failure). HasCauseIn (causes_of disk work) (Err f)) is cause)
+      (subst (λ (f : CommandError). HasCauseIn (causes_of disk work) (Err f)) is cause)
 
-  among_well : (file : List ℕ) (files : List PartFile) (bad : MountBad) (failure : Failure)
+  among_well : (file : List ℕ) (files : List PartFile) (bad : MountBad) (failure : CommandError)
       → (bad ≡ mount_bad.Fault) ⊎ (bad ≡ mount_bad.NoMemory)
       → IsRefusalAmong file files bad failure → HasCauseIn (causes_of disk work) (Err failure)
       → failure ≡ NoMemory
@@ -97,11 +97,11 @@ module _ {R K I P D N L : Type 0} (disk : DiskOf D) (work : Work R K I P D N L)
       (λ memory. subst (λ (b : MountBad). IsRefusalAmong file files b failure) memory told)
       found
 
-  pub none_opened_well : (file : List ℕ) (conf : Conf) (bad : OpenBad) (failure : Failure)
+  pub none_opened_well : (file : List ℕ) (conf : Conf) (bad : OpenError) (failure : CommandError)
       → IsFaultOrMemory bad → IsOpenRefusal file conf bad failure
       → HasCauseIn (causes_of disk work) (Err failure) → failure ≡ NoMemory
   none_opened_well file conf (Missing part) failure found told cause =
       absurd (no_disk_fault failure told cause)
   none_opened_well file conf (Refused bad) failure found told cause = ⊎_elim
-      (λ among. among_well file (files_in conf) bad failure found among cause)
+      (λ among. among_well file (files_in_order conf) bad failure found among cause)
       (λ memory. memory) told

@@ -2,22 +2,22 @@
 use Rattle.std.proofs.Common.{◌≡◌, ◌≢◌, ◌⊎◌, ⊎_elim, inl, inr, ℕ, List, [], ◌∷◌, codes, refl, sym, ◌∙◌, ap, subst, Ok, Err}
 use Rattle.vt_base.specs.Faults.{HasRisen}
 use Rattle.vt_disk.specs.Members.{DiskOf}
-use Rattle.vt_words.specs.declared.asked.Asked.{Asked}
-use Rattle.vt_words.specs.declared.asked.Asked.TheVariants.{Do, Faulty}
-use Rattle.vt_words.specs.declared.command.Command.{Command}
-use Rattle.vt_words.specs.declared.command.Command.TheVariants.{Session}
-use Rattle.vt_words.specs.Words.{Asks, AreFaulty, IsFaulty}
-use Rattle.vt_words.proofs.Asking.{alone}
-use Rattle.vt_client.specs.declared.err.ClientErr.TheVariants as errs
-use Rattle.vt_remote.specs.declared.remote.RemoteBad.{RemoteBad}
-use Rattle.vt_remote.specs.declared.remote.RemoteBad.TheVariants as remote
-use Rattle.run_base.specs.declared.failure.Failure.TheVariants.{BadWords, DiskFault, ReadFault, FileFault, FolderFault, WriteFault, NoMemory, Refused, Server}
+use Rattle.vt_cli.specs.declared.asked.Asked.{Asked}
+use Rattle.vt_cli.specs.declared.asked.Asked.TheVariants.{Do, Faulty}
+use Rattle.vt_cli.specs.declared.command.Command.{Command}
+use Rattle.vt_cli.specs.declared.command.Command.TheVariants.{Session}
+use Rattle.vt_cli.specs.Words.{Asks, AreFaulty, AsksForNothing}
+use Rattle.vt_cli.proofs.Asking.{alone}
+use Rattle.vt_client.specs.declared.error.ClientErr.TheVariants as errs
+use Rattle.vt_remote.specs.declared.remote.RemoteError.{RemoteError}
+use Rattle.vt_remote.specs.declared.remote.RemoteError.TheVariants as remote
+use Rattle.run_base.specs.declared.error.CommandError.TheVariants.{BadWords, DiskFault, ReadFault, FileFault, FolderFault, WriteFault, NoMemory, Refused, Server}
 use Rattle.run_sessions.specs.Session.{DoesSession}
 use Rattle.run_sessions.specs.SessionConf.{DoesSessionConf}
-use Rattle.run_base.specs.Failure.{Outcome, HasFailed, HasLinkFailed, server_status, status_of, line_of, line, HasCauseIn}
+use Rattle.run_base.specs.Errors.{CommandOutcome, PartHasFailed, HasLinkFailed, server_status, status_of, outcome_line, line, HasCauseIn}
 use Rattle.run_base.specs.Members.{LinkOf}
 use Rattle.run_base.specs.Places.{EndsIdle, in_memory}
-use Rattle.vt_commands.specs.Run.{Does, DoesAsked, DoesWords}
+use Rattle.vt_commands.specs.Run.{DoesCommand, DoesAsked, DoesWords}
 use Rattle.vt_commands.specs.Work.{IsIdle, Work, causes_of, lent_causes}
 use Rattle.run_base.proofs.Causes.{never_words, server_never}
 use Rattle.vt_commands.proofs.Only.{does_caused}
@@ -25,8 +25,8 @@ use Rattle.vt_commands.proofs.Only.{does_caused}
 -- ---- by what the words ask for
 
 module _ {R K I P D N L : Type 0} (disk : DiskOf D) (link : LinkOf L) (score : List ℕ → List ℕ)
-    (outcome : Outcome) (work : Work R K I P D N L) where
-  faulty_idle : (asked : Asked) → IsFaulty asked → DoesAsked disk link score asked outcome work
+    (outcome : CommandOutcome) (work : Work R K I P D N L) where
+  faulty_idle : (asked : Asked) → AsksForNothing asked → DoesAsked disk link score asked outcome work
       → EndsIdle (Err BadWords) outcome (IsIdle work)
   faulty_idle (Faulty text) faulty does = does
   faulty_idle asked faulty does = absurd faulty
@@ -34,7 +34,7 @@ module _ {R K I P D N L : Type 0} (disk : DiskOf D) (link : LinkOf L) (score : L
   module _ (words : List (List ℕ)) (preface : List ℕ)
       (does : DoesWords disk link score words preface outcome work) where
     pub done : (command : Command) → Asks words (Do command)
-        → Does disk link score command outcome work
+        → DoesCommand disk link score command outcome work
         ⊎ EndsIdle (Err NoMemory) outcome (IsIdle work)
     done command asks = ⊎_elim
         (λ it. inl (subst (λ asked. DoesAsked disk link score asked outcome work)
@@ -58,27 +58,27 @@ module _ {R K I P D N L : Type 0} (disk : DiskOf D) (link : LinkOf L) (score : L
         (done command asks)
 
 -- the line of status 1
-pub line_of_one : (outcome : Outcome) → status_of outcome ≡ 1 → line_of outcome ≡ line (codes "bad command line" ∷ [])
+pub line_of_one : (outcome : CommandOutcome) → status_of outcome ≡ 1 → outcome_line outcome ≡ line (codes "bad command line" ∷ [])
 line_of_one (Err BadWords) one = refl
 line_of_one (Err (Server bad)) one = absurd (server_never bad one)
 line_of_one outcome one = absurd (cc)
 
 -- ---- by the status
 
-not_disk : (bad : RemoteBad) → server_status bad ≢ 4
+not_disk : (bad : RemoteError) → server_status bad ≢ 4
 not_disk remote.Undialled is = cc
 not_disk (remote.Refused errs.ReadFault) is = cc
 not_disk (remote.Refused why) is = cc
 
 module _ {R K I P D N L : Type 0} (disk : DiskOf D) (work : Work R K I P D N L) where
-  pub disk_risen : (outcome : Outcome) → status_of outcome ≡ 4
+  pub disk_risen : (outcome : CommandOutcome) → status_of outcome ≡ 4
       → HasCauseIn (causes_of disk work) outcome
-      → HasRisen work.parts.faults work.parts.faults' ⊎ HasFailed disk work.parts
+      → HasRisen work.parts.faults work.parts.faults' ⊎ PartHasFailed disk work.parts
   disk_risen (Err DiskFault) is cause = cause
   disk_risen (Err (Server bad)) is cause = absurd (not_disk bad is)
   disk_risen outcome is cause = absurd (cc)
 
-  pub read_risen : (outcome : Outcome) → status_of outcome ≡ 6
+  pub read_risen : (outcome : CommandOutcome) → status_of outcome ≡ 6
       → HasCauseIn (causes_of disk work) outcome
       → HasRisen work.source.faults work.source.faults'
       ⊎ HasRisen work.files.faults work.files.faults'
@@ -92,7 +92,7 @@ module _ {R K I P D N L : Type 0} (disk : DiskOf D) (work : Work R K I P D N L) 
   read_risen (Err (Server (remote.Refused errs.ReadFault))) is cause = inr (inr (inr (inr cause)))
   read_risen outcome is cause = absurd (cc)
 
-  pub write_risen : (outcome : Outcome) → status_of outcome ≡ 7
+  pub write_risen : (outcome : CommandOutcome) → status_of outcome ≡ 7
       → HasCauseIn (causes_of disk work) outcome
       → HasRisen work.sink.faults work.sink.faults'
       ⊎ HasLinkFailed work.dialer.write_faults work.dialer
@@ -100,18 +100,18 @@ module _ {R K I P D N L : Type 0} (disk : DiskOf D) (work : Work R K I P D N L) 
   write_risen (Err (Server (remote.Refused errs.WriteFault))) is cause = inr cause
   write_risen outcome is cause = absurd (cc)
 
-pub well_status : (outcome : Outcome) (status : ℕ) → status ≡ status_of outcome
+pub well_status : (outcome : CommandOutcome) (status : ℕ) → status ≡ status_of outcome
     → (outcome ≡ Ok tt) ⊎ (outcome ≡ Err NoMemory) → (status ≡ 0) ⊎ (status ≡ 8)
 well_status outcome status is well = ⊎_elim
     (λ good. inl (is ∙ ap status_of good)) (λ short. inr (is ∙ ap status_of short)) well
 
 module _ {R K I P D N L : Type 0} (disk : DiskOf D) (link : LinkOf L) (score : List ℕ → List ℕ)
-    (outcome : Outcome) (work : Work R K I P D N L) where
+    (outcome : CommandOutcome) (work : Work R K I P D N L) where
   abbrev IsWell : Type 0
   IsWell = (outcome ≡ Ok tt) ⊎ (outcome ≡ Err NoMemory)
 
   abbrev DoesOrEnds : Command → Type 0
-  DoesOrEnds command = Does disk link score command outcome work
+  DoesOrEnds command = DoesCommand disk link score command outcome work
       ⊎ EndsIdle (Err NoMemory) outcome (IsIdle work)
 
   -- a session on input that ends well

@@ -1,18 +1,18 @@
 -- What follows for a whole run from what a command is lent.
 use Rattle.std.proofs.Common.{⊎_elim, inl, inr, List, ℕ, sym, subst}
 use Rattle.vt_disk.specs.Members.{DiskOf}
-use Rattle.vt_words.specs.declared.asked.Asked.{Asked}
-use Rattle.vt_words.specs.declared.asked.Asked.TheVariants.{Do, Help, Version, Faulty}
-use Rattle.vt_words.specs.declared.command.Command.{Command}
-use Rattle.vt_words.specs.declared.command.Command.TheVariants.{Session, FormatArenas, FormatSection, FormatFilter, FormatIndex, RebuildIndex, CheckArenas, Read, Write, Rehearse, Vac, View}
-use Rattle.vt_words.specs.Words.{Asks}
+use Rattle.vt_cli.specs.declared.asked.Asked.{Asked}
+use Rattle.vt_cli.specs.declared.asked.Asked.TheVariants.{Do, Help, Version, Faulty}
+use Rattle.vt_cli.specs.declared.command.Command.{Command}
+use Rattle.vt_cli.specs.declared.command.Command.TheVariants.{Session, FormatArenas, FormatSection, FormatFilter, FormatIndex, RebuildIndex, CheckArenas, Read, Write, Rehearse, Vac, View}
+use Rattle.vt_cli.specs.Words.{Asks}
 use Rattle.run_base.specs.Change.{IsUntouched, UsesNothing}
-use Rattle.run_base.specs.Failure.{Causes, HasCauseIn, Outcome, no_cause, with_dialer, with_files, with_folders, with_parts, with_sink, with_source}
+use Rattle.run_base.specs.Errors.{Causes, HasCauseIn, CommandOutcome, no_cause, with_dialer, with_files, with_folders, with_parts, with_sink, with_source}
 use Rattle.run_base.specs.Formatting.{RefusesWord}
 use Rattle.run_base.specs.Members.{LinkOf}
-use Rattle.run_base.specs.declared.failure.Failure.{Failure}
+use Rattle.run_base.specs.declared.error.CommandError.{CommandError}
 use Rattle.run_base.proofs.Causes.{widened}
-use Rattle.vt_commands.specs.Run.{Does, DoesAsked, DoesWords, OnlyForArchives}
+use Rattle.vt_commands.specs.Run.{DoesCommand, DoesAsked, DoesWords, OnlyForArchives}
 use Rattle.vt_commands.specs.Work.{IsIdle, NoFolder, NoSource, OnlyParts, OnlyReading, OnlyServing, OnlySink, OnlyStore, Work, causes_of, lent_causes}
 
 same : {X : Type 0} → X → X
@@ -21,7 +21,7 @@ same x = x
 none : {X : Type 0} → ⊥ → X
 none never = absurd never
 
-module _ {R K I P D N L : Type 0} (disk : DiskOf D) (outcome : Outcome)
+module _ {R K I P D N L : Type 0} (disk : DiskOf D) (outcome : CommandOutcome)
     (work : Work R K I P D N L) where
   abbrev causes : Causes
   causes = lent_causes disk work
@@ -64,7 +64,7 @@ module _ {R K I P D N L : Type 0} (disk : DiskOf D) (outcome : Outcome)
       (λ bad. same)
 
   module _ (link : LinkOf L) (score : List ℕ → List ℕ) where
-    pub does_caused : (command : Command) → Does disk link score command outcome work
+    pub does_caused : (command : Command) → DoesCommand disk link score command outcome work
         → HasCauseIn causes outcome
     does_caused (Session store) does = serving_caused does.1
     does_caused (FormatArenas file name length arena_size) does = parts_caused does.1
@@ -109,7 +109,7 @@ module _ {R K I P D N L : Type 0} (disk : DiskOf D) (outcome : Outcome)
           of (Faulty text) asks does = inr does.idle.folders
 
   -- a word that was refused
-  pub reading_idle : (IsWhy : Failure → Type 0) → OnlyReading disk outcome work
+  pub reading_idle : (IsWhy : CommandError → Type 0) → OnlyReading disk outcome work
       → RefusesWord IsWhy outcome (UsesNothing work.files work.parts work.dialer work.sink)
       → RefusesWord IsWhy outcome (IsIdle work)
   reading_idle IsWhy only word = record {
@@ -126,7 +126,7 @@ module _ {R K I P D N L : Type 0} (disk : DiskOf D) (outcome : Outcome)
     };
   }
 
-  pub writing_idle : (IsWhy : Failure → Type 0) → NoFolder disk outcome work
+  pub writing_idle : (IsWhy : CommandError → Type 0) → NoFolder disk outcome work
       → RefusesWord IsWhy outcome
       (IsUntouched work.source × UsesNothing work.files work.parts work.dialer work.sink)
       → RefusesWord IsWhy outcome (IsIdle work)

@@ -1,34 +1,34 @@
 -- What `read` and `write` promise over the store of a configuration.
 use Rattle.std.specs.Prelude.{◌≡◌, ◌++◌, ◌⊎◌, IsTrue, [], ◌∷◌, Result, Ok, Err}
 use Rattle.hex.specs.Hex.{encode_lower}
-use Rattle.vt_base.specs.Protocol.{RMessage, r_read, r_write, r_error, text_of}
+use Rattle.vt_base.specs.Protocol.{RMessage, r_read, r_write, r_error, why_words}
 use Rattle.vt_base.specs.declared.why.Why.{Why}
-use Rattle.vt_single.specs.declared.stored.StoredBad.{StoredBad}
-use Rattle.vt_single.specs.declared.stored.StoredBad.TheVariants as stored
-use Rattle.run_base.specs.declared.failure.Failure.TheVariants.{NoMemory}
+use Rattle.vt_single.specs.declared.stored.StoredError.{StoredError}
+use Rattle.vt_single.specs.declared.stored.StoredError.TheVariants as stored
+use Rattle.run_base.specs.declared.error.CommandError.TheVariants.{NoMemory}
 use Rattle.run_base.specs.Blocks.{refusal_for}
-use Rattle.run_base.specs.Change.{Change}
-use Rattle.run_base.specs.Failure.{Outcome}
+use Rattle.run_base.specs.Change.{StreamChange}
+use Rattle.run_base.specs.Errors.{CommandOutcome}
 
 -- where the store was opened, this holds of what it answered, and else that
 abbrev pub WhereOpened : {T : Type 0} → (Holds : Result T Why → Type 0) → (unopened : Type 0)
-    → Result T StoredBad → Type 0
+    → Result T StoredError → Type 0
 WhereOpened Holds unopened (Ok value) = Holds (Ok value)
 WhereOpened Holds unopened (Err (stored.Refused why)) = Holds (Err why)
 WhereOpened Holds unopened (Err (stored.Unopened bad)) = unopened
 
 -- a reply is told: a block by its bytes, a score by its digits in a line, and a refusal by its
 -- failure
-abbrev pub TellsReply : {K : Type 0} → RMessage → Outcome → Change K → Type 0
+abbrev pub TellsReply : {K : Type 0} → RMessage → CommandOutcome → StreamChange K → Type 0
 TellsReply (r_read bytes) outcome sink =
     (outcome ≡ Ok tt) × (IsTrue sink.tells → sink.new ≡ sink.old ++ bytes)
 TellsReply (r_write s) outcome sink =
     (outcome ≡ Ok tt) × (IsTrue sink.tells → sink.new ≡ sink.old ++ (encode_lower s ++ 10 ∷ []))
 TellsReply (r_error text) outcome sink =
-    ((why : Why) × (text ≡ text_of why) × (outcome ≡ Err (refusal_for why)))
+    ((why : Why) × (text ≡ why_words why) × (outcome ≡ Err (refusal_for why)))
     × (sink.after ≡ sink.before)
 TellsReply reply outcome sink = ⊥
 
 -- that, or want of memory
-abbrev pub TellsReplyOrMemory : {K : Type 0} → RMessage → Outcome → Change K → Type 0
+abbrev pub TellsReplyOrMemory : {K : Type 0} → RMessage → CommandOutcome → StreamChange K → Type 0
 TellsReplyOrMemory reply outcome sink = (outcome ≡ Err NoMemory) ⊎ TellsReply reply outcome sink

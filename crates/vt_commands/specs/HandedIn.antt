@@ -10,7 +10,7 @@ use Rattle.vt_part.specs.Table.{Table}
 use Rattle.vt_core.specs.Files.{PerDevice}
 use Rattle.vt_core.specs.Mounting.{IsLogOf, KeepsLimits}
 use Rattle.vt_open.specs.Names.{AreUnder}
-use Rattle.run_base.specs.Failure.{HasFailed}
+use Rattle.run_base.specs.Errors.{PartHasFailed}
 use Rattle.vt_commands.specs.Work.{Work}
 
 -- All that is handed in tells what it holds: the file of this name is a configuration, of what
@@ -43,4 +43,4 @@ pub record NoneFails {R K I P D N L : Type 0} (disk : DiskOf D) (work : Work R K
   pub sink : ¬ HasRisen work.sink.faults work.sink.faults'
   pub files : ¬ HasRisen work.files.faults work.files.faults'
   pub parts : ¬ HasRisen work.parts.faults work.parts.faults'
-  pub disks : ¬ HasFailed disk work.parts
+  pub disks : ¬ PartHasFailed disk work.parts

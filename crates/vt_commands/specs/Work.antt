@@ -3,13 +3,13 @@
 use Rattle.std.specs.Prelude.{⊤}
 use Rattle.vt_disk.specs.Members.{DiskOf}
 use Rattle.run_base.specs.declared.host.Outside.{Outside}
-use Rattle.run_base.specs.Change.{AreUnused, Change, DialerChange, FilesChange, FoldersChange, IsUntouched, NoneDialled, NoneHandedOut, NoneRead, PartsChange, dialer_change, files_change, folders_change, parts_change, sink_change, source_change}
-use Rattle.run_base.specs.Failure.{Causes, HasCauseIn, Outcome, no_cause, with_dialer, with_files, with_folders, with_parts, with_sink, with_source}
+use Rattle.run_base.specs.Change.{AreUnused, StreamChange, DialerChange, FilesChange, FoldersChange, IsUntouched, NoneDialled, NoneHandedOut, NoneRead, PartsChange, dialer_change, files_change, folders_change, parts_change, sink_change, source_change}
+use Rattle.run_base.specs.Errors.{Causes, HasCauseIn, CommandOutcome, no_cause, with_dialer, with_files, with_folders, with_parts, with_sink, with_source}
 use Rattle.run_base.specs.Members.{SourceOf, SinkOf, FilesOf, PartsOf, FoldersOf, DialerOf, LinkOf}
 
 pub record Work (R K I P D N L : Type 0) : Type 0 where
-  pub source : Change R
-  pub sink : Change K
+  pub source : StreamChange R
+  pub sink : StreamChange K
   pub files : FilesChange I
   pub parts : PartsChange P D
   pub dialer : DialerChange N L
@@ -48,7 +48,7 @@ pub record IsIdle {R K I P D N L : Type 0} (work : Work R K I P D N L) : Type 0 
 -- ---- nothing but this was touched, and a fault comes of it
 
 -- the sink
-pub record OnlySink {R K I P D N L : Type 0} (outcome : Outcome) (work : Work R K I P D N L)
+pub record OnlySink {R K I P D N L : Type 0} (outcome : CommandOutcome) (work : Work R K I P D N L)
     : Type 0 where
   pub unread : IsUntouched work.source
   pub unopened : NoneRead work.files
@@ -58,7 +58,7 @@ pub record OnlySink {R K I P D N L : Type 0} (outcome : Outcome) (work : Work R 
   pub cause : HasCauseIn (with_sink work.sink no_cause) outcome
 
 -- the partitions and the sink
-pub record OnlyParts {R K I P D N L : Type 0} (disk : DiskOf D) (outcome : Outcome)
+pub record OnlyParts {R K I P D N L : Type 0} (disk : DiskOf D) (outcome : CommandOutcome)
     (work : Work R K I P D N L) : Type 0 where
   pub unread : IsUntouched work.source
   pub unopened : NoneRead work.files
@@ -67,7 +67,7 @@ pub record OnlyParts {R K I P D N L : Type 0} (disk : DiskOf D) (outcome : Outco
   pub cause : HasCauseIn (with_parts disk work.parts (with_sink work.sink no_cause)) outcome
 
 -- the files, the partitions and the sink
-pub record OnlyStore {R K I P D N L : Type 0} (disk : DiskOf D) (outcome : Outcome)
+pub record OnlyStore {R K I P D N L : Type 0} (disk : DiskOf D) (outcome : CommandOutcome)
     (work : Work R K I P D N L) : Type 0 where
   pub unread : IsUntouched work.source
   pub undialled : NoneDialled work.dialer
@@ -76,7 +76,7 @@ pub record OnlyStore {R K I P D N L : Type 0} (disk : DiskOf D) (outcome : Outco
       (with_sink work.sink no_cause))) outcome
 
 -- the two streams, the files and the partitions
-pub record OnlyServing {R K I P D N L : Type 0} (disk : DiskOf D) (outcome : Outcome)
+pub record OnlyServing {R K I P D N L : Type 0} (disk : DiskOf D) (outcome : CommandOutcome)
     (work : Work R K I P D N L) : Type 0 where
   pub undialled : NoneDialled work.dialer
   pub folders : AreUnused work.folders
@@ -84,7 +84,7 @@ pub record OnlyServing {R K I P D N L : Type 0} (disk : DiskOf D) (outcome : Out
       (with_parts disk work.parts no_cause)))) outcome
 
 -- all but the source and the folders
-pub record OnlyReading {R K I P D N L : Type 0} (disk : DiskOf D) (outcome : Outcome)
+pub record OnlyReading {R K I P D N L : Type 0} (disk : DiskOf D) (outcome : CommandOutcome)
     (work : Work R K I P D N L) : Type 0 where
   pub unread : IsUntouched work.source
   pub folders : AreUnused work.folders
@@ -92,14 +92,14 @@ pub record OnlyReading {R K I P D N L : Type 0} (disk : DiskOf D) (outcome : Out
       (with_dialer work.dialer (with_sink work.sink no_cause)))) outcome
 
 -- all but the folders
-pub record NoFolder {R K I P D N L : Type 0} (disk : DiskOf D) (outcome : Outcome)
+pub record NoFolder {R K I P D N L : Type 0} (disk : DiskOf D) (outcome : CommandOutcome)
     (work : Work R K I P D N L) : Type 0 where
   pub folders : AreUnused work.folders
   pub cause : HasCauseIn (with_source work.source (with_sink work.sink (with_files work.files
       (with_parts disk work.parts (with_dialer work.dialer no_cause))))) outcome
 
 -- all but the source
-pub record NoSource {R K I P D N L : Type 0} (disk : DiskOf D) (outcome : Outcome)
+pub record NoSource {R K I P D N L : Type 0} (disk : DiskOf D) (outcome : CommandOutcome)
     (work : Work R K I P D N L) : Type 0 where
   pub unread : IsUntouched work.source
   pub cause : HasCauseIn (with_files work.files (with_folders work.folders (with_parts disk

@@ -2,15 +2,15 @@
 
 ghost use Rattle.std.specs.Prelude.{◌≡◌, ◌≢◌, ◌⊎◌, ◌++◌, ◌&&◌, ℕ, List, [], ◌∷◌, IsTrue, Err, Result, codes};
 ghost use Rattle.vt_base.specs.Faults.{HasRisen};
-ghost use Rattle.vt_words.specs.declared.command.Command.{Command};
+ghost use Rattle.vt_cli.specs.declared.command.Command.{Command};
 ghost use Rattle.vt_base.specs.Protocol.{read, write};
 ghost use Rattle.vt_base.specs.declared.TheConstants.{MAX_BLOCK};
 ghost use Rattle.vt_base.specs.declared.score.Score.{Score};
-ghost use Rattle.vt_words.specs.declared.command.Command.TheVariants.{Session, Read, Write};
-ghost use Rattle.vt_words.specs.declared.asked.Asked.TheVariants.{Do};
-ghost use Rattle.vt_words.specs.Words.{Asks, AreFaulty, session_words};
-ghost use Rattle.run_base.specs.declared.failure.Failure.TheVariants.{NoMemory};
-ghost use Rattle.run_base.specs.Change.{Change, FoldersChange, PartsChange, Attempts};
+ghost use Rattle.vt_cli.specs.declared.command.Command.TheVariants.{Session, Read, Write};
+ghost use Rattle.vt_cli.specs.declared.asked.Asked.TheVariants.{Do};
+ghost use Rattle.vt_cli.specs.Words.{Asks, AreFaulty, session_words};
+ghost use Rattle.run_base.specs.declared.error.CommandError.TheVariants.{NoMemory};
+ghost use Rattle.run_base.specs.Change.{StreamChange, FoldersChange, PartsChange, Attempts};
 ghost use Rattle.run_sessions.specs.SessionConf.{KeepsConf, ServesConf};
 ghost use Rattle.run_base.specs.Unopened.{OpensNone};
 ghost use Rattle.vt_conf.specs.declared.conf.Conf.{Conf};
@@ -28,17 +28,17 @@ ghost use Rattle.vt_commands.specs.Answers.{TellsReplyOrMemory, WhereOpened};
 ghost use Rattle.run_base.specs.Blocks.{DoesStored, SaysNoType, SaysType};
 ghost use Rattle.run_sessions.specs.Read.{SaysBlock, SaysNoBlock};
 ghost use Rattle.run_archives.specs.Vac.{StoresFolder, WhereStored};
-ghost use Rattle.vac_store.specs.declared.outcome.ArchiveBad.{ArchiveBad};
+ghost use Rattle.vac_store.specs.declared.outcome.ArchiveError.{ArchiveError};
 ghost use Rattle.vac_store.specs.declared.outcome.StoredArchive.{StoredArchive};
 ghost use Rattle.vac_store.specs.Stored.{KeepsStored};
 ghost use Rattle.vac_write.specs.Archiving.{IsSeen};
 ghost use Rattle.run_base.specs.Formatting.{RefusesWord};
-ghost use Rattle.run_base.specs.Failure.{Outcome, HasFailed, HasLinkFailed, status_of, line};
-ghost use Rattle.run_base.specs.Places.{EndsIdle, Names, in_memory};
+ghost use Rattle.run_base.specs.Errors.{CommandOutcome, PartHasFailed, HasLinkFailed, status_of, line};
+ghost use Rattle.run_base.specs.Places.{EndsIdle, NamesPlace, in_memory};
 ghost use Rattle.vt_commands.specs.HandedIn.{IsWellHandedIn, NoneFails};
-ghost use Rattle.vt_commands.specs.Run.{Did, Does};
+ghost use Rattle.vt_commands.specs.Run.{Did, DoesCommand};
 ghost use Rattle.vt_commands.specs.Work.{IsIdle, Work};
-ghost use Rattle.run_base.specs.Served.{EndsWell};
+ghost use Rattle.run_base.specs.Served.{InputEndsWell};
 
 use vac_store::stores_keep_archives;
 use vt_alone::{sessions_end_well, sessions_leave_all, sound_stores_need_memory};
@@ -46,7 +46,7 @@ use vt_conf::laws::configurations_have_one_meaning;
 use vt_dial::Dialer;
 use vt_open::{devices_have_names, opened_stores_recall, refused_stores_stand, shapes_are_kept};
 use vt_out::{Files, Sink, Source};
-use vt_parts::Parts;
+use vt_partitions::Parts;
 use vt_single::{failures_have_causes, stores_are_read, stores_are_written};
 
 /// What follows from what a run did.
@@ -54,14 +54,14 @@ pub fn did_tells<R: Source, K: Sink, F: Sink, I: Files, P: Parts, N: Dialer>()
     // Words that ask for nothing that the program knows do nothing: nothing is read or handed out,
     // and nothing is written but on the fault sink, a line behind the short help, if that is told.
     ensures bad_words { (score : List ℕ → List ℕ) (words : List (List ℕ)) (status : ℕ)
-        (work : Work R K I P P.Disk N N.Link) (complaint : Change F)
+        (work : Work R K I P P.Disk N N.Link) (complaint : StreamChange F)
         → Did P.Disk.Disk N.Link.Link score words status work complaint → AreFaulty words
         → (status ≡ 1) ⊎ (status ≡ 8) }
     ensures idle { (score : List ℕ → List ℕ) (words : List (List ℕ)) (status : ℕ)
-        (work : Work R K I P P.Disk N N.Link) (complaint : Change F)
+        (work : Work R K I P P.Disk N N.Link) (complaint : StreamChange F)
         → Did P.Disk.Disk N.Link.Link score words status work complaint → AreFaulty words → IsIdle work }
     ensures complained { (score : List ℕ → List ℕ) (words : List (List ℕ)) (status : ℕ)
-        (work : Work R K I P P.Disk N N.Link) (complaint : Change F)
+        (work : Work R K I P P.Disk N N.Link) (complaint : StreamChange F)
         → Did P.Disk.Disk N.Link.Link score words status work complaint → status ≡ 1
         → (preface : List ℕ)
         × Attempts complaint (preface ++ line (codes "bad command line" ∷ [])) }
@@ -69,24 +69,24 @@ pub fn did_tells<R: Source, K: Sink, F: Sink, I: Files, P: Parts, N: Dialer>()
     // Words that ask for a command do it, and its outcome gives the status, unless memory runs out
     // before anything is done. Status 1 is told of none.
     ensures command { (score : List ℕ → List ℕ) (words : List (List ℕ)) (status : ℕ)
-        (work : Work R K I P P.Disk N N.Link) (complaint : Change F)
+        (work : Work R K I P P.Disk N N.Link) (complaint : StreamChange F)
         → Did P.Disk.Disk N.Link.Link score words status work complaint → (command : Command)
-        → Asks words (Do command) → (outcome : Outcome) × (status ≡ status_of outcome)
-        × (Does P.Disk.Disk N.Link.Link score command outcome work
+        → Asks words (Do command) → (outcome : CommandOutcome) × (status ≡ status_of outcome)
+        × (DoesCommand P.Disk.Disk N.Link.Link score command outcome work
         ⊎ EndsIdle (Err NoMemory) outcome (IsIdle work)) }
     ensures good_words { (score : List ℕ → List ℕ) (words : List (List ℕ)) (status : ℕ)
-        (work : Work R K I P P.Disk N N.Link) (complaint : Change F)
+        (work : Work R K I P P.Disk N N.Link) (complaint : StreamChange F)
         → Did P.Disk.Disk N.Link.Link score words status work complaint → (command : Command)
         → Asks words (Do command) → status ≢ 1 }
 
     // A fault is told only where the count of that stream rose, or that of the files, of the
     // folders, of a disk, of the partitions or of the dialer, or a link that was made counts one.
     ensures disk_fault { (score : List ℕ → List ℕ) (words : List (List ℕ)) (status : ℕ)
-        (work : Work R K I P P.Disk N N.Link) (complaint : Change F)
+        (work : Work R K I P P.Disk N N.Link) (complaint : StreamChange F)
         → Did P.Disk.Disk N.Link.Link score words status work complaint → status ≡ 4
-        → HasRisen work.parts.faults work.parts.faults' ⊎ HasFailed P.Disk.Disk work.parts }
+        → HasRisen work.parts.faults work.parts.faults' ⊎ PartHasFailed P.Disk.Disk work.parts }
     ensures read_fault { (score : List ℕ → List ℕ) (words : List (List ℕ)) (status : ℕ)
-        (work : Work R K I P P.Disk N N.Link) (complaint : Change F)
+        (work : Work R K I P P.Disk N N.Link) (complaint : StreamChange F)
         → Did P.Disk.Disk N.Link.Link score words status work complaint → status ≡ 6
         → HasRisen work.source.faults work.source.faults'
         ⊎ HasRisen work.files.faults work.files.faults'
@@ -94,7 +94,7 @@ pub fn did_tells<R: Source, K: Sink, F: Sink, I: Files, P: Parts, N: Dialer>()
         ⊎ HasRisen work.dialer.faults work.dialer.faults'
         ⊎ HasLinkFailed work.dialer.read_faults work.dialer }
     ensures write_fault { (score : List ℕ → List ℕ) (words : List (List ℕ)) (status : ℕ)
-        (work : Work R K I P P.Disk N N.Link) (complaint : Change F)
+        (work : Work R K I P P.Disk N N.Link) (complaint : StreamChange F)
         → Did P.Disk.Disk N.Link.Link score words status work complaint → status ≡ 7
         → HasRisen work.sink.faults work.sink.faults'
         ⊎ HasLinkFailed work.dialer.write_faults work.dialer }
@@ -102,9 +102,9 @@ pub fn did_tells<R: Source, K: Sink, F: Sink, I: Files, P: Parts, N: Dialer>()
     // The input of a session that ends well, without a fault of the streams, is answered to its
     // end, unless memory runs out.
     ensures complete { (score : List ℕ → List ℕ) (words : List (List ℕ)) (status : ℕ)
-        (work : Work R K I P P.Disk N N.Link) (complaint : Change F)
+        (work : Work R K I P P.Disk N N.Link) (complaint : StreamChange F)
         → Did P.Disk.Disk N.Link.Link score words status work complaint → words ≡ session_words
-        → IsTrue work.source.tells → IsTrue work.sink.tells → EndsWell work.source.old
+        → IsTrue work.source.tells → IsTrue work.sink.tells → InputEndsWell work.source.old
         → ¬ HasRisen work.source.faults work.source.faults'
         → ¬ HasRisen work.sink.faults work.sink.faults'
         → (status ≡ 0) ⊎ (status ≡ 8) }
@@ -114,8 +114,9 @@ pub fn did_tells<R: Source, K: Sink, F: Sink, I: Files, P: Parts, N: Dialer>()
 /// it holds, and every combination of the partitions' images stands for a prefix of one legal
 /// history. Where the store isn't opened, whatever call failed, a crash loses nothing of it.
 pub fn sessions_keep_the_store<R: Source, K: Sink, P: Parts>()
-    ensures served { (score : List ℕ → List ℕ) (conf : Conf) (outcome : Outcome)
-        (source : Change R) (sink : Change K) (parts : PartsChange P P.Disk) (tables : List Table)
+    ensures served { (score : List ℕ → List ℕ) (conf : Conf) (outcome : CommandOutcome)
+        (source : StreamChange R) (sink : StreamChange K) (parts : PartsChange P P.Disk)
+        (tables : List Table)
         (devices : PerDevice P.Disk) (c : Setup) (h g : History) (base : ℕ)
         (x : ServesConf score P.Disk.Disk conf outcome source sink parts) → IsTrue parts.tells
         → IsTrue P.Disk.tells → IsTrue (source.tells && sink.tells)
@@ -123,7 +124,8 @@ pub fn sessions_keep_the_store<R: Source, K: Sink, P: Parts>()
         → KeepsConf score P.Disk.Disk conf x.serves.end x.serves.input x.serves.output parts.new
         tables devices (record c { base = base }) g }
     ensures refused { (score : List ℕ → List ℕ) (file : List ℕ) (conf : Conf)
-        (outcome : Outcome) (source : Change R) (sink : Change K) (parts : PartsChange P P.Disk)
+        (outcome : CommandOutcome) (source : StreamChange R) (sink : StreamChange K)
+        (parts : PartsChange P P.Disk)
         (tables : List Table) (devices back : PerDevice P.Disk)
         → OpensNone score P.Disk.Disk file conf outcome source sink parts → IsTrue parts.tells
         → IsTrue P.Disk.tells → AreUnder parts.old conf devices → AreUnder parts.new conf back
@@ -141,10 +143,10 @@ pub fn sessions_keep_the_store<R: Source, K: Sink, P: Parts>()
 /// unless memory runs out, where no call fails.
 pub fn sessions_are_answered<R: Source, K: Sink, F: Sink, I: Files, P: Parts, N: Dialer>()
     ensures { (score : List ℕ → List ℕ) (words : List (List ℕ)) (status : ℕ)
-        (work : Work R K I P P.Disk N N.Link) (complaint : Change F) (file : List ℕ)
+        (work : Work R K I P P.Disk N N.Link) (complaint : StreamChange F) (file : List ℕ)
         → Did P.Disk.Disk N.Link.Link score words status work complaint
         → Asks words (Do (Session file)) → file ≢ in_memory
-        → IsWellHandedIn score P.Disk.Disk file work → EndsWell work.source.old
+        → IsWellHandedIn score P.Disk.Disk file work → InputEndsWell work.source.old
         → NoneFails P.Disk.Disk work → (status ≡ 0) ⊎ (status ≡ 8) }
 {
     configurations_have_one_meaning();
@@ -160,7 +162,7 @@ pub fn sessions_are_answered<R: Source, K: Sink, F: Sink, I: Files, P: Parts, N:
 /// block. Where the store isn't opened, a crash loses nothing of it.
 pub fn blocks_keep_the_store<K: Sink, P: Parts>()
     ensures read { (score : List ℕ → List ℕ) (file : List ℕ) (conf : Conf) (kind : ℕ)
-        (s : List ℕ) (text : List ℕ → List ℕ) (outcome : Outcome) (sink : Change K)
+        (s : List ℕ) (text : List ℕ → List ℕ) (outcome : CommandOutcome) (sink : StreamChange K)
         (parts : PartsChange P P.Disk) (tables : List Table) (devices : PerDevice P.Disk)
         (c : Setup) (h g : History) (base : ℕ)
         (x : DoesStored score P.Disk.Disk file conf (ReadsBlock score P.Disk.Disk kind s) text
@@ -170,7 +172,7 @@ pub fn blocks_keep_the_store<K: Sink, P: Parts>()
         (record c { base = base }) g) ((back : PerDevice P.Disk) → AreUnder parts.new conf back
         → LeavesStanding score P.Disk.Disk tables devices back) x.result }
     ensures written { (score : List ℕ → List ℕ) (file : List ℕ) (conf : Conf) (now kind : ℕ)
-        (bytes : List ℕ) (text : Score → List ℕ) (outcome : Outcome) (sink : Change K)
+        (bytes : List ℕ) (text : Score → List ℕ) (outcome : CommandOutcome) (sink : StreamChange K)
         (parts : PartsChange P P.Disk) (tables : List Table) (devices : PerDevice P.Disk)
         (c : Setup) (h g : History) (base : ℕ)
         (x : DoesStored score P.Disk.Disk file conf (WritesBlock score P.Disk.Disk now kind bytes)
@@ -190,10 +192,10 @@ pub fn blocks_keep_the_store<K: Sink, P: Parts>()
 /// the reply of a write-once store that holds what the partitions do, unless memory runs out.
 pub fn blocks_are_answered<R: Source, K: Sink, F: Sink, I: Files, P: Parts, N: Dialer>()
     ensures read { (score : List ℕ → List ℕ) (words : List (List ℕ)) (status : ℕ)
-        (work : Work R K I P P.Disk N N.Link) (complaint : Change F)
+        (work : Work R K I P P.Disk N N.Link) (complaint : StreamChange F)
         (file score_word type_word : List ℕ)
         (did : Did P.Disk.Disk N.Link.Link score words status work complaint)
-        → Asks words (Do (Read file score_word type_word)) → Names file place.Conf
+        → Asks words (Do (Read file score_word type_word)) → NamesPlace file place.Conf
         → (it : IsWellHandedIn score P.Disk.Disk file work) → NoneFails P.Disk.Disk work
         → RefusesWord (SaysNoBlock score_word type_word) did.outcome (IsIdle work)
         ⊎ (did.outcome ≡ Err NoMemory)
@@ -201,9 +203,9 @@ pub fn blocks_are_answered<R: Source, K: Sink, F: Sink, I: Files, P: Parts, N: D
         × TellsReplyOrMemory (answer score (record it.c { base = it.base }) it.g
         (read s kind MAX_BLOCK)).reply did.outcome work.sink) }
     ensures written { (score : List ℕ → List ℕ) (words : List (List ℕ)) (status : ℕ)
-        (work : Work R K I P P.Disk N N.Link) (complaint : Change F) (file type_word : List ℕ)
+        (work : Work R K I P P.Disk N N.Link) (complaint : StreamChange F) (file type_word : List ℕ)
         (did : Did P.Disk.Disk N.Link.Link score words status work complaint)
-        → Asks words (Do (Write file type_word)) → Names file place.Conf
+        → Asks words (Do (Write file type_word)) → NamesPlace file place.Conf
         → (it : IsWellHandedIn score P.Disk.Disk file work) → NoneFails P.Disk.Disk work
         → RefusesWord (SaysNoType type_word) did.outcome (IsIdle work)
         ⊎ (did.outcome ≡ Err NoMemory)
@@ -225,7 +227,7 @@ pub fn blocks_are_answered<R: Source, K: Sink, F: Sink, I: Files, P: Parts, N: D
 /// isn't opened, a crash loses nothing of it.
 pub fn archives_keep_the_store<P: Parts>()
     ensures { (score : List ℕ → List ℕ) (name : List ℕ) (conf : Conf) (bsize : ℕ)
-        (result : Result StoredArchive ArchiveBad) (folders : FoldersChange)
+        (result : Result StoredArchive ArchiveError) (folders : FoldersChange)
         (parts : PartsChange P P.Disk) (tables : List Table) (devices : PerDevice P.Disk)
         (c : Setup) (h g : History) (base : ℕ)
         (x : StoresFolder score P.Disk.Disk name conf bsize result folders parts)

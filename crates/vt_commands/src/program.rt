@@ -3,24 +3,23 @@
 ghost use Rattle.sha1.specs.Sha1.{sha1};
 ghost use Rattle.std.specs.Prelude.{◌≡◌, ℕ, List, map, OnErr, OnOk};
 ghost use Rattle.run_base.specs.Change.{Attempts, sink_change};
-ghost use Rattle.run_base.specs.Failure.{status_of, line_of};
+ghost use Rattle.run_base.specs.Errors.{status_of, outcome_line};
 ghost use Rattle.run_base.specs.Said.{Said};
 ghost use Rattle.vt_commands.specs.Run.{Did, DoesWords, SaysAndDoes};
 ghost use Rattle.vt_commands.specs.Work.{work_of};
 
 use run_archives::{vac_at, vacfs};
-use run_base::{Failure, Outside, complain_of, print, status};
+use run_base::{CommandError, Outside, complain_of, print, status};
 use run_sessions::{read, session_at, write};
 use run_stores::{buildindex, checkarenas, fmtarenas, fmtbloom, fmtindex, fmtisect, rehearse};
 use std::alloc::{AllocError, Global};
 use std::convert::AsStr;
 use std::thread::Threads;
 use vt_base::{Failed, Scorer, Sha1Scorer};
+use vt_cli::{Asked, Command, ask};
 use vt_dial::Dialer;
-use vt_folders::Folders;
-use vt_out::{Clock, Files, Sink, Source};
-use vt_parts::Parts;
-use vt_words::{Asked, Command, ask};
+use vt_out::{Clock, Files, Folders, Sink, Source};
+use vt_partitions::Parts;
 
 /// Does what the words of the command line say, and answers the exit status (venti(8)). A status
 /// other than 0 has its line on the fault sink, if that takes it.
@@ -96,10 +95,10 @@ pub fn run_with<
 pub fn end<F: Sink>(
     fault_sink: &mut F,
     said: Result<(), Failed>,
-    outcome: &Result<(), Failure>,
+    outcome: &Result<(), CommandError>,
 ) -> u8
     ensures complained { OnOk said
-        (Attempts (sink_change F.Sink fault_sink.old fault_sink.new) (line_of outcome.now)) }
+        (Attempts (sink_change F.Sink fault_sink.old fault_sink.new) (outcome_line outcome.now)) }
     ensures silent { OnErr said (fault_sink.new ≡ fault_sink.old) }
     ensures status { result ≡ status_of outcome.now }
 {
@@ -128,7 +127,7 @@ fn do_words<
     words: &[W],
     host: &mut Outside<R, K, F, I, P, N, G, C, T>,
     scorer: &S,
-) -> (Result<(), Failed>, Result<(), Failure>)
+) -> (Result<(), Failed>, Result<(), CommandError>)
     ensures { (preface : List ℕ) × DoesWords P.Disk.Disk N.Link.Link S.score_of
         (map W.text words.now) preface result.1
         (work_of R.Source K.Sink I.Files P.Parts G.Folders N.Dialer
@@ -141,8 +140,11 @@ fn do_words<
             Ok(()),
             print(&mut host.streams.sink, &[text.as_bytes()]),
         ),
-        Ok(Asked::Faulty(text)) => (host.fault_sink.put(text.as_bytes()), Err(Failure::BadWords)),
-        Err(AllocError) => (Ok(()), Err(Failure::NoMemory)),
+        Ok(Asked::Faulty(text)) => (
+            host.fault_sink.put(text.as_bytes()),
+            Err(CommandError::BadWords),
+        ),
+        Err(AllocError) => (Ok(()), Err(CommandError::NoMemory)),
     }
 }
 
@@ -164,7 +166,7 @@ fn do_command<
     command: Command,
     host: &mut Outside<R, K, F, I, P, N, G, C, T>,
     scorer: &S,
-) -> (Result<(), Failed>, Result<(), Failure>)
+) -> (Result<(), Failed>, Result<(), CommandError>)
     ensures { SaysAndDoes P.Disk.Disk N.Link.Link S.score_of command result.0 result.1
         (work_of R.Source K.Sink I.Files P.Parts G.Folders N.Dialer
         N.Link.Link host.old host.new)

@@ -9,18 +9,18 @@ use Rattle.vt_conf.specs.declared.conf.PartFile.{PartFile}
 use Rattle.vt_conf.specs.declared.keyword.Keyword.{Keyword}
 use Rattle.vt_conf.specs.declared.keyword.Keyword.TheVariants.{Index, Arenas, Isect, Bloom, Mem, Icmem, Bcmem, Httpaddr, Webroot, Queuewrites, Addr}
 use Rattle.vt_conf.specs.declared.setting.Setting.{Setting}
-use Rattle.vt_conf.specs.declared.why.ConfErr.{ConfErr}
-use Rattle.vt_conf.specs.declared.why.ConfErr.TheVariants.{Bad, NoMemory}
-use Rattle.vt_conf.specs.declared.why.ConfWhy.{ConfWhy}
-use Rattle.vt_conf.specs.declared.why.ConfWhy.TheVariants.{NotUtf8, TooLong, UnknownName, MissingValue, ExtraValue, BadSize, BadAddress, Repeated, TooMany, NoArenas, NoSections}
-use Rattle.vt_conf.specs.Configuration.{file_of, IsSizeIn, IsAddressIn, Entry, entry_at, entries_from, entries_of, Sets, AreSet, is_of, said, AreFew, IsText, AreSettings, Exceeds, RefusesLine, IsFirstRefused, IsFirstCause}
+use Rattle.vt_conf.specs.declared.error.ConfErr.{ConfErr}
+use Rattle.vt_conf.specs.declared.error.ConfErr.TheVariants.{Bad, NoMemory}
+use Rattle.vt_conf.specs.declared.error.ConfCause.{ConfCause}
+use Rattle.vt_conf.specs.declared.error.ConfCause.TheVariants.{NotUtf8, TooLong, UnknownName, MissingValue, ExtraValue, BadSize, BadAddress, Repeated, TooMany, NoArenas, NoSections}
+use Rattle.vt_conf.specs.Configuration.{file_of, IsSizeIn, IsAddressIn, Entry, entry_at, entries_from, line_entries, SetsSetting, AreSet, is_of, said, AreFew, IsConfText, AreSettings, Exceeds, RefusesLine, IsFirstRefused, IsFirstCause}
 use Rattle.vt_conf.specs.Addresses.{SpellsAddress}
 use Rattle.vt_conf.specs.Sizes.{SpellsSize}
 use Rattle.vt_conf.specs.Exceeding.{exceeded_by}
-use Rattle.vt_conf.specs.Keywords.{is_file, takes_size, number_of, same_keyword, room_of}
-use Rattle.vt_conf.specs.Lines.{lines_of, words_of}
-use Rattle.vt_conf.specs.Parsing.{lines_left, entry_of, AddsLine, IsBad, IsBadLine, HaveValues}
-use Rattle.vt_conf.specs.Settings.{IsRead, IsValue, Misreads, LacksValue}
+use Rattle.vt_conf.specs.Keywords.{is_file, takes_size, keyword_number, same_keyword, most_lines}
+use Rattle.vt_conf.specs.Lines.{lines_of, words_of_line}
+use Rattle.vt_conf.specs.Parsing.{lines_left, line_entry, AddsLine, IsBad, IsBadLine, HaveValues}
+use Rattle.vt_conf.specs.Settings.{IsSettingRead, IsValue, Misreads, LacksValue}
 use Rattle.vt_conf.proofs.TextLines.{line_at, all_left, none_left, next_left, line_within}
 
 -- ---- keywords
@@ -39,7 +39,7 @@ keyword_at n =
     else if n == 9 then Queuewrites
     else Addr
 
-number_back : (k : Keyword) → keyword_at (number_of k) ≡ k
+number_back : (k : Keyword) → keyword_at (keyword_number k) ≡ k
 number_back Index = refl
 number_back Arenas = refl
 number_back Isect = refl
@@ -54,7 +54,7 @@ number_back Addr = refl
 
 pub same_is : (a b : Keyword) → same_keyword a b ≡ true → a ≡ b
 same_is a b same =
-    sym (number_back a) ∙ ap keyword_at (eqb-true (number_of a) (number_of b) same) ∙ number_back b
+    sym (number_back a) ∙ ap keyword_at (eqb-true (keyword_number a) (keyword_number b) same) ∙ number_back b
 
 pub is_same : (a : Keyword) → same_keyword a a ≡ true
 is_same Index = refl
@@ -75,12 +75,12 @@ said-push : (k : Keyword) (old : List Setting) (s : Setting)
     → said k (old ++ s ∷ []) ≡ said k old ++ cond (is_of k s) (s ∷ []) []
 said-push k old s = filter-append (is_of k) old (s ∷ [])
 
-few_push : (old : List Setting) (s : Setting) → AreFew old → length (said s.keyword old) < room_of s.keyword
+few_push : (old : List Setting) (s : Setting) → AreFew old → length (said s.keyword old) < most_lines s.keyword
     → AreFew (old ++ s ∷ [])
 few_push old s few room k = ⊎_elim
     (λ (yes : is_of k s ≡ true).
     let is : s.keyword ≡ k = same_is s.keyword k yes in
-    let below : length (said k old) < room_of k = subst (λ (j : Keyword). length (said j old) < room_of j) is room in
+    let below : length (said k old) < most_lines k = subst (λ (j : Keyword). length (said j old) < most_lines j) is room in
     let one : said k (old ++ s ∷ []) ≡ said k old ++ s ∷ [] = said-push k old s ∙ ap (λ (b : Bool). said k old ++ cond b (s ∷ []) []) yes in
     omega (arith, below, ap length one, length-append (said k old) (s ∷ [])))
     (λ (no : is_of k s ≡ false).
@@ -88,7 +88,7 @@ few_push old s few room k = ⊎_elim
     omega (arith, few k, ap length none))
     (cases_Bool (is_of k s))
 
-set_push : (es : List Entry) (old : List Setting) (e : Entry) (s : Setting) → AreSet es old → Sets e s
+set_push : (es : List Entry) (old : List Setting) (e : Entry) (s : Setting) → AreSet es old → SetsSetting e s
     → AreSet (es ++ e ∷ []) (old ++ s ∷ [])
 set_push [] [] e s set one = (one, tt)
 set_push [] (t ∷ old) e s set one = absurd set
@@ -131,7 +131,7 @@ first_has_value k settings others s values is =
 
 pub record HasRead (text : List ℕ) (start number : ℕ) (settings : List Setting) : Type 0 where
   pub passed : List Entry
-  pub split : entries_of text ≡ passed ++ entries_from (number + 1) (lines_left text start)
+  pub split : line_entries text ≡ passed ++ entries_from (number + 1) (lines_left text start)
   pub set : AreSet passed settings
   pub few : AreFew settings
   pub low : number ≤ start
@@ -149,14 +149,14 @@ none_read text = record {
 
 -- the lines from this one on
 split_next : (text line : List ℕ) (start number next : ℕ) (passed : List Entry) → start ≤ length text
-    → entries_of text ≡ passed ++ entries_from (number + 1) (lines_left text start) → line ≡ line_at text start
+    → line_entries text ≡ passed ++ entries_from (number + 1) (lines_left text start) → line ≡ line_at text start
     → next ≡ start + (length line + 1)
-    → entries_of text ≡ (passed ++ entry_at (number + 1) (words_of line)) ++ entries_from ((number + 1) + 1) (lines_left text next)
+    → line_entries text ≡ (passed ++ entry_at (number + 1) (words_of_line line)) ++ entries_from ((number + 1) + 1) (lines_left text next)
 split_next text line start number next passed within split is at =
     let at' : next ≡ start + (length (line_at text start) + 1) = at ∙ ap (λ (l : List ℕ). start + (length l + 1)) is in
     split ∙ ap (λ (ls : List (List ℕ)). passed ++ entries_from (number + 1) ls)
     (next_left text start next within at' ∙ ap (λ (l : List ℕ). l ∷ lines_left text next) (sym is))
-    ∙ sym (append_assoc passed (entry_at (number + 1) (words_of line)) (entries_from ((number + 1) + 1) (lines_left text next)))
+    ∙ sym (append_assoc passed (entry_at (number + 1) (words_of_line line)) (entries_from ((number + 1) + 1) (lines_left text next)))
 
 -- words that are a keyword and its value are a line's
 entry_is : (number : ℕ) (words : List (List ℕ)) (name : List ℕ) (values : List (List ℕ)) → words ≡ name ∷ values
@@ -173,9 +173,9 @@ one_read text line start number next old new h within is at adds =
     let low' : number + 1 ≤ next = omega (arith, h.low, at') in
     let high' : next ≤ length text + 1 = omega (arith, line_within text start within, at') in
     ⊎_elim
-    (λ (none : (words_of line ≡ []) × (new ≡ old)).
+    (λ (none : (words_of_line line ≡ []) × (new ≡ old)).
     record {
-      passed = h.passed ++ entry_at (number + 1) (words_of line);
+      passed = h.passed ++ entry_at (number + 1) (words_of_line line);
       split = split;
       set = subst (λ (es : List Entry). AreSet es new) (sym (ap (λ (ws : List (List ℕ)). h.passed ++ entry_at (number + 1) ws) none.0 ∙ append-nil h.passed))
           (subst (AreSet h.passed) (sym none.1) h.set);
@@ -183,12 +183,12 @@ one_read text line start number next old new h within is at adds =
       low = low';
       high = high';
     })
-    (λ (one : (s : Setting) × (new ≡ old ++ s ∷ []) × Sets (entry_of (number + 1) line) s × (length (said s.keyword old) < room_of s.keyword)).
+    (λ (one : (s : Setting) × (new ≡ old ++ s ∷ []) × SetsSetting (line_entry (number + 1) line) s × (length (said s.keyword old) < most_lines s.keyword)).
     record {
-      passed = h.passed ++ entry_at (number + 1) (words_of line);
+      passed = h.passed ++ entry_at (number + 1) (words_of_line line);
       split = split;
-      set = subst (λ (es : List Entry). AreSet (h.passed ++ es) new) (sym (entry_is (number + 1) (words_of line) one.2.read.name _ one.2.read.words_are))
-          (subst (AreSet (h.passed ++ entry_of (number + 1) line ∷ [])) (sym one.1) (set_push h.passed old (entry_of (number + 1) line) one.0 h.set one.2));
+      set = subst (λ (es : List Entry). AreSet (h.passed ++ es) new) (sym (entry_is (number + 1) (words_of_line line) one.2.read.name _ one.2.read.words_are))
+          (subst (AreSet (h.passed ++ line_entry (number + 1) line ∷ [])) (sym one.1) (set_push h.passed old (line_entry (number + 1) line) one.0 h.set one.2));
       few = subst AreFew (sym one.1) (few_push old one.0 h.few one.3);
       low = low';
       high = high';
@@ -196,7 +196,7 @@ one_read text line start number next old new h within is at adds =
     adds
 
 pub all_read : (text : List ℕ) (start number : ℕ) (settings : List Setting) → HasRead text start number settings
-    → length text < start → IsText text → AreSettings text settings
+    → length text < start → IsConfText text → AreSettings text settings
 all_read text start number settings h behind is_text = record {
   is_text = is_text;
   set = subst (λ (es : List Entry). AreSet es settings)
@@ -207,37 +207,37 @@ all_read text start number settings h behind is_text = record {
 -- ---- refusals
 
 -- words that are refused are a line's
-refused_entry : (before : List Setting) (number : ℕ) (words : List (List ℕ)) (why : ConfWhy)
+refused_entry : (before : List Setting) (number : ℕ) (words : List (List ℕ)) (why : ConfCause)
     → RefusesLine before (record { line = number; words = words }) why
     → entry_at number words ≡ record { line = number; words = words } ∷ []
 refused_entry before number [] why refused = ⊎_elim
     (λ (bad : Misreads [] why). absurd bad)
-    (λ (set : (s : Setting) × Sets (record { line = number; words = [] }) s × Exceeds before s why).
+    (λ (set : (s : Setting) × SetsSetting (record { line = number; words = [] }) s × Exceeds before s why).
     entry_is number [] set.1.read.name _ set.1.read.words_are)
     refused
 refused_entry before number (word ∷ words) why refused = refl
 
 -- only the tests of a line refuse one
-unexceeded : (k : Keyword) (why : ConfWhy) → (Repeated ≡ why → ⊥) → (TooMany ≡ why → ⊥) → why ≡ exceeded_by k → ⊥
+unexceeded : (k : Keyword) (why : ConfCause) → (Repeated ≡ why → ⊥) → (TooMany ≡ why → ⊥) → why ≡ exceeded_by k → ⊥
 unexceeded k why once many is = ⊎_elim
     (λ (yes : is_file k ≡ true). many (sym (is ∙ ap (λ (b : Bool). cond b TooMany Repeated) yes)))
     (λ (no : is_file k ≡ false). once (sym (is ∙ ap (λ (b : Bool). cond b TooMany Repeated) no)))
     (cases_Bool (is_file k))
 
-misread_by : (words : List (List ℕ)) (why : ConfWhy) → Misreads words why
+misread_by : (words : List (List ℕ)) (why : ConfCause) → Misreads words why
     → ((name : List ℕ) (values : List (List ℕ)) → Misreads (name ∷ values) why → ⊥) → ⊥
 misread_by [] why bad never = bad
 misread_by (name ∷ values) why bad never = never name values bad
 
-not_by_line : (before : List Setting) (e : Entry) (why : ConfWhy) → RefusesLine before e why
+not_by_line : (before : List Setting) (e : Entry) (why : ConfCause) → RefusesLine before e why
     → ((name : List ℕ) (values : List (List ℕ)) → Misreads (name ∷ values) why → ⊥)
     → (Repeated ≡ why → ⊥) → (TooMany ≡ why → ⊥) → ⊥
 not_by_line before e why refused misreads once many = ⊎_elim
     (λ (bad : Misreads e.words why). misread_by e.words why bad misreads)
-    (λ (set : (s : Setting) × Sets e s × Exceeds before s why). unexceeded set.0.keyword why once many set.2.why_is)
+    (λ (set : (s : Setting) × SetsSetting e s × Exceeds before s why). unexceeded set.0.keyword why once many set.2.why_is)
     refused
 
-pub refused_is_cause : (text : List ℕ) (line : ℕ) (why : ConfWhy) → IsFirstRefused text line why → IsFirstCause text line why
+pub refused_is_cause : (text : List ℕ) (line : ℕ) (why : ConfCause) → IsFirstRefused text line why → IsFirstCause text line why
 refused_is_cause text line UnknownName h = h
 refused_is_cause text line MissingValue h = h
 refused_is_cause text line ExtraValue h = h
@@ -250,13 +250,13 @@ refused_is_cause text line TooLong h = absurd (not_by_line h.settings h.entry To
 refused_is_cause text line NoArenas h = absurd (not_by_line h.settings h.entry NoArenas h.refused (λ name values bad. bad.4) (λ e. cc) (λ e. cc))
 refused_is_cause text line NoSections h = absurd (not_by_line h.settings h.entry NoSections h.refused (λ name values bad. bad.4) (λ e. cc) (λ e. cc))
 
-pub first_refused : (text line : List ℕ) (start number bad : ℕ) (why : ConfWhy) (old : List Setting) → HasRead text start number old
-    → start ≤ length text → line ≡ line_at text start → IsText text → IsBadLine old (number + 1) line bad why
+pub first_refused : (text line : List ℕ) (start number bad : ℕ) (why : ConfCause) (old : List Setting) → HasRead text start number old
+    → start ≤ length text → line ≡ line_at text start → IsConfText text → IsBadLine old (number + 1) line bad why
     → IsFirstCause text bad why
 first_refused text line start number bad why old h within is is_text refused =
-    let entry : Entry = entry_of (number + 1) line in
+    let entry : Entry = line_entry (number + 1) line in
     let next : ℕ = start + (length line + 1) in
-    let one : entry_at (number + 1) (words_of line) ≡ entry ∷ [] = refused_entry old (number + 1) (words_of line) why refused.refused in
+    let one : entry_at (number + 1) (words_of_line line) ≡ entry ∷ [] = refused_entry old (number + 1) (words_of_line line) why refused.refused in
     let behind : List Entry = entries_from ((number + 1) + 1) (lines_left text next) in
     refused_is_cause text bad why (record {
       is_text = is_text;
@@ -316,7 +316,7 @@ files_more k settings i s below at =
     ∙ ap (λ (l : List PartFile). map file_of (said k (take i settings)) ++ l) (mapped (is_of k s) s)
 
 pub bad_read : (text line : List ℕ) (start number : ℕ) (old : List Setting) (e : ConfErr) → HasRead text start number old
-    → start ≤ length text → line ≡ line_at text start → IsText text → IsBad (IsBadLine old (number + 1) line) e
+    → start ≤ length text → line ≡ line_at text start → IsConfText text → IsBad (IsBadLine old (number + 1) line) e
     → IsBad (IsFirstCause text) e
 bad_read text line start number old (Bad bad) h within is is_text refused =
     first_refused text line start number bad.line bad.why old h within is is_text refused

@@ -8,7 +8,7 @@ use Rattle.std.proofs.lemmas.Bool.{cases_Bool, cases_lt, eqb-true}
 use Rattle.std.proofs.lemmas.List.{drop_all, get_or-drop, get_or-take, length-take-le, take_all}
 use Rattle.std.proofs.lemmas.List.Sums.{prefix_len_passes, prefix_len_stops, prefix_len-le-length, take_while-cons}
 use Rattle.std.proofs.lemmas.List.Splits.{slice_split-cons_yes, slice_split_none, slice_split_first}
-use Rattle.vt_conf.specs.Lines.{words_of, is_blank, is_empty, is_comment}
+use Rattle.vt_conf.specs.Lines.{words_of_line, is_blank, is_empty, is_comment}
 
 -- what stands between blanks, and isn't empty
 abbrev pieces : List ℕ → List (List ℕ)
@@ -19,16 +19,16 @@ pieces-blank : (b : ℕ) (line : List ℕ) → is_blank b ≡ true → pieces (b
 pieces-blank b line blank =
     ap (filter (λ word. not (is_empty word))) (slice_split-cons_yes is_blank b line blank)
 
-pub words_behind_blanks : (line : List ℕ) → words_of (drop (prefix_len is_blank line) line) ≡ words_of line
+pub words_behind_blanks : (line : List ℕ) → words_of_line (drop (prefix_len is_blank line) line) ≡ words_of_line line
 words_behind_blanks [] = refl
 words_behind_blanks (b ∷ line) = ⊎_elim
     (λ (yes : is_blank b ≡ true).
     let len : prefix_len is_blank (b ∷ line) ≡ suc (prefix_len is_blank line) =
     ap (λ (t : Bool). cond t (1 + prefix_len is_blank line) 0) yes ∙ one-add (prefix_len is_blank line) in
-    ap (λ (k : ℕ). words_of (drop k (b ∷ line))) len ∙ words_behind_blanks line
+    ap (λ (k : ℕ). words_of_line (drop k (b ∷ line))) len ∙ words_behind_blanks line
     ∙ sym (ap (take_while (λ word. not (is_comment word))) (pieces-blank b line yes)))
     (λ (no : is_blank b ≡ false).
-    ap (λ (k : ℕ). words_of (drop k (b ∷ line))) (ap (λ (t : Bool). cond t (1 + prefix_len is_blank line) 0) no))
+    ap (λ (k : ℕ). words_of_line (drop k (b ∷ line))) (ap (λ (t : Bool). cond t (1 + prefix_len is_blank line) 0) no))
     (cases_Bool (is_blank b))
 
 -- what begins with no blank has a byte before the first blank
@@ -110,13 +110,13 @@ not_empty line some = ⊎_elim
     let no : true ≡ false = sym wrong ∙ some in cc))
     (cases_lt 0 (length line))
 
-pub no_words : (line : List ℕ) → is_empty line ≡ true → words_of line ≡ []
+pub no_words : (line : List ℕ) → is_empty line ≡ true → words_of_line line ≡ []
 no_words [] none = refl
 no_words (b ∷ line) none = let wrong : suc (length line) ≡ 0 = eqb-true (suc (length line)) 0 none in cc
 
 pub first_word : (line : List ℕ) → is_empty line ≡ false → (0 < length line → is_blank (get_or line 0 0) ≡ false)
     → get_or line 0 0 ≢ 35
-    → words_of line ≡ take (position_or_len is_blank line) line ∷ words_of (drop (position_or_len is_blank line) line)
+    → words_of_line line ≡ take (position_or_len is_blank line) line ∷ words_of_line (drop (position_or_len is_blank line) line)
 first_word line full starts other =
     let some : 0 < length line = not_empty line full in
     let n : ℕ = position_or_len is_blank line in
@@ -127,9 +127,9 @@ first_word line full starts other =
     let word_said : is_comment (take n line) ≡ false = first_said line n said in
     ap (take_while (λ word. not (is_comment word))) (first_piece line some (starts some))
     ∙ take_while-cons (λ word. not (is_comment word)) (take n line) (pieces (drop n line))
-    ∙ ap (λ (t : Bool). cond (not t) (take n line ∷ words_of (drop n line)) []) word_said
+    ∙ ap (λ (t : Bool). cond (not t) (take n line ∷ words_of_line (drop n line)) []) word_said
 
-pub no_words_in_comment : (line : List ℕ) → is_empty line ≡ false → get_or line 0 0 ≡ 35 → words_of line ≡ []
+pub no_words_in_comment : (line : List ℕ) → is_empty line ≡ false → get_or line 0 0 ≡ 35 → words_of_line line ≡ []
 no_words_in_comment line full hash =
     let some : 0 < length line = not_empty line full in
     let n : ℕ = position_or_len is_blank line in
@@ -137,7 +137,7 @@ no_words_in_comment line full hash =
     let plain : is_blank (get_or line 0 0) ≡ false = ap is_blank hash in
     ap (take_while (λ word. not (is_comment word))) (first_piece line some plain)
     ∙ take_while-cons (λ word. not (is_comment word)) (take n line) (pieces (drop n line))
-    ∙ ap (λ (t : Bool). cond (not t) (take n line ∷ words_of (drop n line)) []) (first_comment line some plain comment)
+    ∙ ap (λ (t : Bool). cond (not t) (take n line ∷ words_of_line (drop n line)) []) (first_comment line some plain comment)
 
 -- behind the blanks at the front stands no blank
 pub starts_plain : (line : List ℕ) → 0 < length (drop (prefix_len is_blank line) line)

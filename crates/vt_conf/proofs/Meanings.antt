@@ -15,13 +15,13 @@ use Rattle.vt_conf.specs.declared.conf.Conf.{Conf}
 use Rattle.vt_conf.specs.declared.keyword.Keyword.{Keyword}
 use Rattle.vt_conf.specs.declared.keyword.Keyword.TheVariants.{Index, Arenas, Isect, Bloom, Mem, Icmem, Addr}
 use Rattle.vt_conf.specs.declared.setting.Setting.{Setting}
-use Rattle.vt_conf.specs.declared.why.ConfWhy.{ConfWhy}
-use Rattle.vt_conf.specs.declared.why.ConfWhy.TheVariants.{NotUtf8, TooLong, UnknownName, MissingValue, ExtraValue, BadSize, BadAddress, Repeated, TooMany, NoArenas, NoSections}
+use Rattle.vt_conf.specs.declared.error.ConfCause.{ConfCause}
+use Rattle.vt_conf.specs.declared.error.ConfCause.TheVariants.{NotUtf8, TooLong, UnknownName, MissingValue, ExtraValue, BadSize, BadAddress, Repeated, TooMany, NoArenas, NoSections}
 use Rattle.vt_conf.specs.Addresses.{IsPort, SpellsParts, SpellsAddress}
-use Rattle.vt_conf.specs.Configuration.{Entry, entries_of, Sets, AreSet, is_of, said, AreFew, file_of, first_of, name_in, IsSizeIn, IsAddressIn, SameConf, AreSettings, Configures, Exceeds, IsFirstRefused, IsFirstWrong, IsFirstCause}
-use Rattle.vt_conf.specs.Keywords.{keyword_of, takes_value, takes_size, takes_address, room_of}
+use Rattle.vt_conf.specs.Configuration.{Entry, line_entries, SetsSetting, AreSet, is_of, said, AreFew, file_of, first_part_file, name_in, IsSizeIn, IsAddressIn, SameConf, AreSettings, Configures, Exceeds, IsFirstRefused, IsFirstWrong, IsFirstCause}
+use Rattle.vt_conf.specs.Keywords.{keyword_of, takes_value, takes_size, takes_address, most_lines}
 use Rattle.vt_conf.specs.Lines.{lines_of}
-use Rattle.vt_conf.specs.Settings.{IsSize, IsAddress, IsValue, IsRead, Misreads, values_of, count_of}
+use Rattle.vt_conf.specs.Settings.{IsSizeText, IsAddress, IsValue, IsSettingRead, Misreads, values_of, value_count}
 use Rattle.vt_conf.specs.Sizes.{SpellsSize, unit_of}
 use Rattle.vt_conf.proofs.AddressTexts.{host_ends, same_address, venti_is_no_number}
 use Rattle.vt_conf.proofs.LineSettings.{is_same}
@@ -104,7 +104,7 @@ same_value k v w one other is = ⊎_elim
     one)
     (cases_Bool (takes_value k))
 
-same_setting : (e : Entry) (s t : Setting) → Sets e s → Sets e t → s ≡ t
+same_setting : (e : Entry) (s t : Setting) → SetsSetting e s → SetsSetting e t → s ≡ t
 same_setting e s t one other =
     let r = one.read in
     let r' = other.read in
@@ -141,14 +141,14 @@ same_address_in a b (s ∷ settings) one other = one_address s.value a b one oth
 
 pub same_conf : (text : List ℕ) (a b : Conf) → Configures text a → Configures text b → SameConf a b
 same_conf text a b one other =
-    let same : one.settings ≡ other.settings = same_settings (entries_of text) one.settings other.settings one.are.set other.are.set in
+    let same : one.settings ≡ other.settings = same_settings (line_entries text) one.settings other.settings one.are.set other.are.set in
     let x = one.come_to in
     let y = other.come_to in
     record {
       index = x.index ∙ ap (λ (l : List Setting). name_in (said Index l)) same ∙ sym y.index;
       arenas = x.arenas ∙ ap (λ (l : List Setting). map file_of (said Arenas l)) same ∙ sym y.arenas;
       sections = x.sections ∙ ap (λ (l : List Setting). map file_of (said Isect l)) same ∙ sym y.sections;
-      filter = x.filter ∙ ap (λ (l : List Setting). first_of (map file_of (said Bloom l))) same ∙ sym y.filter;
+      filter = x.filter ∙ ap (λ (l : List Setting). first_part_file (map file_of (said Bloom l))) same ∙ sym y.filter;
       mem = same_size_in a.mem b.mem (said Mem other.settings) (subst (λ (l : List Setting). IsSizeIn a.mem (said Mem l)) same x.mem) y.mem;
       icmem = same_size_in a.icmem b.icmem (said Icmem other.settings) (subst (λ (l : List Setting). IsSizeIn a.icmem (said Icmem l)) same x.icmem) y.icmem;
       addr = same_address_in a.addr b.addr (said Addr other.settings) (subst (λ (l : List Setting). IsAddressIn a.addr (said Addr l)) same x.addr) y.addr;
@@ -159,7 +159,7 @@ same_conf text a b one other =
 -- the settings of the lines before one, and that of the line
 split_set : (before behind : List Entry) (e : Entry) (settings all : List Setting) → AreSet before settings
     → AreSet (before ++ e ∷ behind) all
-    → (s : Setting) × (rest : List Setting) × (all ≡ settings ++ s ∷ rest) × Sets e s
+    → (s : Setting) × (rest : List Setting) × (all ≡ settings ++ s ∷ rest) × SetsSetting e s
 split_set [] behind e [] [] set whole = absurd whole
 split_set [] behind e [] (s ∷ all) set whole = (s, all, refl, whole.0)
 split_set [] behind e (t ∷ settings) all set whole = absurd set
@@ -170,7 +170,7 @@ split_set (f ∷ before) behind e (t ∷ settings) (u ∷ all) set whole =
     (more.0, more.1, ap (λ (v : Setting). v ∷ all) (same_setting f u t whole.0 set.0) ∙ ap (λ (l : List Setting). t ∷ l) more.2, more.3)
 
 -- a line that is read isn't refused for itself
-length_of_values : (k : Keyword) (v : List ℕ) → length (values_of k v) ≡ count_of k
+length_of_values : (k : Keyword) (v : List ℕ) → length (values_of k v) ≡ value_count k
 length_of_values k v = ⊎_elim
     (λ (yes : takes_value k ≡ true). ap (λ (b : Bool). length (cond b (v ∷ []) [])) yes ∙ sym (ap (λ (b : Bool). cond b 1 0) yes))
     (λ (no : takes_value k ≡ false). ap (λ (b : Bool). length (cond b (v ∷ []) [])) no ∙ sym (ap (λ (b : Bool). cond b 1 0) no))
@@ -182,19 +182,19 @@ one_value k v w is = ⊎_elim
     (λ (no : takes_value k ≡ false). absurd (let both : w ∷ [] ≡ [] = is ∙ ap (λ (b : Bool). cond b (v ∷ []) []) no in cc))
     (cases_Bool (takes_value k))
 
-no_cause : (name : List ℕ) (values : List (List ℕ)) (k : Keyword) (v : List ℕ) (why : ConfWhy) → keyword_of name ≡ Some k
+no_cause : (name : List ℕ) (values : List (List ℕ)) (k : Keyword) (v : List ℕ) (why : ConfCause) → keyword_of name ≡ Some k
     → values ≡ values_of k v → IsValue k v → Misreads (name ∷ values) why → ⊥
 no_cause name values k v UnknownName is at fits bad = let wrong : Some k ≡ None = sym is ∙ bad in cc
 no_cause name values k v MissingValue is at fits bad =
     let same : k ≡ bad.0 = same_Some k bad.0 (sym is ∙ bad.1) in
-    omega (arith, bad.2, ap length at, length_of_values k v, ap count_of same)
+    omega (arith, bad.2, ap length at, length_of_values k v, ap value_count same)
 no_cause name values k v ExtraValue is at fits bad =
     let same : k ≡ bad.0 = same_Some k bad.0 (sym is ∙ bad.1) in
-    omega (arith, bad.2, ap length at, length_of_values k v, ap count_of same)
+    omega (arith, bad.2, ap length at, length_of_values k v, ap value_count same)
 no_cause name values k v BadSize is at fits bad =
     let same : k ≡ bad.0 = same_Some k bad.0 (sym is ∙ bad.1) in
     let value : bad.2 ≡ v = one_value k v bad.2 (sym bad.3 ∙ at) in
-    bad.4.1 (subst IsSize (sym value) (fits.size (ap takes_size same ∙ bad.4.0)))
+    bad.4.1 (subst IsSizeText (sym value) (fits.size (ap takes_size same ∙ bad.4.0)))
 no_cause name values k v BadAddress is at fits bad =
     let same : k ≡ bad.0 = same_Some k bad.0 (sym is ∙ bad.1) in
     let value : bad.2 ≡ v = one_value k v bad.2 (sym bad.3 ∙ at) in
@@ -206,7 +206,7 @@ no_cause name values k v TooMany is at fits bad = bad.4
 no_cause name values k v NoArenas is at fits bad = bad.4
 no_cause name values k v NoSections is at fits bad = bad.4
 
-no_misreading : (words : List (List ℕ)) (k : Keyword) (v : List ℕ) (why : ConfWhy) → IsRead words k v → Misreads words why → ⊥
+no_misreading : (words : List (List ℕ)) (k : Keyword) (v : List ℕ) (why : ConfCause) → IsSettingRead words k v → Misreads words why → ⊥
 no_misreading [] k v why r bad = bad
 no_misreading (name ∷ values) k v why r bad =
     let names : name ≡ r.name = cc (r.words_are) in
@@ -215,37 +215,37 @@ no_misreading (name ∷ values) k v why r bad =
 
 -- nor is it one too many
 no_excess : (settings rest : List Setting) (s : Setting) → AreFew (settings ++ s ∷ rest)
-    → room_of s.keyword ≤ length (said s.keyword settings) → ⊥
+    → most_lines s.keyword ≤ length (said s.keyword settings) → ⊥
 no_excess settings rest s few full =
     let k : Keyword = s.keyword in
     let whole : said k (settings ++ s ∷ rest) ≡ said k settings ++ said k (s ∷ rest) = filter-append (is_of k) settings (s ∷ rest) in
     let own : said k (s ∷ rest) ≡ s ∷ said k rest = ap (λ (b : Bool). cond b (s ∷ said k rest) (said k rest)) (is_same k) in
     omega (arith, few k, ap length whole, length-append (said k settings) (said k (s ∷ rest)), ap length own, full)
 
-no_refusal : (text : List ℕ) (conf : Conf) (line : ℕ) (why : ConfWhy) → Configures text conf → IsFirstRefused text line why → ⊥
+no_refusal : (text : List ℕ) (conf : Conf) (line : ℕ) (why : ConfCause) → Configures text conf → IsFirstRefused text line why → ⊥
 no_refusal text conf line why h r =
     let split = split_set r.before r.behind r.entry r.settings h.settings r.set
     (subst (λ (es : List Entry). AreSet es h.settings) r.split h.are.set) in
     let s : Setting = split.0 in
     ⊎_elim
     (λ (bad : Misreads r.entry.words why). no_misreading r.entry.words s.keyword s.value why split.3.read bad)
-    (λ (set : (t : Setting) × Sets r.entry t × Exceeds r.settings t why).
+    (λ (set : (t : Setting) × SetsSetting r.entry t × Exceeds r.settings t why).
     let same : set.0 ≡ s = same_setting r.entry set.0 s set.1 split.3 in
     no_excess r.settings split.1 s (subst AreFew split.2 h.are.few)
-    (subst (λ (t : Setting). room_of t.keyword ≤ length (said t.keyword r.settings)) same set.2.full))
+    (subst (λ (t : Setting). most_lines t.keyword ≤ length (said t.keyword r.settings)) same set.2.full))
     r.refused
 
-pub no_cause_of_conf : (text : List ℕ) (conf : Conf) (line : ℕ) (why : ConfWhy) → Configures text conf → IsFirstCause text line why → ⊥
+pub no_cause_of_conf : (text : List ℕ) (conf : Conf) (line : ℕ) (why : ConfCause) → Configures text conf → IsFirstCause text line why → ⊥
 no_cause_of_conf text conf line NotUtf8 h cause =
     let all : All IsUtf8 (cause.before ++ cause.wrong ∷ cause.behind) = subst (All IsUtf8) cause.split h.are.is_text.utf8 in
     cause.no_utf8 (subst IsUtf8 (get_or-append_seam cause.before cause.wrong cause.behind [])
     (all (length cause.before) [] (omega (arith, length-append cause.before (cause.wrong ∷ cause.behind)))))
 no_cause_of_conf text conf line TooLong h cause = omega (arith, h.are.is_text.most, cause.2)
 no_cause_of_conf text conf line NoArenas h cause =
-    let same : h.settings ≡ cause.1 = same_settings (entries_of text) h.settings cause.1 h.are.set cause.2.set in
+    let same : h.settings ≡ cause.1 = same_settings (line_entries text) h.settings cause.1 h.are.set cause.2.set in
     omega (arith, h.arenas, ap (λ (l : List Setting). length (said Arenas l)) same, ap length cause.3)
 no_cause_of_conf text conf line NoSections h cause =
-    let same : h.settings ≡ cause.1 = same_settings (entries_of text) h.settings cause.1 h.are.set cause.2.set in
+    let same : h.settings ≡ cause.1 = same_settings (line_entries text) h.settings cause.1 h.are.set cause.2.set in
     omega (arith, h.sections, ap (λ (l : List Setting). length (said Isect l)) same, ap length cause.4)
 no_cause_of_conf text conf line UnknownName h cause = no_refusal text conf line UnknownName h cause
 no_cause_of_conf text conf line MissingValue h cause = no_refusal text conf line MissingValue h cause

@@ -10,13 +10,13 @@ use Rattle.vt_conf.specs.declared.conf.TheConstants.{DEFAULT_MEM}
 use Rattle.vt_conf.specs.declared.keyword.Keyword.{Keyword}
 use Rattle.vt_conf.specs.declared.keyword.Keyword.TheVariants.{Index, Arenas, Isect, Bloom, Mem, Icmem, Addr}
 use Rattle.vt_conf.specs.declared.setting.Setting.{Setting}
-use Rattle.vt_conf.specs.declared.why.ConfWhy.{ConfWhy}
-use Rattle.vt_conf.specs.declared.why.ConfWhy.TheVariants.{NotUtf8, TooLong, UnknownName, MissingValue, ExtraValue, BadSize, BadAddress, Repeated, TooMany, NoArenas, NoSections}
+use Rattle.vt_conf.specs.declared.error.ConfCause.{ConfCause}
+use Rattle.vt_conf.specs.declared.error.ConfCause.TheVariants.{NotUtf8, TooLong, UnknownName, MissingValue, ExtraValue, BadSize, BadAddress, Repeated, TooMany, NoArenas, NoSections}
 use Rattle.vt_conf.specs.Addresses.{SpellsAddress}
 use Rattle.vt_conf.specs.Exceeding.{exceeded_by}
-use Rattle.vt_conf.specs.Keywords.{room_of, same_keyword}
-use Rattle.vt_conf.specs.Lines.{lines_of, words_of}
-use Rattle.vt_conf.specs.Settings.{IsRead, Misreads}
+use Rattle.vt_conf.specs.Keywords.{most_lines, same_keyword}
+use Rattle.vt_conf.specs.Lines.{lines_of, words_of_line}
+use Rattle.vt_conf.specs.Settings.{IsSettingRead, Misreads}
 use Rattle.vt_conf.specs.Sizes.{SpellsSize}
 
 -- a line that has words: its number, counted from 1, and its words
@@ -31,14 +31,15 @@ entry_at line (word ∷ words) = record { line = line; words = word ∷ words } 
 -- the lines that have words, where the first of these lines has this number
 abbrev pub entries_from : (line : ℕ) → List (List ℕ) → List Entry
 entries_from line [] = []
-entries_from line (text ∷ texts) = entry_at line (words_of text) ++ entries_from (line + 1) texts
+entries_from line (text ∷ texts) =
+    entry_at line (words_of_line text) ++ entries_from (line + 1) texts
 
-abbrev pub entries_of : (text : List ℕ) → List Entry
-entries_of text = entries_from 1 (lines_of text)
+abbrev pub line_entries : (text : List ℕ) → List Entry
+line_entries text = entries_from 1 (lines_of text)
 
 -- the line sets this
-pub record Sets (entry : Entry) (setting : Setting) : Type 0 where
-  pub read : IsRead entry.words setting.keyword setting.value
+pub record SetsSetting (entry : Entry) (setting : Setting) : Type 0 where
+  pub read : IsSettingRead entry.words setting.keyword setting.value
   pub line : setting.line ≡ entry.line
 
 -- each line sets one of these, in order
@@ -46,7 +47,7 @@ abbrev pub AreSet : List Entry → List Setting → Type 0
 AreSet [] [] = ⊤
 AreSet [] (setting ∷ settings) = ⊥
 AreSet (entry ∷ entries) [] = ⊥
-AreSet (entry ∷ entries) (setting ∷ settings) = Sets entry setting × AreSet entries settings
+AreSet (entry ∷ entries) (setting ∷ settings) = SetsSetting entry setting × AreSet entries settings
 
 -- the settings of a keyword
 abbrev pub is_of : Keyword → Setting → Bool
@@ -57,14 +58,14 @@ said keyword settings = filter (is_of keyword) settings
 
 -- no keyword stands on more lines than it may
 abbrev pub AreFew : List Setting → Type 0
-AreFew settings = (keyword : Keyword) → length (said keyword settings) ≤ room_of keyword
+AreFew settings = (keyword : Keyword) → length (said keyword settings) ≤ most_lines keyword
 
 abbrev pub file_of : Setting → PartFile
 file_of setting = record { name = setting.value; line = setting.line }
 
-abbrev pub first_of : List PartFile → Option PartFile
-first_of [] = None
-first_of (file ∷ files) = Some file
+abbrev pub first_part_file : List PartFile → Option PartFile
+first_part_file [] = None
+first_part_file (file ∷ files) = Some file
 
 -- the index's name, a size and an address, and what they are where no line sets them
 abbrev pub name_in : List Setting → List ℕ
@@ -84,7 +85,7 @@ pub record ComeTo (settings : List Setting) (conf : Conf) : Type 0 where
   pub index : conf.index ≡ name_in (said Index settings)
   pub arenas : conf.arenas.items ≡ map file_of (said Arenas settings)
   pub sections : conf.sections.items ≡ map file_of (said Isect settings)
-  pub filter : conf.filter ≡ first_of (map file_of (said Bloom settings))
+  pub filter : conf.filter ≡ first_part_file (map file_of (said Bloom settings))
   pub mem : IsSizeIn conf.mem (said Mem settings)
   pub icmem : IsSizeIn conf.icmem (said Icmem settings)
   pub addr : IsAddressIn conf.addr (said Addr settings)
@@ -100,14 +101,14 @@ pub record SameConf (a b : Conf) : Type 0 where
   pub addr : a.addr ≡ b.addr
 
 -- each line is UTF-8, and they are not too many bytes
-pub record IsText (text : List ℕ) : Type 0 where
+pub record IsConfText (text : List ℕ) : Type 0 where
   pub utf8 : All IsUtf8 (lines_of text)
   pub most : length text ≤ MAX_CONF
 
 -- each line sets something, and no keyword stands on too many lines
 pub record AreSettings (text : List ℕ) (settings : List Setting) : Type 0 where
-  pub is_text : IsText text
-  pub set : AreSet (entries_of text) settings
+  pub is_text : IsConfText text
+  pub set : AreSet (line_entries text) settings
   pub few : AreFew settings
 
 -- the text is a configuration, and says this
@@ -119,21 +120,21 @@ pub record Configures (text : List ℕ) (conf : Conf) : Type 0 where
   pub come_to : ComeTo settings conf
 
 -- the keyword of a line that is read stands on as many lines before as it may
-pub record Exceeds (before : List Setting) (setting : Setting) (why : ConfWhy) : Type 0 where
+pub record Exceeds (before : List Setting) (setting : Setting) (why : ConfCause) : Type 0 where
   pub why_is : why ≡ exceeded_by setting.keyword
-  pub full : room_of setting.keyword ≤ length (said setting.keyword before)
+  pub full : most_lines setting.keyword ≤ length (said setting.keyword before)
 
-abbrev pub RefusesLine : (before : List Setting) → Entry → ConfWhy → Type 0
+abbrev pub RefusesLine : (before : List Setting) → Entry → ConfCause → Type 0
 RefusesLine before entry why = Misreads entry.words why
-    ⊎ ((setting : Setting) × Sets entry setting × Exceeds before setting why)
+    ⊎ ((setting : Setting) × SetsSetting entry setting × Exceeds before setting why)
 
 -- the first line that is refused
-pub record IsFirstRefused (text : List ℕ) (line : ℕ) (why : ConfWhy) : Type 0 where
-  pub is_text : IsText text
+pub record IsFirstRefused (text : List ℕ) (line : ℕ) (why : ConfCause) : Type 0 where
+  pub is_text : IsConfText text
   pub before : List Entry
   pub entry : Entry
   pub behind : List Entry
-  pub split : entries_of text ≡ before ++ entry ∷ behind
+  pub split : line_entries text ≡ before ++ entry ∷ behind
   pub line_is : line ≡ entry.line
   pub settings : List Setting
   pub set : AreSet before settings
@@ -152,7 +153,7 @@ pub record IsFirstWrong (text : List ℕ) (line : ℕ) : Type 0 where
 
 -- The first test that fails: whether the lines are UTF-8, and not too many bytes; each line, in
 -- order; and that there are files of arenas and of sections.
-abbrev pub IsFirstCause : (text : List ℕ) → (line : ℕ) → ConfWhy → Type 0
+abbrev pub IsFirstCause : (text : List ℕ) → (line : ℕ) → ConfCause → Type 0
 IsFirstCause text line NotUtf8 = IsFirstWrong text line
 IsFirstCause text line TooLong = (line ≡ 0) × All IsUtf8 (lines_of text) × (MAX_CONF < length text)
 IsFirstCause text line NoArenas = (line ≡ 0)

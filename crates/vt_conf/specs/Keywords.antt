@@ -45,22 +45,22 @@ is_file Isect = true
 is_file keyword = false
 
 -- on how many lines a keyword may stand
-abbrev pub room_of : Keyword → ℕ
-room_of keyword = if is_file keyword then MAX_FILES else 1
+abbrev pub most_lines : Keyword → ℕ
+most_lines keyword = if is_file keyword then MAX_FILES else 1
 
 -- two keywords are one
-abbrev pub number_of : Keyword → ℕ
-number_of Index = 0
-number_of Arenas = 1
-number_of Isect = 2
-number_of Bloom = 3
-number_of Mem = 4
-number_of Icmem = 5
-number_of Bcmem = 6
-number_of Httpaddr = 7
-number_of Webroot = 8
-number_of Queuewrites = 9
-number_of Addr = 10
+abbrev pub keyword_number : Keyword → ℕ
+keyword_number Index = 0
+keyword_number Arenas = 1
+keyword_number Isect = 2
+keyword_number Bloom = 3
+keyword_number Mem = 4
+keyword_number Icmem = 5
+keyword_number Bcmem = 6
+keyword_number Httpaddr = 7
+keyword_number Webroot = 8
+keyword_number Queuewrites = 9
+keyword_number Addr = 10
 
 abbrev pub same_keyword : Keyword → Keyword → Bool
-same_keyword a b = number_of a == number_of b
+same_keyword a b = keyword_number a == keyword_number b

@@ -18,6 +18,6 @@ abbrev pub is_comment : List ℕ → Bool
 is_comment word = slice_index word 0 == 35
 
 -- what stands between blanks, up to a comment
-abbrev pub words_of : List ℕ → List (List ℕ)
-words_of line = take_while (λ word. not (is_comment word))
+abbrev pub words_of_line : List ℕ → List (List ℕ)
+words_of_line line = take_while (λ word. not (is_comment word))
     (filter (λ word. not (is_empty word)) (slice_split is_blank line))

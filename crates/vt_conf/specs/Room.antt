@@ -4,8 +4,8 @@ use Rattle.std.specs.Prelude.{ℕ, ◌/◌, max, min}
 use Rattle.vt_base.specs.declared.TheConstants.{MAX_BLOCK}
 
 -- so many blocks, of `mem` bytes
-abbrev pub block_room : (mem sections : ℕ) → ℕ
-block_room mem sections = min 65536 (max 4 (mem / MAX_BLOCK / sections))
+abbrev pub cached_blocks : (mem sections : ℕ) → ℕ
+cached_blocks mem sections = min 65536 (max 4 (mem / MAX_BLOCK / sections))
 
 -- so many index entries, of `icmem` bytes
 abbrev pub entry_room : (icmem sections : ℕ) → ℕ

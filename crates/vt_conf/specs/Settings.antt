@@ -3,39 +3,39 @@
 use Rattle.std.specs.Prelude.{ℕ, ◌≡◌, ◌<◌, ◌⊎◌, ⊤, if◌then◌else◌, Bool, true, List, [], ◌∷◌, Option, Some, None, length}
 use Rattle.vt_conf.specs.declared.address.Address.{Address}
 use Rattle.vt_conf.specs.declared.keyword.Keyword.{Keyword}
-use Rattle.vt_conf.specs.declared.why.ConfWhy.{ConfWhy}
-use Rattle.vt_conf.specs.declared.why.ConfWhy.TheVariants.{UnknownName, MissingValue, ExtraValue, BadSize, BadAddress}
+use Rattle.vt_conf.specs.declared.error.ConfCause.{ConfCause}
+use Rattle.vt_conf.specs.declared.error.ConfCause.TheVariants.{UnknownName, MissingValue, ExtraValue, BadSize, BadAddress}
 use Rattle.vt_conf.specs.Addresses.{SpellsAddress}
 use Rattle.vt_conf.specs.Keywords.{keyword_of, takes_value, takes_size, takes_address}
 use Rattle.vt_conf.specs.Sizes.{SpellsSize}
 
 -- a text that says a size, or an address
-abbrev pub IsSize : List ℕ → Type 0
-IsSize text = (size : ℕ) × SpellsSize size text
+abbrev pub IsSizeText : List ℕ → Type 0
+IsSizeText text = (size : ℕ) × SpellsSize size text
 
 abbrev pub IsAddress : List ℕ → Type 0
 IsAddress text = (address : Address) × SpellsAddress address text
 
 -- the value is one that the keyword may have
 pub record IsValue (keyword : Keyword) (value : List ℕ) : Type 0 where
-  pub size : takes_size keyword ≡ true → IsSize value
+  pub size : takes_size keyword ≡ true → IsSizeText value
   pub address : takes_address keyword ≡ true → IsAddress value
 
 -- why it is none
-abbrev pub LacksValue : Keyword → (value : List ℕ) → ConfWhy → Type 0
-LacksValue keyword value BadSize = (takes_size keyword ≡ true) × ¬ IsSize value
+abbrev pub LacksValue : Keyword → (value : List ℕ) → ConfCause → Type 0
+LacksValue keyword value BadSize = (takes_size keyword ≡ true) × ¬ IsSizeText value
 LacksValue keyword value BadAddress = (takes_address keyword ≡ true) × ¬ IsAddress value
 LacksValue keyword value why = ⊥
 
 -- how many values a keyword takes
-abbrev pub count_of : Keyword → ℕ
-count_of keyword = if takes_value keyword then 1 else 0
+abbrev pub value_count : Keyword → ℕ
+value_count keyword = if takes_value keyword then 1 else 0
 
 abbrev pub values_of : Keyword → (value : List ℕ) → List (List ℕ)
 values_of keyword value = if takes_value keyword then value ∷ [] else []
 
 -- the words are a keyword and its value, which has no bytes where it takes none
-pub record IsRead (words : List (List ℕ)) (keyword : Keyword) (value : List ℕ) : Type 0 where
+pub record IsSettingRead (words : List (List ℕ)) (keyword : Keyword) (value : List ℕ) : Type 0 where
   pub name : List ℕ
   pub keyword_is : keyword_of name ≡ Some keyword
   pub words_are : words ≡ name ∷ values_of keyword value
@@ -44,12 +44,12 @@ pub record IsRead (words : List (List ℕ)) (keyword : Keyword) (value : List �
 
 -- the first of the tests of a line's words that fails: that the first one is a keyword, that its
 -- value is there, that nothing is behind it, and that it is one that the keyword may have
-abbrev pub Misreads : (words : List (List ℕ)) → ConfWhy → Type 0
+abbrev pub Misreads : (words : List (List ℕ)) → ConfCause → Type 0
 Misreads [] why = ⊥
 Misreads (name ∷ values) UnknownName = keyword_of name ≡ None
 Misreads (name ∷ values) MissingValue = (keyword : Keyword) × (keyword_of name ≡ Some keyword)
-    × (length values < count_of keyword)
+    × (length values < value_count keyword)
 Misreads (name ∷ values) ExtraValue = (keyword : Keyword) × (keyword_of name ≡ Some keyword)
-    × (count_of keyword < length values)
+    × (value_count keyword < length values)
 Misreads (name ∷ values) why = (keyword : Keyword) × (keyword_of name ≡ Some keyword)
     × (value : List ℕ) × (values ≡ value ∷ []) × LacksValue keyword value why

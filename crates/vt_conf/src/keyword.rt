@@ -1,10 +1,10 @@
 //! What a line of a configuration is about.
 
 ghost use Rattle.std.specs.Prelude.{◌≡◌, ◌⊎◌, IsTrue};
-ghost use Rattle.vt_conf.specs.Keywords.{keyword_of, takes_value, room_of, takes_size, takes_address, is_file, same_keyword};
+ghost use Rattle.vt_conf.specs.Keywords.{keyword_of, takes_value, most_lines, takes_size, takes_address, is_file, same_keyword};
 ghost use Rattle.vt_conf.specs.Exceeding.{exceeded_by};
 
-use crate::{ConfWhy, MAX_FILES};
+use crate::{ConfCause, MAX_FILES};
 
 /// The first word of a line (venti.conf(6)), which says what the line is about.
 #[derive(Clone, Copy, Debug, PartialEq, Eq)]
@@ -102,19 +102,19 @@ impl Keyword {
 
     /// On how many lines it may stand.
     pub(crate) fn room(self) -> usize
-        ensures { result ≡ room_of self }
+        ensures { result ≡ most_lines self }
     {
         if self.is_file() { MAX_FILES } else { 1 }
     }
 
     /// What is wrong with a line more than it may stand on.
-    pub(crate) fn exceeded(self) -> ConfWhy
+    pub(crate) fn exceeded(self) -> ConfCause
         ensures { result ≡ exceeded_by self }
     {
         if self.is_file() {
-            ConfWhy::TooMany
+            ConfCause::TooMany
         } else {
-            ConfWhy::Repeated
+            ConfCause::Repeated
         }
     }
 }

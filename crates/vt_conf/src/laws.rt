@@ -2,7 +2,7 @@
 
 ghost use Rattle.std.specs.Prelude.{◌≡◌, ◌≤◌, ℕ, List, length};
 ghost use Rattle.vt_conf.specs.declared.conf.Conf.{Conf};
-ghost use Rattle.vt_conf.specs.declared.why.ConfWhy.{ConfWhy};
+ghost use Rattle.vt_conf.specs.declared.error.ConfCause.{ConfCause};
 ghost use Rattle.vt_conf.specs.Addresses.{SpellsAddress};
 ghost use Rattle.vt_conf.specs.Configuration.{Configures, IsFirstCause, SameConf};
 ghost use Rattle.vt_conf.specs.Sizes.{SpellsSize};
@@ -21,7 +21,7 @@ pub fn texts_have_one_meaning()
 pub fn configurations_have_one_meaning()
     ensures one { (text : List ℕ) (a b : Conf) → Configures text a → Configures text b
         → SameConf a b }
-    ensures accepted { (text : List ℕ) (conf : Conf) (line : ℕ) (why : ConfWhy)
+    ensures accepted { (text : List ℕ) (conf : Conf) (line : ℕ) (why : ConfCause)
         → Configures text conf → ¬ IsFirstCause text line why }
 {}
 

@@ -5,6 +5,7 @@
 
 mod address;
 mod conf;
+mod error;
 mod keyword;
 pub mod laws;
 mod line;
@@ -14,17 +15,16 @@ mod room;
 mod said;
 mod setting;
 mod size;
-mod why;
 
 pub use address::{Address, VENTI_PORT, parse_address};
 pub use conf::{Conf, PartFile};
+pub use error::{ConfBad, ConfCause, ConfErr, conf_text};
 pub use keyword::Keyword;
-pub use number::{BadNumber, parse_number};
+pub use number::{NumberError, parse_number};
 pub use parsing::parse_conf;
-pub use room::{block_room, entry_room};
+pub use room::{cached_blocks, entry_room};
 pub use setting::Setting;
 pub use size::parse_size;
-pub use why::{ConfBad, ConfErr, ConfWhy, conf_text};
 
 /// The most bytes that a configuration has.
 pub const MAX_CONF: usize = 65_536;

@@ -2,14 +2,14 @@
 
 ghost use Rattle.std.specs.Prelude.{◌≡◌, ◌<◌, ◌≤◌, false, [], ◌∷◌, length, slice_index, IfSome, IfNone};
 ghost use Rattle.std.specs.List.{prefix_len, position_or_len};
-ghost use Rattle.vt_conf.specs.Lines.{words_of, is_blank};
+ghost use Rattle.vt_conf.specs.Lines.{words_of_line, is_blank};
 
 /// The first word of a line, and what stands behind it. Spaces and tabs separate words. A word that
 /// begins with `#` is none: it and all behind it is a comment.
 pub(crate) fn next_word(line: &[u8]) -> Option<(&[u8], &[u8])>
     ensures word { IfSome result (λ parts.
-        words_of line.now ≡ parts.0.now ∷ words_of parts.1.now) }
-    ensures none { IfNone result (words_of line.now ≡ []) }
+        words_of_line line.now ≡ parts.0.now ∷ words_of_line parts.1.now) }
+    ensures none { IfNone result (words_of_line line.now ≡ []) }
 {
     let line = trim_start(line);
     if line.is_empty() || line[0] == b'#' {
@@ -20,7 +20,7 @@ pub(crate) fn next_word(line: &[u8]) -> Option<(&[u8], &[u8])>
 
 /// A line without the blanks at its front.
 fn trim_start(line: &[u8]) -> &[u8]
-    ensures words { words_of result.now ≡ words_of line.now }
+    ensures words { words_of_line result.now ≡ words_of_line line.now }
     ensures start { 0 < length result.now → is_blank (slice_index result.now 0) ≡ false }
 {
     &line[blanks_len(line)..]

@@ -9,7 +9,7 @@ use std::str;
 
 /// A word is not a number, or not one that is allowed.
 #[derive(Clone, Copy, Debug, PartialEq, Eq)]
-pub struct BadNumber {
+pub struct NumberError {
     /// The place of the first byte that can't stand in a number, or 0 where the word is empty or
     /// its number isn't allowed.
     pub at: usize,
@@ -17,7 +17,7 @@ pub struct BadNumber {
 
 /// The number of a word of the command line: decimal digits, without a sign and without zeros in
 /// front, from `least` to `most`.
-pub fn parse_number(text: &[u8], least: u64, most: u64) -> Result<u64, BadNumber>
+pub fn parse_number(text: &[u8], least: u64, most: u64) -> Result<u64, NumberError>
     ensures ok { IfOk result (λ n. text.now ≡ decimal n) }
     ensures least { IfOk result (λ n. least ≤ n) }
     ensures most { IfOk result (λ n. n ≤ most) }
@@ -26,7 +26,7 @@ pub fn parse_number(text: &[u8], least: u64, most: u64) -> Result<u64, BadNumber
 {
     match number(text) {
         Some(n) if least <= n && n <= most => Ok(n),
-        _ => Err(BadNumber {
+        _ => Err(NumberError {
             at: wrong_digit(text),
         }),
     }

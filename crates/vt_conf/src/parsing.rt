@@ -3,15 +3,15 @@
 ghost use Rattle.std.specs.Prelude.{◌≡◌, ◌≤◌, ◌==◌, length, All, IfErr, IfOk, OnOk};
 ghost use Rattle.std.specs.List.{before_first, position_or_len};
 ghost use Rattle.std.specs.Str.{IsUtf8};
-ghost use Rattle.vt_conf.specs.Configuration.{Configures, IsFirstCause, IsFirstWrong, IsText};
+ghost use Rattle.vt_conf.specs.Configuration.{Configures, IsFirstCause, IsFirstWrong, IsConfText};
 ghost use Rattle.vt_conf.specs.Configuration.{AreSettings};
 ghost use Rattle.vt_conf.specs.Lines.{lines_of};
 ghost use Rattle.vt_conf.specs.Parsing.{AddsLine, IsBad, IsBadLine};
 
 use crate::conf::Conf;
+use crate::error::{ConfBad, ConfCause, ConfErr};
 use crate::said::{conf_of, count};
 use crate::setting::{Setting, read_line};
-use crate::why::{ConfBad, ConfErr, ConfWhy};
 use crate::{Keyword, MAX_CONF};
 use std::alloc::Global;
 use std::str;
@@ -27,16 +27,16 @@ pub fn parse_conf(alloc: Global, text: &[u8]) -> Result<Conf, ConfErr>
     let settings = read_settings(alloc, text)?;
     let settings = settings.as_slice();
     if count(settings, Keyword::Arenas) == 0 {
-        return Err(ConfErr::Bad(whole(ConfWhy::NoArenas)));
+        return Err(ConfErr::Bad(whole(ConfCause::NoArenas)));
     }
     if count(settings, Keyword::Isect) == 0 {
-        return Err(ConfErr::Bad(whole(ConfWhy::NoSections)));
+        return Err(ConfErr::Bad(whole(ConfCause::NoSections)));
     }
     Ok(conf_of(alloc, settings)?)
 }
 
 /// What is wrong with the whole text.
-fn whole(why: ConfWhy) -> ConfBad
+fn whole(why: ConfCause) -> ConfBad
     ensures { result ≡ record { line = 0; why = why } }
 {
     ConfBad { line: 0, why }
@@ -44,12 +44,12 @@ fn whole(why: ConfWhy) -> ConfBad
 
 /// Whether a text may be a configuration, whatever its lines say.
 fn test_text(text: &[u8]) -> Result<(), ConfBad>
-    ensures ok { OnOk result (IsText text.now) }
+    ensures ok { OnOk result (IsConfText text.now) }
     ensures bad { IfErr result (λ bad. IsFirstCause text.now bad.line bad.why) }
 {
     test_utf8(text)?;
     if text.len() > MAX_CONF {
-        return Err(whole(ConfWhy::TooLong));
+        return Err(whole(ConfCause::TooLong));
     }
     Ok(())
 }
@@ -57,7 +57,7 @@ fn test_text(text: &[u8]) -> Result<(), ConfBad>
 /// Whether each line of a text is UTF-8.
 fn test_utf8(text: &[u8]) -> Result<(), ConfBad>
     ensures ok { OnOk result (All IsUtf8 (lines_of text.now)) }
-    ensures bad { IfErr result (λ bad. (bad.why ≡ ConfWhy.NotUtf8)
+    ensures bad { IfErr result (λ bad. (bad.why ≡ ConfCause.NotUtf8)
         × IsFirstWrong text.now bad.line) }
 {
     let mut number = 0;
@@ -68,7 +68,7 @@ fn test_utf8(text: &[u8]) -> Result<(), ConfBad>
         if str::from_utf8(line).is_err() {
             return Err(ConfBad {
                 line: number,
-                why: ConfWhy::NotUtf8,
+                why: ConfCause::NotUtf8,
             });
         }
         start += line.len() + 1;
@@ -78,7 +78,7 @@ fn test_utf8(text: &[u8]) -> Result<(), ConfBad>
 
 /// What the lines of a text set.
 fn read_settings(alloc: Global, text: &[u8]) -> Result<Vec<Setting>, ConfErr>
-    requires { IsText text.now }
+    requires { IsConfText text.now }
     ensures ok { IfOk result (λ settings. AreSettings text.now settings.items) }
     ensures bad { IfErr result (IsBad (IsFirstCause text.now)) }
 {

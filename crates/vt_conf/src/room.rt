@@ -1,7 +1,7 @@
 //! How much memory each shard of the index gets.
 
 ghost use Rattle.std.specs.Prelude.{◌≡◌, ◌<◌};
-ghost use Rattle.vt_conf.specs.Room.{block_room, entry_room};
+ghost use Rattle.vt_conf.specs.Room.{cached_blocks, entry_room};
 
 use vt_base::MAX_BLOCK;
 
@@ -10,9 +10,9 @@ const ENTRY_LEN: u64 = 64;
 
 /// How many blocks the cache of one shard keeps: what `mem` bytes have room for, over the count of
 /// index sections, but from 4 to 65,536.
-pub fn block_room(mem: u64, sections: u32) -> u32
+pub fn cached_blocks(mem: u64, sections: u32) -> u32
     requires { 0 < sections }
-    ensures { result ≡ block_room mem sections }
+    ensures { result ≡ cached_blocks mem sections }
 {
     (mem / MAX_BLOCK as u64 / u64::from(sections))
         .max(4)

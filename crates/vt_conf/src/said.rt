@@ -3,7 +3,7 @@
 ghost use Rattle.std.specs.Prelude.{◌≡◌, true, find, length, map, IfOk};
 ghost use Rattle.std.specs.Option.{option_copied};
 ghost use Rattle.vt_conf.specs.Configuration.{ComeTo, said, file_of, name_in, IsSizeIn, IsAddressIn};
-ghost use Rattle.vt_conf.specs.Configuration.{first_of, is_of};
+ghost use Rattle.vt_conf.specs.Configuration.{first_part_file, is_of};
 ghost use Rattle.vt_conf.specs.Keywords.{takes_size};
 ghost use Rattle.vt_conf.specs.Parsing.{HaveValues};
 
@@ -66,7 +66,8 @@ fn first_file(
     settings: &[Setting],
     keyword: Keyword,
 ) -> Result<Option<PartFile>, AllocError>
-    ensures { IfOk result (λ file. file ≡ first_of (map file_of (said keyword settings.now))) }
+    ensures { IfOk result (λ file. file
+        ≡ first_part_file (map file_of (said keyword settings.now))) }
 {
     match first(settings, keyword) {
         Some(setting) => Ok(Some(file_of(alloc, setting)?)),

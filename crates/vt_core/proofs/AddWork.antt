@@ -9,7 +9,7 @@ use Rattle.std.proofs.lemmas.List.Elements.{Contains-push_cases}
 use Rattle.std.proofs.lemmas.List.Sums.{sum_by-cons}
 use Rattle.std.proofs.lemmas.Option.{same_Some}
 use Rattle.vt_base.specs.declared.place.Info.{Info}
-use Rattle.vt_bloom.specs.Bits.{Filter, HasBitsOf, Marks}
+use Rattle.vt_bloom.specs.Bits.{Filter, HasBitsOf, MarksScore}
 use Rattle.vt_clump.specs.declared.packed.Packed.{Packed}
 use Rattle.vt_disk.specs.Members.{DiskOf}
 use Rattle.vt_log.specs.Log.{LogState, front, queued}
@@ -20,14 +20,14 @@ use Rattle.vt_model.specs.History.{History, Accepted}
 use Rattle.vt_model.specs.Legal.{HasOtherKey, IsLegal}
 use Rattle.vt_model.specs.Places.{Setup, LiesIn, bucket_count, bucket_of, section_of_bucket, section_of_score}
 use Rattle.vt_shard.specs.Shard.{ShardState, HasScore}
-use Rattle.vt_shard.specs.Sound.{IsSound as IsSoundShard, IsSoundFrom}
+use Rattle.vt_shard.specs.Sound.{IsSoundShard, IsSoundFrom}
 use Rattle.vt_core.specs.Core.{CoreState, setup_of, machine_of, devices_of, stops_of}
 use Rattle.vt_core.specs.Files.{PerDevice, all_of}
 use Rattle.vt_lookup.specs.Adding.{AddsPacked}
-use Rattle.vt_lookup.specs.Finding.{AreSound, Parts, parts_of}
+use Rattle.vt_lookup.specs.Finding.{AreSound, StoreParts, parts_of}
 use Rattle.vt_core.specs.Sound.{IsSound, IsSoundFilter}
 use Rattle.vt_recover.specs.Sections.{IsLive}
-use Rattle.vt_core.specs.Steps.{GoesOn}
+use Rattle.vt_core.specs.Steps.{StoreGoesOn}
 use Rattle.vt_core.specs.Whole.{IsWhole, IsShardOf}
 use Rattle.vt_recover.proofs.Places.{get_set, get_other, length-set, map_set, within_get, one_or_other}
 use Rattle.vt_core.proofs.Calls.{with_ends}
@@ -114,7 +114,7 @@ module _ {D : Type 0} (disk : DiskOf D) (k : CoreState D) (w : IsWhole disk k) (
 -- ---- the store
 
 module _ {D : Type 0} (score : List ℕ → List ℕ) (disk : DiskOf D) (k : CoreState D) (i : ℕ) (s : ShardState D) (at : slice_get k.shards i ≡ Some s) (q : QueueState) (f : Filling)
-    (info : Info) (bits : Filter) (marks : Marks k.bits info.key.score.0 bits) (stay : MarkedStay) (marked : AreMarked) (one : length q.places ≡ queued k.log + 1)
+    (info : Info) (bits : Filter) (marks : MarksScore k.bits info.key.score.0 bits) (stay : MarkedStay) (marked : AreMarked) (one : length q.places ≡ queued k.log + 1)
     (number : info.number ≡ front k.log) where
   abbrev pub new_shard : ShardState D
   new_shard = record s { index = record s.index { dirty = s.index.dirty ++ info ∷ [] } }
@@ -202,7 +202,7 @@ module _ {D : Type 0} (score : List ℕ → List ℕ) (disk : DiskOf D) (k : Cor
   pub add_stops : stops_of after_adding ≡ stops_of k
   add_stops = ap (λ (ss : List (Option ℕ)). with_ends k.log.stopped ss (map (λ b. b.calls.stopped) (option_to_list k.bloom))) (map_set (λ t. t.section.stopped) k.shards i new_shard s at refl)
 
-  pub add_goes_on : IsWhole disk k → GoesOn disk k after_adding
+  pub add_goes_on : IsWhole disk k → StoreGoesOn disk k after_adding
   add_goes_on w = record {
     store = record {
       tables = refl;
@@ -223,10 +223,10 @@ module _ {D : Type 0} (score : List ℕ → List ℕ) (disk : DiskOf D) (k : Cor
 
 -- ---- by the clump that is added
 
-module _ {D : Type 0} (score : List ℕ → List ℕ) (disk : DiskOf D) (k : CoreState D) (i : ℕ) (s : ShardState D) (at : slice_get k.shards i ≡ Some s) (packed : Packed) (p : Parts D)
-    (adds : AddsPacked packed (parts_of k.log s) p) (bits : Filter) (marks : Marks k.bits packed.score.0 bits) (stay : MarkedStay) (marked : AreMarked) where
-  own_marks : Marks k.bits adds.info.key.score.0 bits
-  own_marks = subst (λ (x : Info). Marks k.bits x.key.score.0 bits) (sym adds.info_is) marks
+module _ {D : Type 0} (score : List ℕ → List ℕ) (disk : DiskOf D) (k : CoreState D) (i : ℕ) (s : ShardState D) (at : slice_get k.shards i ≡ Some s) (packed : Packed) (p : StoreParts D)
+    (adds : AddsPacked packed (parts_of k.log s) p) (bits : Filter) (marks : MarksScore k.bits packed.score.0 bits) (stay : MarkedStay) (marked : AreMarked) where
+  own_marks : MarksScore k.bits adds.info.key.score.0 bits
+  own_marks = subst (λ (x : Info). MarksScore k.bits x.key.score.0 bits) (sym adds.info_is) marks
 
   taken : p.log ≡ record k.log { queue = p.log.queue; filling = p.log.filling }
   taken = subst (λ (l : LogState D). l ≡ record k.log { queue = l.queue; filling = l.filling }) (sym adds.log.new_is) refl
@@ -247,7 +247,7 @@ module _ {D : Type 0} (score : List ℕ → List ℕ) (disk : DiskOf D) (k : Cor
   parts_are = ap (λ (l : LogState D). parts_of l p.shard) taken ∙ ap (λ (t : ShardState D). parts_of added.log t) adds.shard
 
   added_is : with_added ≡ added
-  added_is = ap (λ (x : Parts D). record k { log = x.log; shards = slice_set k.shards i x.shard; bits = bits }) parts_are
+  added_is = ap (λ (x : StoreParts D). record k { log = x.log; shards = slice_set k.shards i x.shard; bits = bits }) parts_are
 
   pub adding_whole : IsWhole disk k → IsWhole disk with_added
   adding_whole w = subst (λ (m : CoreState D). IsWhole disk m) (sym added_is) (add_whole score disk k i s at p.log.queue p.log.filling adds.info bits own_marks stay marked one_more number_is w)
@@ -261,12 +261,12 @@ module _ {D : Type 0} (score : List ℕ → List ℕ) (disk : DiskOf D) (k : Cor
   pub adding_stops : stops_of with_added ≡ stops_of k
   adding_stops = ap (λ (m : CoreState D). stops_of m) added_is ∙ add_stops score disk k i s at p.log.queue p.log.filling adds.info bits own_marks stay marked one_more number_is
 
-  pub adding_goes_on : IsWhole disk k → GoesOn disk k with_added
-  adding_goes_on w = subst (λ (m : CoreState D). GoesOn disk k m) (sym added_is) (add_goes_on score disk k i s at p.log.queue p.log.filling adds.info bits own_marks stay marked one_more number_is w)
+  pub adding_goes_on : IsWhole disk k → StoreGoesOn disk k with_added
+  adding_goes_on w = subst (λ (m : CoreState D). StoreGoesOn disk k m) (sym added_is) (add_goes_on score disk k i s at p.log.queue p.log.filling adds.info bits own_marks stay marked one_more number_is w)
 
   pub adding_sound : IsWhole disk k → HaveRanges → OthersAdded disk → (h : History) (block : Accepted) → IsSound score disk k h → HasScore s (score block.block.bytes) → packed.score.0 ≡ score block.block.bytes
       → AreSound score disk (setup_of k) p (h ++ block ∷ []) k.log.durable → IsSound score disk with_added (h ++ block ∷ [])
   adding_sound w ranges others h block sound has scored parts = subst (λ (m : CoreState D). IsSound score disk m (h ++ block ∷ [])) (sym added_is)
       (add_sound score disk k i s at p.log.queue p.log.filling adds.info bits own_marks stay marked one_more number_is w ranges others h block sound has
       (ap (λ (x : Info). x.key.score.0) adds.info_is ∙ scored)
-      (subst (λ (x : Parts D). AreSound score disk (setup_of k) x (h ++ block ∷ []) k.log.durable) parts_are parts))
+      (subst (λ (x : StoreParts D). AreSound score disk (setup_of k) x (h ++ block ∷ []) k.log.durable) parts_are parts))

@@ -15,7 +15,7 @@ use Rattle.vt_core.specs.Core.{CoreState, machine_of, devices_of, each_of, stops
 use Rattle.vt_core.specs.Events.{IsAwaited, EndsWaiting}
 use Rattle.vt_core.specs.Files.{PerDevice, AreWithinCall, all_of}
 use Rattle.vt_core.specs.Sound.{IsSound}
-use Rattle.vt_core.specs.Steps.{Steps, LeavesPrefix, GoesOn}
+use Rattle.vt_core.specs.Steps.{Steps, LeavesPrefix, StoreGoesOn}
 use Rattle.vt_core.specs.Whole.{IsWhole}
 use Rattle.vt_recover.proofs.Places.{length-set}
 use Rattle.vt_core.proofs.Recovered.{GivesPrefix, images_of}
@@ -54,7 +54,7 @@ module _ {D : Type 0} (score : List ℕ → List ℕ) (disk : DiskOf D) (k : Cor
     filter = sound.filter;
   }
 
-  kept_on : IsWhole disk k → GoesOn disk k (record k { waiting = ws; synced = synced })
+  kept_on : IsWhole disk k → StoreGoesOn disk k (record k { waiting = ws; synced = synced })
   kept_on w = record {
     store = record {
       tables = refl;
@@ -81,8 +81,8 @@ module _ {D : Type 0} (score : List ℕ → List ℕ) (disk : DiskOf D) (k new :
   parts_sound : (h : History) → IsSound score disk k h → IsSound score disk new h
   parts_sound h sound = subst (λ (m : CoreState D). IsSound score disk m h) (sym kept.same) (kept_sound score disk k new.waiting new.synced kept.many kept.low kept.high kept.waits h sound)
 
-  parts_on : IsWhole disk k → GoesOn disk k new
-  parts_on w = subst (GoesOn disk k) (sym kept.same) (kept_on score disk k new.waiting new.synced kept.many kept.low kept.high kept.waits w)
+  parts_on : IsWhole disk k → StoreGoesOn disk k new
+  parts_on w = subst (StoreGoesOn disk k) (sym kept.same) (kept_on score disk k new.waiting new.synced kept.many kept.low kept.high kept.waits w)
 
   parts_devices : devices_of new ≡ devices_of k
   parts_devices = ap (λ (m : CoreState D). devices_of m) kept.same

@@ -16,7 +16,7 @@ use Rattle.vt_base.specs.declared.why.Why.{Why}
 use Rattle.vt_base.specs.declared.why.Why.TheVariants.{BadType, TooBig, TooSmall, Absent, Collision, IndexFull, ArenasFull, DiskFault, Stopped, Damaged, NoMemory}
 use Rattle.vt_bloom.specs.Bits.{HasBitsOf}
 use Rattle.vt_disk.specs.Members.{DiskOf}
-use Rattle.vt_log.specs.Answers.{OnlyReads}
+use Rattle.vt_log.specs.Answers.{OnlyReadsLog}
 use Rattle.vt_log.specs.Faults.{OneHasRisen}
 use Rattle.vt_log.specs.Log.{LogState}
 use Rattle.vt_model.specs.Answer.{Outcome, answer, lends, refuses, replies}
@@ -32,10 +32,10 @@ use Rattle.vt_core.specs.declared.event.Out.TheVariants.{Said as SaidOut, Waits,
 use Rattle.vt_core.specs.Asking.{AnswersRequest, LooksIn, MayBeTold, lent, says, shard_of, stop_for, with_parts, with_waiting}
 use Rattle.vt_core.specs.Causes.{CountsOut, CountsSaid, CountsWhy, IsUndamaged, IsUndamagedSaid, IsUndamagedWhy}
 use Rattle.vt_core.specs.Core.{CoreState, setup_of, machine_of, devices_of, each_of, history_len}
-use Rattle.vt_base.specs.Operations.{operation_of, reply_of}
+use Rattle.vt_base.specs.Operations.{operation_of, reply_saying}
 use Rattle.vt_core.specs.Events.{IsAsked, FailsIn, GivesAnswer}
 use Rattle.vt_core.specs.Files.{all_of}
-use Rattle.vt_lookup.specs.Finding.{Parts, AreSound, CountsFailure, IsRight, LooksFor, MayEndLook, MayKeepFrom, NoneRose, Sought, parts_of}
+use Rattle.vt_lookup.specs.Finding.{StoreParts, AreSound, CountsFailure, IsRightFilter, LooksFor, MayEndLook, MayKeepFrom, NoneRose, Sought, parts_of}
 use Rattle.vt_lookup.specs.Seeking.{StaySound}
 use Rattle.vt_core.specs.Machine.{Machine, WaitsForNone, WaitsAt}
 use Rattle.vt_core.specs.Serving.{FindsBlock}
@@ -102,7 +102,7 @@ module _ {D : Type 0} (score : List ℕ → List ℕ) (disk : DiskOf D) (k : Cor
 
     -- an answer that needs no part of the store
     pub early_steps : (said : Said) → operation_of r ≢ sync → ¬ ReachesParts score (operation_of r)
-        → ((c : Setup) (h : History) → answer score c h (operation_of r) ≡ record { reply = reply_of said; added = None })
+        → ((c : Setup) (h : History) → answer score c h (operation_of r) ≡ record { reply = reply_saying said; added = None })
         → IsUndamagedSaid said → ((ns : List ℕ) → CountsSaid said ns ns) → ((why : Why) → said ≡ Refused why → MayBeTold score k (operation_of r) why)
         → Steps score disk (Ask session r now) (says said k) k k
     early_steps said other far is undamaged counts told = still_steps (says said k)
@@ -227,12 +227,12 @@ sync_stops score disk k session now call gives w none stop = stopped_steps score
 
 -- ---- what is said of a block
 
-lent_is : (count : ℕ) (found : Option (List ℕ)) → lends count found ≡ record { reply = reply_of (lent count (Ok found)); added = None }
+lent_is : (count : ℕ) (found : Option (List ℕ)) → lends count found ≡ record { reply = reply_saying (lent count (Ok found)); added = None }
 lent_is count None = refl
 lent_is count (Some bytes) = by_length (nat_lt count (length bytes))
   where
     by_length : (b : Bool) → (if b then refuses TooSmall else replies (r_read bytes))
-        ≡ record { reply = reply_of (if b then Refused TooSmall else Block bytes); added = None }
+        ≡ record { reply = reply_saying (if b then Refused TooSmall else Block bytes); added = None }
     by_length true = refl
     by_length false = refl
 
@@ -372,7 +372,7 @@ looks_in_shard k s i shard may_have at is bits = record { log = refl; shard = su
 
 -- the filter says no only where no block has the score
 pub bits_right : {D : Type 0} (score : List ℕ → List ℕ) (disk : DiskOf D) (k : CoreState D) (h : History) (s : List ℕ) (may_have : Bool) → IsSound score disk k h
-    → (IsTrue may_have ↔ HasBitsOf k.bits s) → IsRight score h s may_have
+    → (IsTrue may_have ↔ HasBitsOf k.bits s) → IsRightFilter score h s may_have
 bits_right score disk k h s may_have sound bits absent i it =
     let has : HasBitsOf k.bits s = subst (λ (x : List ℕ). HasBitsOf k.bits x) it.score_is (sound.bits i it.block it.stands) in
     let both : false ≡ true = sym absent ∙ bits.1 has in absurd (cc)
@@ -383,13 +383,13 @@ are_sound score disk k h i shard at sound = record { log = sound.log; shard = so
 
 -- ---- and were
 
-module _ {D T : Type 0} (score : List ℕ → List ℕ) (disk : DiskOf D) (k : CoreState D) (s : List ℕ) (before after : Parts D) (may_have : Bool)
+module _ {D T : Type 0} (score : List ℕ → List ℕ) (disk : DiskOf D) (k : CoreState D) (s : List ℕ) (before after : StoreParts D) (may_have : Bool)
     (looks_in : LooksIn k s before may_have) (r : Result T Why) (looks : LooksFor score disk 2 2 r before after) where
   log_same : after.log ≡ record k.log { disks = after.log.disks }
   log_same = subst (λ (l : LogState D). after.log ≡ record l { disks = after.log.disks }) looks_in.log looks.log.same
 
-  pub log_reads : OnlyReads score disk 2 k.log (record k.log { disks = after.log.disks })
-  log_reads = subst (λ (l : LogState D). OnlyReads score disk 2 k.log l) log_same (subst (λ (l : LogState D). OnlyReads score disk 2 l after.log) looks_in.log looks.log)
+  pub log_reads : OnlyReadsLog score disk 2 k.log (record k.log { disks = after.log.disks })
+  log_reads = subst (λ (l : LogState D). OnlyReadsLog score disk 2 k.log l) log_same (subst (λ (l : LogState D). OnlyReadsLog score disk 2 l after.log) looks_in.log looks.log)
 
   -- the store behind it, by the disks of its log
   abbrev pub mid : CoreState D
@@ -405,21 +405,21 @@ module _ {D T : Type 0} (score : List ℕ → List ℕ) (disk : DiskOf D) (k : C
   are = ap (λ (l : LogState D). parts_of l after.shard) log_same
 
   pub before_sound : (h : History) → IsSound score disk k h → AreSound score disk (setup_of k) before h k.log.durable
-  before_sound h sound = subst (λ (p : Parts D). AreSound score disk (setup_of k) p h k.log.durable) (sym were)
+  before_sound h sound = subst (λ (p : StoreParts D). AreSound score disk (setup_of k) p h k.log.durable) (sym were)
       (parts_are score disk k (shard_of k s) before.shard after.shard after.log.disks looks_in.shard log_reads looks.shard h sound)
 
   pub mid_sound : StaySound score disk before after → IsTrue disk.tells → (h : History) → IsSound score disk k h → IsSound score disk mid h
   mid_sound stay tells h sound =
       reads_sound score disk k (shard_of k s) before.shard after.shard after.log.disks looks_in.shard log_reads looks.shard h sound
-      (subst (λ (p : Parts D). AreSound score disk (setup_of k) p h k.log.durable) are (stay (setup_of k) h k.log.durable tells (before_sound h sound)))
+      (subst (λ (p : StoreParts D). AreSound score disk (setup_of k) p h k.log.durable) are (stay (setup_of k) h k.log.durable tells (before_sound h sound)))
 
   pub mid_counts : (why : Why) → CountsFailure disk why before after → CountsWhy why (each_of disk.faults k) (each_of disk.faults mid)
   mid_counts why it = reads_counts score disk k (shard_of k s) before.shard after.shard after.log.disks looks_in.shard log_reads looks.shard why
-      (subst (λ (p : Parts D). CountsFailure disk why (parts_of k.log before.shard) p) are (subst (λ (p : Parts D). CountsFailure disk why p after) were it))
+      (subst (λ (p : StoreParts D). CountsFailure disk why (parts_of k.log before.shard) p) are (subst (λ (p : StoreParts D). CountsFailure disk why p after) were it))
 
   pub mid_none : NoneRose disk before after → each_of disk.faults mid ≡ each_of disk.faults k
   mid_none it = none_rose score disk k (shard_of k s) before.shard after.shard after.log.disks looks_in.shard log_reads looks.shard
-      (subst (λ (p : Parts D). NoneRose disk (parts_of k.log before.shard) p) are (subst (λ (p : Parts D). NoneRose disk p after) were it))
+      (subst (λ (p : StoreParts D). NoneRose disk (parts_of k.log before.shard) p) are (subst (λ (p : StoreParts D). NoneRose disk p after) were it))
 
   pub mid_whole : IsWhole disk k → IsWhole disk (with_parts (shard_of k s) after k)
   mid_whole w = subst (λ (m : CoreState D). IsWhole disk m) (sym mid_is)
@@ -441,7 +441,7 @@ module _ {D : Type 0} (score : List ℕ → List ℕ) (disk : DiskOf D) (k new :
   asked = read key.score.0 key.kind count
 
   read_answer : (h : History) (found : Option (List ℕ)) → found ≡ held score h key.score.0 key.kind
-      → answer score (setup_of k) h asked ≡ record { reply = reply_of (lent count (Ok found)); added = None }
+      → answer score (setup_of k) h asked ≡ record { reply = reply_saying (lent count (Ok found)); added = None }
   read_answer h found is =
       ap (λ (b : Bool). if not b then refuses BadType else lends count (held score h key.score.0 key.kind)) own_kind
       ∙ ap (lends count) (sym is) ∙ lent_is count found

@@ -26,9 +26,9 @@ use Rattle.vt_shard.specs.Shard.{ShardState}
 use Rattle.vt_shard.specs.Sound.{IsSoundFrom}
 use Rattle.vt_core.specs.declared.TheConstants.{MOST_BUCKETS}
 use Rattle.vt_core.specs.Opening.{AgreeWith, TestsParts, buckets_in_each, wrong_at}
-use Rattle.vt_recover.specs.Opening.{CanBeOpened, IsOpened, IsShardMade, OpensFilter}
+use Rattle.vt_recover.specs.Opening.{CanBeOpened, IsFoundSection, IsShardMade, OpensFilter}
 use Rattle.vt_core.specs.Refusals.{wrong_head}
-use Rattle.vt_recover.specs.Sections.{IsLive, SectionStandsFor, buckets_of}
+use Rattle.vt_recover.specs.Sections.{IsLive, SectionStandsFor, section_buckets}
 use Rattle.vt_core.specs.Stands.{FilterStandsFor}
 use Rattle.vt_recover.proofs.Lists.{index_map, same_lists, at_map}
 use Rattle.vt_recover.proofs.Zips.{zip_beside, zip_length}
@@ -50,7 +50,7 @@ some_room size some = omega (arith, some)
 
 -- what is known of a section that was opened on a device which agrees with a history
 pub record IsOfStore {D : Type 0} (score : List ℕ → List ℕ) (disk : DiskOf D) (c : Setup) (g : History) (i : ℕ) (s : SectionState D) : Type 0 where
-  pub buckets : s.buckets ≡ buckets_of c i
+  pub buckets : s.buckets ≡ section_buckets c i
   pub live : IsLive c i s.head
   pub mark : s.head.mark ≤ length g
   pub entries : ℕ → List Entry
@@ -59,27 +59,27 @@ pub record IsOfStore {D : Type 0} (score : List ℕ → List ℕ) (disk : DiskOf
 
 module _ {D : Type 0} (score : List ℕ → List ℕ) (disk : DiskOf D) (c : Setup) (g : History) (tells : IsTrue disk.tells) (devices : List D)
     (setup : c.sections ≡ map (λ device. buckets_in (disk.size device)) devices) where
-  pub buckets_there : (i : ℕ) (device : D) → slice_get devices i ≡ Some device → buckets_in (disk.size device) ≡ buckets_of c i
+  pub buckets_there : (i : ℕ) (device : D) → slice_get devices i ≡ Some device → buckets_in (disk.size device) ≡ section_buckets c i
   buckets_there i device at =
       sym (index_map (λ d. buckets_in (disk.size d)) devices i device at) ∙ ap (λ (l : List ℕ). slice_index l i) (sym setup)
 
-  pub opened_buckets : (i : ℕ) (device : D) (s : SectionState D) → slice_get devices i ≡ Some device → IsOpened disk device s → s.buckets ≡ buckets_of c i
+  pub opened_buckets : (i : ℕ) (device : D) (s : SectionState D) → slice_get devices i ≡ Some device → IsFoundSection disk device s → s.buckets ≡ section_buckets c i
   opened_buckets i device s at opened = ap (λ (t : SectionState D). t.buckets) opened.fresh ∙ buckets_there i device at
 
   pub of_store : (i : ℕ) (device : D) (s : SectionState D) → slice_get devices i ≡ Some device → SectionStandsFor score c g i (disk.bytes device)
-      → IsOpened disk device s → IsOfStore score disk c g i s
+      → IsFoundSection disk device s → IsOfStore score disk c g i s
   of_store i device s at stands opened =
       let sec = stands.section in
       let file = disk.bytes device in
       let only = opened.only stands.name sec.head tells sec.is.head_frame in
-      let many : s.buckets ≡ buckets_of c i = opened_buckets i device s at opened in
+      let many : s.buckets ≡ section_buckets c i = opened_buckets i device s at opened in
       let is : IsSection s.name s.head s.buckets sec.entries file =
       subst (λ (n : ℕ). IsSection s.name s.head n sec.entries file) (sym many)
-      (subst (λ (h : Head). IsSection s.name h (buckets_of c i) sec.entries file) (sym only.1)
-      (subst (λ (n : List ℕ). IsSection n sec.head (buckets_of c i) sec.entries file) (sym only.0) sec.is)) in
+      (subst (λ (h : Head). IsSection s.name h (section_buckets c i) sec.entries file) (sym only.1)
+      (subst (λ (n : List ℕ). IsSection n sec.head (section_buckets c i) sec.entries file) (sym only.0) sec.is)) in
       let agrees : AgreesWith score c g s.buckets s.head sec.entries =
       subst (λ (n : ℕ). AgreesWith score c g n s.head sec.entries) (sym many)
-      (subst (λ (h : Head). AgreesWith score c g (buckets_of c i) h sec.entries) (sym only.1) sec.agrees) in
+      (subst (λ (h : Head). AgreesWith score c g (section_buckets c i) h sec.entries) (sym only.1) sec.agrees) in
       let sound = opened.sound score c g sec.entries tells is agrees in
       record {
         buckets = many;
@@ -138,7 +138,7 @@ module _ {D : Type 0} (score : List ℕ → List ℕ) (disk : DiskOf D) (c : Set
   pub can_open : All (CanBeOpened disk) devices
   can_open = all_from (CanBeOpened disk) devices (λ i device at.
       let stands = agree.sections i device at in
-      let some : 0 < buckets_of c i =
+      let some : 0 < section_buckets c i =
       let inside : slice_get c.sections i ≡ Some (buckets_in (disk.size device)) =
       ap (λ (l : List ℕ). slice_get l i) agree.setup ∙ at_map (λ d. buckets_in (disk.size d)) devices i device at in
       subst (λ (n : ℕ). 0 < n) (buckets_there score disk c g tells devices agree.setup i device at)
@@ -146,15 +146,15 @@ module _ {D : Type 0} (score : List ℕ → List ℕ) (disk : DiskOf D) (c : Set
       let here : 0 < buckets_in (disk.size device) = subst (λ (n : ℕ). 0 < n) (sym (buckets_there score disk c g tells devices agree.setup i device at)) some in
       record { room = some_room (disk.size device) here; name = stands.name; head = stands.section.head; frame = stands.section.is.head_frame })
 
-  module _ (sections : List (SectionState D)) (zip : AllZip (IsOpened disk) devices sections) where
+  module _ (sections : List (SectionState D)) (zip : AllZip (IsFoundSection disk) devices sections) where
     pub store_at : (i : ℕ) (s : SectionState D) → slice_get sections i ≡ Some s → IsOfStore score disk c g i s
     store_at i s at =
-        let d = zip_beside (IsOpened disk) devices sections i s zip at in
+        let d = zip_beside (IsFoundSection disk) devices sections i s zip at in
         of_store score disk c g tells devices agree.setup i d.0 s d.1 (agree.sections i d.0 d.1) d.2
 
     pub each_buckets : buckets_in_each sections ≡ c.sections
     each_buckets = same_lists (buckets_in_each sections) c.sections
-        (length-map sections (λ s. s.buckets) ∙ zip_length (IsOpened disk) devices sections zip ∙ sym (length-map devices (λ d. buckets_in (disk.size d))) ∙ ap length (sym agree.setup))
+        (length-map sections (λ s. s.buckets) ∙ zip_length (IsFoundSection disk) devices sections zip ∙ sym (length-map devices (λ d. buckets_in (disk.size d))) ∙ ap length (sym agree.setup))
         (λ i x y here there.
         let s = slice_get_other sections (buckets_in_each sections) i x (length-map sections (λ s. s.buckets)) here in
         let e : x ≡ s.0.buckets = same_Some x s.0.buckets (sym here ∙ at_map (λ s. s.buckets) sections i s.0 s.1) in

@@ -4,7 +4,7 @@ use Rattle.std.specs.Prelude.{slice_get, sum, ⊤, replicate}
 use Rattle.std.specs.List.{AllZip}
 use Rattle.std.proofs.lemmas.List.{length-map}
 use Rattle.std.proofs.lemmas.Option.{same_Some}
-use Rattle.vt_twin.specs.Twin.{Change}
+use Rattle.vt_twin.specs.Twin.{FrameChange}
 use Rattle.std.specs.Option.{option_map_or}
 use Rattle.vt_bloom.specs.Bits.{Filter}
 use Rattle.vt_bloom.specs.Bloom.{BloomState}
@@ -17,7 +17,7 @@ use Rattle.vt_log.proofs.Lists.{at_slice, slice_get_other}
 use Rattle.vt_model.specs.Places.{first_bucket}
 use Rattle.vt_shard.specs.Shard.{ShardState}
 use Rattle.vt_core.specs.Core.{CoreState, setup_of}
-use Rattle.vt_recover.specs.Opening.{IsOpened, IsFilterOpened, IsShardMade, OpensFilter}
+use Rattle.vt_recover.specs.Opening.{IsFoundSection, IsFilterOpened, IsShardMade, OpensFilter}
 use Rattle.vt_core.specs.Opening.{TestsParts, buckets_in_each}
 use Rattle.vt_recover.specs.Recalling.{AreReadBack, IsUnused, KeepsSection, ReadsBack, opened}
 use Rattle.vt_recover.specs.Sections.{IsLive}
@@ -28,7 +28,7 @@ use Rattle.vt_recover.proofs.Zips.{zip_beside, zip_length}
 
 -- no call was made of a shard that was just made
 pub unused_made : {D : Type 0} (disk : DiskOf D) (lumps clean : ℕ) (device : D) (section : SectionState D) (s : ShardState D)
-    → IsOpened disk device section → IsShardMade disk lumps clean section s → IsUnused s
+    → IsFoundSection disk device section → IsShardMade disk lumps clean section s → IsUnused s
 unused_made {D} disk lumps clean device section s opens made = record {
   quiet = record {
     phase = ap (λ (t : ShardState D). t.section.phase) made.is ∙ ap (λ (t : SectionState D). t.phase) opens.fresh;
@@ -49,19 +49,19 @@ pub record IsChain {D : Type 0} (disk : DiskOf D) (devices : List D) (sections :
   pub section_at : slice_get sections i ≡ Some section
   pub before : ShardState D
   pub before_at : slice_get made i ≡ Some before
-  pub opens : IsOpened disk device section
+  pub opens : IsFoundSection disk device section
   pub makes : IsShardMade disk lumps clean section before
   pub keeps : KeepsSection disk before after
 
 module _ {D : Type 0} (score : List ℕ → List ℕ) (disk : DiskOf D) (devices : List D) (sections : List (SectionState D)) (made : List (ShardState D)) (lumps clean : ℕ)
-    (opens : AllZip (IsOpened disk) devices sections) (makes : AllZip (IsShardMade disk lumps clean) sections made) where
+    (opens : AllZip (IsFoundSection disk) devices sections) (makes : AllZip (IsShardMade disk lumps clean) sections made) where
   pub many_made : length made ≡ length devices
-  many_made = zip_length (IsShardMade disk lumps clean) sections made makes ∙ zip_length (IsOpened disk) devices sections opens
+  many_made = zip_length (IsShardMade disk lumps clean) sections made makes ∙ zip_length (IsFoundSection disk) devices sections opens
 
   pub unused_at : (i : ℕ) (s : ShardState D) → slice_get made i ≡ Some s → IsUnused s
   unused_at i s at =
       let t = zip_beside (IsShardMade disk lumps clean) sections made i s makes at in
-      let d = zip_beside (IsOpened disk) devices sections i t.0 opens t.1 in
+      let d = zip_beside (IsFoundSection disk) devices sections i t.0 opens t.1 in
       unused_made disk lumps clean d.0 t.0 s d.2 t.2
 
   pub made_faults : map disk.faults (map (λ s. s.section.disk) made) ≡ map disk.faults devices
@@ -71,7 +71,7 @@ module _ {D : Type 0} (score : List ℕ → List ℕ) (disk : DiskOf D) (devices
       let d = slice_get_other (map (λ s. s.section.disk) made) (map disk.faults (map (λ s. s.section.disk) made)) i x (length-map (map (λ s. s.section.disk) made) disk.faults) here in
       let s = slice_get_other made (map (λ s. s.section.disk) made) i d.0 (length-map made (λ s. s.section.disk)) d.1 in
       let t = zip_beside (IsShardMade disk lumps clean) sections made i s.0 makes s.1 in
-      let v = zip_beside (IsOpened disk) devices sections i t.0 opens t.1 in
+      let v = zip_beside (IsFoundSection disk) devices sections i t.0 opens t.1 in
       let e : x ≡ disk.faults s.0.section.disk = same_Some x (disk.faults s.0.section.disk) (sym here ∙ at_map disk.faults (map (λ s. s.section.disk) made) i s.0.section.disk (at_map (λ s. s.section.disk) made i s.0 s.1)) in
       let f : y ≡ disk.faults v.0 = same_Some y (disk.faults v.0) (sym there ∙ at_map disk.faults devices i v.0 v.1) in
       let m : disk.faults s.0.section.disk ≡ disk.faults t.0.disk = ap (λ (z : ShardState D). disk.faults z.section.disk) t.2.is in
@@ -83,7 +83,7 @@ module _ {D : Type 0} (score : List ℕ → List ℕ) (disk : DiskOf D) (devices
     chain i after at =
         let b = slice_get_other made shards i after back.many at in
         let t = zip_beside (IsShardMade disk lumps clean) sections made i b.0 makes b.1 in
-        let d = zip_beside (IsOpened disk) devices sections i t.0 opens t.1 in
+        let d = zip_beside (IsFoundSection disk) devices sections i t.0 opens t.1 in
         record {
           device = d.0;
           device_at = d.1;
@@ -119,7 +119,7 @@ module _ {D : Type 0} (score : List ℕ → List ℕ) (disk : DiskOf D) (devices
     -- the shards have the buckets that the sections had
     pub same_buckets : map (λ s. s.section.buckets) shards ≡ buckets_in_each sections
     same_buckets = same_lists (map (λ s. s.section.buckets) shards) (buckets_in_each sections)
-        (length-map shards (λ s. s.section.buckets) ∙ many_shards ∙ sym (zip_length (IsOpened disk) devices sections opens) ∙ sym (length-map sections (λ s. s.buckets)))
+        (length-map shards (λ s. s.section.buckets) ∙ many_shards ∙ sym (zip_length (IsFoundSection disk) devices sections opens) ∙ sym (length-map sections (λ s. s.buckets)))
         (λ i x y here there.
         let a = slice_get_other shards (map (λ s. s.section.buckets) shards) i x (length-map shards (λ s. s.section.buckets)) here in
         let it = chain i a.0 a.1 in
@@ -204,7 +204,7 @@ module _ {D : Type 0} (score : List ℕ → List ℕ) (disk : DiskOf D) (devices
             counts = (back.counts.0 ∙ it.2.counts.0, back.counts.1 ∙ it.2.counts.1);
             mark = mark;
             next = omega (arith, it.2.next, mark);
-            made = subst (λ (o : Option Change). option_map_or (λ it. it.made) o 0 ≤ 3) (sym it.2.rest) (omega arith);
+            made = subst (λ (o : Option FrameChange). option_map_or (λ it. it.made) o 0 ≤ 3) (sym it.2.rest) (omega arith);
           }
 
       none_waits : (session number : ℕ) → slice_get (replicate sessions None) session ≡ Some (Some number) → ⊥

@@ -7,20 +7,20 @@ use Rattle.vt_disk.specs.Members.{DiskOf}
 use Rattle.vt_model.specs.History.{History, Accepted}
 use Rattle.vt_model.specs.Places.{Setup}
 use Rattle.vt_log.specs.Log.{LogState}
-use Rattle.vt_log.specs.Sound.{AreImages as AreImagesOf, AreWithinCall as AreWithinCallOf, StandForPrefix as LogStandForPrefix, IsSound as IsSoundLog}
-use Rattle.vt_log.specs.Logs.{StandsFor as LogStandsFor}
+use Rattle.vt_log.specs.Sound.{AreImagesOf, AreWithinCallOf, LogStandsForPrefix, IsSoundLog}
+use Rattle.vt_log.specs.Logs.{LogStandsFor}
 use Rattle.vt_log.proofs.Lists.{slice_get_other}
-use Rattle.vt_bloom.specs.Bloom.{BloomState, IsSound as IsSoundBloom}
+use Rattle.vt_bloom.specs.Bloom.{BloomState, IsSoundBloom}
 use Rattle.vt_bloom.specs.Frame.{Saved, Covers, HasSaved}
 use Rattle.vt_bloom.specs.Laws.{CoversMore}
 use Rattle.vt_shard.specs.Shard.{ShardState}
 use Rattle.vt_shard.specs.Sound.{IsSoundFrom, IsLiveSection, LeavesLive}
-use Rattle.vt_core.specs.Files.{Files, AreImages}
+use Rattle.vt_core.specs.Files.{DeviceFiles, AreImages}
 use Rattle.vt_core.specs.Core.{CoreState, setup_of, devices_of}
 use Rattle.vt_core.specs.Sound.{IsSound, IsSoundFilter}
 use Rattle.vt_part.specs.Layout.{layout_of}
 use Rattle.vt_part.specs.declared.layout.ArenaRegion.{ArenaRegion}
-use Rattle.vt_recover.specs.Sections.{IsLive, SectionStandsFor, buckets_of}
+use Rattle.vt_recover.specs.Sections.{IsLive, SectionStandsFor, section_buckets}
 use Rattle.vt_core.specs.Stands.{ArePartitions, FilterStandsFor, StandsFor, StandForPrefix, scores_of}
 use Rattle.vt_recover.proofs.Lists.{longer_take, at_map, index_map, only_one}
 
@@ -28,7 +28,7 @@ use Rattle.vt_recover.proofs.Lists.{longer_take, at_map, index_map, only_one}
 
 abbrev pub LogStands : {D : Type 0} → DiskOf D → Type 0
 LogStands {D} disk = (score : List ℕ → List ℕ) (l : LogState D) (h : History) (files : List (List ℕ))
-    → IsSoundLog score disk l h → AreImagesOf disk l.disks files → LogStandForPrefix score l files h
+    → IsSoundLog score disk l h → AreImagesOf disk l.disks files → LogStandsForPrefix score l files h
 
 abbrev pub FilesAgree : {D : Type 0} → DiskOf D → Type 0
 FilesAgree {D} disk = (score : List ℕ → List ℕ) (c : Setup) (t : ShardState D) (h : History) (durable from n : ℕ)
@@ -52,7 +52,7 @@ within_same disk disks files within = record {
 
 -- what a section's device leaves
 pub section_stands : {D : Type 0} (score : List ℕ → List ℕ) (c : Setup) (g : History) (i : ℕ) (s : ShardState D) (file : List ℕ)
-    → s.section.buckets ≡ buckets_of c i → IsLive c i s.section.head → LeavesLive score c g s file → SectionStandsFor score c g i file
+    → s.section.buckets ≡ section_buckets c i → IsLive c i s.section.head → LeavesLive score c g s file → SectionStandsFor score c g i file
 section_stands score c g i s file many live it = record {
   name = s.section.name;
   place = s.section.head;
@@ -102,7 +102,7 @@ module _ {D : Type 0} (disk : DiskOf D) (log_stands : LogStands disk) (files_agr
       (left.each i b.0.disk file (at_map (λ t. t.disk) (option_to_list k.bloom) i b.0 b.1) at)
 
   -- For each n from the durable blocks on for which the log stands, all devices do.
-  pub combined : (n : ℕ) → k.log.durable ≤ n → n ≤ length h → (files : Files)
+  pub combined : (n : ℕ) → k.log.durable ≤ n → n ≤ length h → (files : DeviceFiles)
       → AreImagesOf disk (map (λ s. s.section.disk) k.shards) files.sections
       → AreImagesOf disk (map (λ b. b.disk) (option_to_list k.bloom)) files.filter
       → ArePartitions k.log.tables files.partitions
@@ -127,7 +127,7 @@ module _ {D : Type 0} (disk : DiskOf D) (log_stands : LogStands disk) (files_agr
         sound.partitions i t device.0 file at device.1 (left.each i device.0 file device.1 is);
   }
 
-  pub moment_stands : (files : Files) → AreImages disk (devices_of k) files → StandForPrefix score (setup_of k) k.log.tables k.log.durable files h
+  pub moment_stands : (files : DeviceFiles) → AreImages disk (devices_of k) files → StandForPrefix score (setup_of k) k.log.tables k.log.durable files h
   moment_stands files left =
       let log = log_stands score k.log h files.partitions sound.log left.partitions in
       record {

@@ -7,33 +7,33 @@ use Rattle.byteorder.specs.Endian.{big_bytes}
 use Rattle.byteorder.specs.Numbers.{big_number-reads_back}
 use Rattle.vt_arena.specs.declared.head.ArenaHead.{ArenaHead}
 use Rattle.vt_arena.specs.declared.head.Found.{Found}
-use Rattle.vt_arena.specs.Heads.{clumps_in, fields_of, used_in}
+use Rattle.vt_arena.specs.Heads.{clump_count_in, fields_of, used_in}
 use Rattle.vt_disk.specs.Members.{DiskOf}
 use Rattle.vt_log.specs.Log.{LogState}
-use Rattle.vt_log.specs.Whole.{IsOnDisk, IsWhole}
+use Rattle.vt_log.specs.Whole.{IsOnDisk, IsWholeLog}
 use Rattle.vt_log.proofs.Lists.{at_slice, slice_get_other}
 use Rattle.vt_part.specs.Layout.{layout_of}
 use Rattle.vt_part.specs.declared.layout.ArenaRegion.{ArenaRegion}
 use Rattle.vt_core.proofs.Beside.{all_from}
 
-clumps_back : (h : ArenaHead) → h.clumps < 256 ^ 4 → clumps_in (fields_of h) ≡ h.clumps
+clumps_back : (h : ArenaHead) → h.clumps < 256 ^ 4 → clump_count_in (fields_of h) ≡ h.clumps
 clumps_back h fits = big_number-reads_back 4 h.clumps (big_bytes 8 h.used ++ h.chain.0) fits
 
 used_back : (h : ArenaHead) → h.used < 256 ^ 8 → used_in (fields_of h) ≡ h.used
 used_back h fits = big_number-reads_back 8 h.used h.chain.0 fits
 
-sums_same : (heads : List Found) → ((i : ℕ) (f : Found) → slice_get heads i ≡ Some f → clumps_in (fields_of f.head) ≡ f.head.clumps)
-    → sum_by clumps_in (map (λ f. fields_of f.head) heads) ≡ sum_by (λ f. f.head.clumps) heads
+sums_same : (heads : List Found) → ((i : ℕ) (f : Found) → slice_get heads i ≡ Some f → clump_count_in (fields_of f.head) ≡ f.head.clumps)
+    → sum_by clump_count_in (map (λ f. fields_of f.head) heads) ≡ sum_by (λ f. f.head.clumps) heads
 sums_same [] each = refl
 sums_same (f ∷ heads) each =
-    let here : clumps_in (fields_of f.head) ≡ f.head.clumps = each zero f refl in
-    let rest : sum_by clumps_in (map (λ f. fields_of f.head) heads) ≡ sum_by (λ f. f.head.clumps) heads = sums_same heads (λ i x at. each (suc i) x at) in
-    let left : sum_by clumps_in (map (λ f. fields_of f.head) (f ∷ heads)) ≡ clumps_in (fields_of f.head) + sum_by clumps_in (map (λ f. fields_of f.head) heads) =
-    sum_by-cons clumps_in (fields_of f.head) (map (λ f. fields_of f.head) heads) in
+    let here : clump_count_in (fields_of f.head) ≡ f.head.clumps = each zero f refl in
+    let rest : sum_by clump_count_in (map (λ f. fields_of f.head) heads) ≡ sum_by (λ f. f.head.clumps) heads = sums_same heads (λ i x at. each (suc i) x at) in
+    let left : sum_by clump_count_in (map (λ f. fields_of f.head) (f ∷ heads)) ≡ clump_count_in (fields_of f.head) + sum_by clump_count_in (map (λ f. fields_of f.head) heads) =
+    sum_by-cons clump_count_in (fields_of f.head) (map (λ f. fields_of f.head) heads) in
     let right : sum_by (λ f. f.head.clumps) (f ∷ heads) ≡ f.head.clumps + sum_by (λ f. f.head.clumps) heads = sum_by-cons (λ f. f.head.clumps) f heads in
     omega (arith, here, rest, left, right)
 
-module _ {D : Type 0} (disk : DiskOf D) (l : LogState D) (whole : IsWhole disk l) where
+module _ {D : Type 0} (disk : DiskOf D) (l : LogState D) (whole : IsWholeLog disk l) where
   pub short_regions : All (λ r. r.region.len ≤ 2 ^ 30) (layout_of l.tables)
   short_regions = subst (λ (rs : List ArenaRegion). All (λ r. r.region.len ≤ 2 ^ 30) rs) whole.layout
       (all_from (λ r. r.region.len ≤ 2 ^ 30) l.layout (λ i r at. (at_slice (IsOnDisk disk l.disks) l.layout i r whole.regions at).region.len.1))
@@ -45,11 +45,11 @@ module _ {D : Type 0} (disk : DiskOf D) (l : LogState D) (whole : IsWhole disk l
       let len = (at_slice (IsOnDisk disk l.disks) l.layout i r.0 whole.regions r.1).region.len.1 in
       (omega (arith, fit, len), omega (arith, fit, len))
 
-  pub clumps_at : (i : ℕ) (f : Found) → slice_get l.heads i ≡ Some f → clumps_in (fields_of f.head) ≡ f.head.clumps
+  pub clumps_at : (i : ℕ) (f : Found) → slice_get l.heads i ≡ Some f → clump_count_in (fields_of f.head) ≡ f.head.clumps
   clumps_at i f at = clumps_back f.head (head_fits i f at).0
 
   pub used_at : (i : ℕ) (f : Found) → slice_get l.heads i ≡ Some f → used_in (fields_of f.head) ≡ f.head.used
   used_at i f at = used_back f.head (head_fits i f at).1
 
-  pub clumps_are : (fields : List (List ℕ)) → map (λ f. fields_of f.head) l.heads ≡ fields → sum_by clumps_in fields ≡ l.durable
-  clumps_are fields is = ap (sum_by clumps_in) (sym is) ∙ sums_same l.heads clumps_at ∙ sym whole.durable
+  pub clumps_are : (fields : List (List ℕ)) → map (λ f. fields_of f.head) l.heads ≡ fields → sum_by clump_count_in fields ≡ l.durable
+  clumps_are fields is = ap (sum_by clump_count_in) (sym is) ∙ sums_same l.heads clumps_at ∙ sym whole.durable

@@ -5,27 +5,27 @@ use Rattle.std.specs.Option.{option_map, option_to_list}
 use Rattle.std.proofs.lemmas.List.{length-map, length-take}
 use Rattle.std.proofs.lemmas.Option.{same_Some}
 use Rattle.std.proofs.lemmas.Bool.{cases_lt}
-use Rattle.vt_twin.specs.Twin.{calls_made}
+use Rattle.vt_twin.specs.Twin.{twin_calls_made}
 use Rattle.vt_base.specs.declared.answer.Said.{Said}
 use Rattle.vt_base.specs.declared.answer.Said.TheVariants.{Score, Block, Synced, Refused}
 use Rattle.vt_base.specs.declared.why.Why.{Why}
 use Rattle.vt_base.specs.declared.why.Why.TheVariants.{BadType, TooBig, TooSmall, Absent, Collision, IndexFull, ArenasFull, DiskFault, Stopped, Damaged, NoMemory}
 use Rattle.vt_base.specs.Faults.{HasRisen, CountsFault}
 use Rattle.vt_disk.specs.Calls.{MadeCalls}
-use Rattle.vt_disk.specs.DeviceCalls.{is_fault}
+use Rattle.vt_disk.specs.DeviceCalls.{is_call_fault}
 use Rattle.vt_disk.specs.Disk.{WithinCall}
 use Rattle.vt_disk.specs.Members.{DiskOf}
 use Rattle.vt_model.specs.History.{History, Accepted}
 use Rattle.vt_twin.specs.declared.step.Step.{Step}
 use Rattle.vt_twin.specs.declared.step.Step.TheVariants.{More, Done}
-use Rattle.vt_disk.specs.declared.call.CallErr.{CallErr}
-use Rattle.vt_disk.specs.declared.call.CallErr.TheVariants as call_err
+use Rattle.vt_disk.specs.declared.call.CallError.{CallError}
+use Rattle.vt_disk.specs.declared.call.CallError.TheVariants as call_error
 use Rattle.vt_bloom.specs.Bits.{Filter, HasBitsOf}
-use Rattle.vt_bloom.specs.Bloom.{BloomState, IsSound as IsSoundBloom, saved_after, Advances as BloomAdvances}
+use Rattle.vt_bloom.specs.Bloom.{BloomState, IsSoundBloom, saved_after, BloomAdvances}
 use Rattle.vt_bloom.specs.Frame.{Saved, Covers, HasSaved}
 use Rattle.vt_bloom.specs.Laws.{CoversMore}
 use Rattle.vt_log.specs.Faults.{OneHasRisen}
-use Rattle.vt_log.specs.Sound.{AreImages as AreImagesOf, AreWithinCall as AreWithinCallOf}
+use Rattle.vt_log.specs.Sound.{AreImagesOf, AreWithinCallOf}
 use Rattle.vt_log.proofs.Lists.{slice_get_other}
 use Rattle.vt_core.specs.declared.event.Event.TheVariants.{BloomAdvance}
 use Rattle.vt_core.specs.declared.event.Out.{Out}
@@ -33,14 +33,14 @@ use Rattle.vt_core.specs.declared.event.Out.TheVariants.{Said as SaidOut, Waits,
 use Rattle.vt_core.specs.Causes.{CallsOne, CallsOnce, CountsOut, CountsSaid, CountsWhy, IsUndamaged, KeepsStops}
 use Rattle.vt_core.specs.Core.{CoreState, machine_of, devices_of, each_of}
 use Rattle.vt_core.specs.Events.{IsWork}
-use Rattle.vt_core.specs.Files.{Files, all_of}
+use Rattle.vt_core.specs.Files.{DeviceFiles, all_of}
 use Rattle.vt_core.specs.Machine.{Machine}
 use Rattle.vt_core.specs.Saving.{SavesSoundly, CallsDevice, devices_of as filter_devices}
 use Rattle.vt_core.specs.Sound.{IsSound, IsSoundFilter}
 use Rattle.vt_core.specs.Stands.{FilterStandsFor, scores_of}
-use Rattle.vt_core.specs.Steps.{Steps, LeavesPrefix, GoesOn}
+use Rattle.vt_core.specs.Steps.{Steps, LeavesPrefix, StoreGoesOn}
 use Rattle.vt_core.specs.Whole.{IsWhole}
-use Rattle.vt_core.specs.Work.{IsBegun, Saves, SavesOne, SavesIn, out_of_save}
+use Rattle.vt_core.specs.Work.{IsSaveBegun, Saves, SavesOne, SavesIn, out_of_save}
 use Rattle.vt_core.proofs.Calls.{calls_set, calls_behind, map_all, joined}
 use Rattle.vt_recover.proofs.Counts.{risen_behind, risen_set}
 use Rattle.vt_core.proofs.Combined.{within_same, covers_longer}
@@ -50,10 +50,10 @@ use Rattle.vt_core.proofs.ShardCall.{none_of}
 
 -- ---- one call of a save
 
-begun_disk : {D : Type 0} (bits : Filter) (durable : ℕ) (old begun : BloomState D) → IsBegun bits durable old begun → begun.disk ≡ old.disk
+begun_disk : {D : Type 0} (bits : Filter) (durable : ℕ) (old begun : BloomState D) → IsSaveBegun bits durable old begun → begun.disk ≡ old.disk
 begun_disk {D} bits durable old begun it = ⊎_elim (λ was. ap (λ (b : BloomState D). b.disk) was.1) (λ new. ap (λ (b : BloomState D). b.disk) new.2) it
 
-covers_after : (r : Result Step CallErr) (saved coming : Saved) (scores : List (List ℕ)) → Covers scores saved → Covers scores coming → Covers scores (saved_after r saved coming)
+covers_after : (r : Result Step CallError) (saved coming : Saved) (scores : List (List ℕ)) → Covers scores saved → Covers scores coming → Covers scores (saved_after r saved coming)
 covers_after (Ok More) saved coming scores old new = old
 covers_after (Ok Done) saved coming scores old new = new
 covers_after (Err e) saved coming scores old new = old
@@ -64,7 +64,7 @@ module _ {D : Type 0} (disk : DiskOf D) (bits : Filter) (durable : ℕ) (old : B
   StaysSound new = (score : List ℕ → List ℕ) (g : History) → IsTrue disk.tells → Covers (scores_of score g) (record { filter = bits; mark = durable })
       → IsSoundFilter score disk old g → IsSoundFilter score disk new g
 
-  pub save_soundly : (begun new : BloomState D) (r : Result Step CallErr) → IsBegun bits durable old begun → IsSome begun.twin.change → StaysSound begun
+  pub save_soundly : (begun new : BloomState D) (r : Result Step CallError) → IsSaveBegun bits durable old begun → IsSome begun.twin.change → StaysSound begun
       → ((saved coming : Saved) → IsTrue disk.tells → IsSoundBloom begun saved coming (disk.bytes begun.disk) (disk.images begun.disk)
       → IsSoundBloom new (saved_after r saved coming) coming (disk.bytes new.disk) (disk.images new.disk))
       → ((saved coming : Saved) (scores : List (List ℕ)) → IsTrue disk.tells → IsSoundBloom begun saved coming (disk.bytes begun.disk) (disk.images begun.disk)
@@ -106,30 +106,30 @@ one_risen : (old new : ℕ) → HasRisen old new → OneHasRisen (old ∷ []) (n
 one_risen old new rose = risen_set (old ∷ []) 0 new (omega arith) rose
 
 module _ {D : Type 0} (disk : DiskOf D) (begun new : BloomState D) where
-  runs_on : (r : Result Step CallErr) → ((n : ℕ) → (r ≡ Err (call_err.Stopped n)) ↔ (begun.calls.stopped ≡ Some n)) → ((n : ℕ) → r ≢ Err (call_err.Stopped n)) → begun.calls.stopped ≡ None
+  runs_on : (r : Result Step CallError) → ((n : ℕ) → (r ≡ Err (call_error.Stopped n)) ↔ (begun.calls.stopped ≡ Some n)) → ((n : ℕ) → r ≢ Err (call_error.Stopped n)) → begun.calls.stopped ≡ None
   runs_on r stopped goes = none_of begun.calls.stopped (λ n is. goes n ((stopped n).1 is))
 
-  pub save_calls : (r : Result Step CallErr) → ((n : ℕ) → (r ≡ Err (call_err.Stopped n)) ↔ (begun.calls.stopped ≡ Some n))
+  pub save_calls : (r : Result Step CallError) → ((n : ℕ) → (r ≡ Err (call_error.Stopped n)) ↔ (begun.calls.stopped ≡ Some n))
       → (begun.calls.stopped ≡ None → MadeCalls disk 1 begun.disk new.disk) → (IsSome begun.calls.stopped → new.disk ≡ begun.disk)
-      → CountsFault is_fault r (disk.faults begun.disk) (disk.faults new.disk) → disk.size new.disk ≡ disk.size begun.disk
+      → CountsFault is_call_fault r (disk.faults begun.disk) (disk.faults new.disk) → disk.size new.disk ≡ disk.size begun.disk
       → CallsDevice disk (out_of_save r) (begun.disk ∷ []) (new.disk ∷ [])
   save_calls (Ok step) stopped made untouched faults size = record {
     calls = one_called disk begun.disk new.disk (made (runs_on (Ok step) stopped (λ n e. cc)));
     faults = ap (λ (n : ℕ). n ∷ []) faults;
     sizes = ap (λ (n : ℕ). n ∷ []) size;
   }
-  save_calls (Err call_err.Fault) stopped made untouched faults size = record {
-    calls = one_called disk begun.disk new.disk (made (runs_on (Err call_err.Fault) stopped (λ n e. cc)));
+  save_calls (Err call_error.Fault) stopped made untouched faults size = record {
+    calls = one_called disk begun.disk new.disk (made (runs_on (Err call_error.Fault) stopped (λ n e. cc)));
     faults = one_risen (disk.faults begun.disk) (disk.faults new.disk) faults;
     sizes = ap (λ (n : ℕ). n ∷ []) size;
   }
-  save_calls (Err (call_err.Stopped n)) stopped made untouched faults size = record {
+  save_calls (Err (call_error.Stopped n)) stopped made untouched faults size = record {
     calls = ap (λ (d : D). d ∷ []) (untouched (subst (λ (o : Option ℕ). IsSome o) (sym ((stopped n).0 refl)) refl));
     faults = ap (λ (n : ℕ). n ∷ []) faults;
     sizes = ap (λ (n : ℕ). n ∷ []) size;
   }
 
-pub calls_begun : {D : Type 0} (disk : DiskOf D) (bits : Filter) (durable : ℕ) (out : Out) (old begun : BloomState D) (new : List D) → IsBegun bits durable old begun
+pub calls_begun : {D : Type 0} (disk : DiskOf D) (bits : Filter) (durable : ℕ) (out : Out) (old begun : BloomState D) (new : List D) → IsSaveBegun bits durable old begun
     → CallsDevice disk out (begun.disk ∷ []) new → CallsDevice disk out (old.disk ∷ []) new
 calls_begun {D} disk bits durable out old begun new begins = subst (λ (d : D). CallsDevice disk out (d ∷ []) new) (begun_disk bits durable old begun begins)
 
@@ -140,45 +140,45 @@ pub record KeepsSave {D : Type 0} (durable : ℕ) (out : Out) (old new : BloomSt
   pub k : new.k ≡ old.k
   pub mark : new.mark ≤ durable
   pub next : new.next ≤ durable
-  pub made : calls_made new.twin ≤ 3
+  pub made : twin_calls_made new.twin ≤ 3
   pub stay : (call : ℕ) → old.calls.stopped ≡ Some call → new.calls.stopped ≡ Some call
   pub cause : out ≢ Failed DiskFault → new.calls.stopped ≡ old.calls.stopped
 
 one_call_more : (m : ℕ) → m ≤ 3 → (m ≡ 3 → ⊥) → m + 1 ≤ 3
 one_call_more m most other = ⊎_elim (λ low. omega (arith, low)) (λ high. absurd (other (omega (arith, most, high)))) (cases_lt m 3)
 
-begun_keeps : {D : Type 0} (bits : Filter) (durable : ℕ) (old begun : BloomState D) → old.mark ≤ durable → old.next ≤ durable → calls_made old.twin ≤ 3 → IsBegun bits durable old begun → KeepsSave durable Moved old begun
+begun_keeps : {D : Type 0} (bits : Filter) (durable : ℕ) (old begun : BloomState D) → old.mark ≤ durable → old.next ≤ durable → twin_calls_made old.twin ≤ 3 → IsSaveBegun bits durable old begun → KeepsSave durable Moved old begun
 begun_keeps {D} bits durable old begun mark next made it = ⊎_elim
     (λ was. subst (λ (b : BloomState D). KeepsSave durable Moved old b) (sym was.1) (record { m = refl; k = refl; mark = mark; next = next; made = made; stay = λ call is. is; cause = λ _. refl }))
     (λ new. subst (λ (b : BloomState D). KeepsSave durable Moved old b) (sym new.2) (record { m = refl; k = refl; mark = mark; next = omega arith; made = omega arith; stay = λ call is. is; cause = λ _. refl }))
     it
 
-pub begun_made : {D : Type 0} (bits : Filter) (durable : ℕ) (old begun : BloomState D) → IsBegun bits durable old begun → calls_made old.twin ≤ 3 → calls_made begun.twin ≤ 3
+pub begun_made : {D : Type 0} (bits : Filter) (durable : ℕ) (old begun : BloomState D) → IsSaveBegun bits durable old begun → twin_calls_made old.twin ≤ 3 → twin_calls_made begun.twin ≤ 3
 begun_made {D} bits durable old begun it made = ⊎_elim
-    (λ was. subst (λ (b : BloomState D). calls_made b.twin ≤ 3) (sym was.1) made)
-    (λ new. subst (λ (b : BloomState D). calls_made b.twin ≤ 3) (sym new.2) (omega arith))
+    (λ was. subst (λ (b : BloomState D). twin_calls_made b.twin ≤ 3) (sym was.1) made)
+    (λ new. subst (λ (b : BloomState D). twin_calls_made b.twin ≤ 3) (sym new.2) (omega arith))
     it
 
-call_keeps : {D : Type 0} (durable : ℕ) (old new : BloomState D) (r : Result Step CallErr) → old.mark ≤ durable → old.next ≤ durable → calls_made old.twin ≤ 3
-    → IfOk r (λ step. (step ≡ Done) ↔ (calls_made old.twin ≡ 3)) → ((n : ℕ) → (r ≡ Err (call_err.Stopped n)) ↔ (old.calls.stopped ≡ Some n)) → BloomAdvances r old new → KeepsSave durable (out_of_save r) old new
+call_keeps : {D : Type 0} (durable : ℕ) (old new : BloomState D) (r : Result Step CallError) → old.mark ≤ durable → old.next ≤ durable → twin_calls_made old.twin ≤ 3
+    → IfOk r (λ step. (step ≡ Done) ↔ (twin_calls_made old.twin ≡ 3)) → ((n : ℕ) → (r ≡ Err (call_error.Stopped n)) ↔ (old.calls.stopped ≡ Some n)) → BloomAdvances r old new → KeepsSave durable (out_of_save r) old new
 call_keeps {D} durable old new (Ok More) mark next made last stopped it =
-    subst (λ (b : BloomState D). KeepsSave durable Moved old b) (sym it) (record { m = refl; k = refl; mark = mark; next = next; made = one_call_more (calls_made old.twin) made (λ e. let no : More ≡ Done = last.1 e in cc); stay = λ call is. is; cause = λ _. refl })
+    subst (λ (b : BloomState D). KeepsSave durable Moved old b) (sym it) (record { m = refl; k = refl; mark = mark; next = next; made = one_call_more (twin_calls_made old.twin) made (λ e. let no : More ≡ Done = last.1 e in cc); stay = λ call is. is; cause = λ _. refl })
 call_keeps {D} durable old new (Ok Done) mark next made last stopped it =
     subst (λ (b : BloomState D). KeepsSave durable Moved old b) (sym it) (record { m = refl; k = refl; mark = next; next = next; made = omega arith; stay = λ call is. is; cause = λ _. refl })
-call_keeps {D} durable old new (Err call_err.Fault) mark next made last stopped it =
+call_keeps {D} durable old new (Err call_error.Fault) mark next made last stopped it =
     subst (λ (b : BloomState D). KeepsSave durable (Failed DiskFault) old b) (sym it) (record {
       m = refl;
       k = refl;
       mark = mark;
       next = next;
       made = made;
-      stay = λ call is. let no : Err call_err.Fault ≡ Err (call_err.Stopped call) = (stopped call).1 is in absurd (cc);
+      stay = λ call is. let no : Err call_error.Fault ≡ Err (call_error.Stopped call) = (stopped call).1 is in absurd (cc);
       cause = λ other. absurd (other refl);
     })
-call_keeps {D} durable old new (Err (call_err.Stopped n)) mark next made last stopped it =
+call_keeps {D} durable old new (Err (call_error.Stopped n)) mark next made last stopped it =
     subst (λ (b : BloomState D). KeepsSave durable (Failed (Stopped n)) old b) (sym it) (record { m = refl; k = refl; mark = mark; next = next; made = made; stay = λ call is. is; cause = λ _. refl })
 
-one_keeps : {D : Type 0} (bits : Filter) (durable : ℕ) (out : Out) (old new : BloomState D) → old.mark ≤ durable → old.next ≤ durable → calls_made old.twin ≤ 3 → SavesOne bits durable out old new → KeepsSave durable out old new
+one_keeps : {D : Type 0} (bits : Filter) (durable : ℕ) (out : Out) (old new : BloomState D) → old.mark ≤ durable → old.next ≤ durable → twin_calls_made old.twin ≤ 3 → SavesOne bits durable out old new → KeepsSave durable out old new
 one_keeps {D} bits durable out old new mark next made it = ⊎_elim
     (λ rests. subst (λ (b : BloomState D). KeepsSave durable out old b) (sym rests.2) (record { m = refl; k = refl; mark = mark; next = next; made = made; stay = λ call is. is; cause = λ _. refl }))
     (λ (s : Saves bits durable out old new).
@@ -195,10 +195,10 @@ one_keeps {D} bits durable out old new mark next made it = ⊎_elim
     }))
     it
 
-save_is_work : (r : Result Step CallErr) (old new : Machine) → new ≡ old → IsWork (out_of_save r) old new × IsUndamaged (out_of_save r)
+save_is_work : (r : Result Step CallError) (old new : Machine) → new ≡ old → IsWork (out_of_save r) old new × IsUndamaged (out_of_save r)
 save_is_work (Ok step) old new same = (same, tt)
-save_is_work (Err call_err.Fault) old new same = (same, tt)
-save_is_work (Err (call_err.Stopped n)) old new same = (same, tt)
+save_is_work (Err call_error.Fault) old new same = (same, tt)
+save_is_work (Err (call_error.Stopped n)) old new same = (same, tt)
 
 one_is_work : {D : Type 0} (bits : Filter) (durable : ℕ) (out : Out) (before after : BloomState D) → SavesOne bits durable out before after → (old new : Machine) → new ≡ old → IsWork out old new × IsUndamaged out
 one_is_work bits durable out before after it old new same = ⊎_elim
@@ -397,7 +397,7 @@ module _ {D : Type 0} (score : List ℕ → List ℕ) (disk : DiskOf D) (k : Cor
         (subst (λ (ys : List ℕ). CountsOut out (joined (map f k.log.disks) (map f (devices_of k).sections) (map f (devices_of k).filter)) ys) (sym (map_all f (devices_of (record k { bloom = bloom }))))
         (counts_behind (map f k.log.disks ++ map f (devices_of k).sections) (map f (devices_of k).filter) (map f (devices_of (record k { bloom = bloom })).filter) out calls.faults))
 
-    filter_goes_on : GoesOn disk k (record k { bloom = bloom })
+    filter_goes_on : StoreGoesOn disk k (record k { bloom = bloom })
     filter_goes_on = record {
       store = record {
         tables = refl;
@@ -452,7 +452,7 @@ module _ {D : Type 0} (score : List ℕ → List ℕ) (disk : DiskOf D) (k : Cor
           → IsTrue disk.tells → LeavesPrefix score disk k (record k { bloom = bloom })
       filter_crash more gives reads tells h files sound within =
           let devices : List D = (devices_of k).filter in
-          let rest : Files = record files { filter = map disk.bytes devices } in
+          let rest : DeviceFiles = record files { filter = map disk.bytes devices } in
           let as_read : AreImagesOf disk devices (map disk.bytes devices) = record {
             many = length-map devices disk.bytes;
             each = λ i d file at is. subst (disk.images d) (same_Some (disk.bytes d) file (sym (at_map disk.bytes devices i d at) ∙ is)) (reads d tells);

@@ -5,11 +5,11 @@ use Rattle.std.specs.Str.{bytes_eq}
 use Rattle.std.specs.List.{All}
 use Rattle.std.specs.Option.{option_to_list}
 use Rattle.std.proofs.lemmas.List.Sums.{sum_by-take-le, sum_by-cons}
-use Rattle.vt_arena.specs.declared.bad.ArenaBad.{ArenaBad}
-use Rattle.vt_arena.specs.declared.bad.ArenaBad.TheVariants as arena_bad
-use Rattle.vt_arena.specs.declared.bad.Field.TheVariants.{Number, Sealed, Used, Version}
-use Rattle.vt_arena.specs.Faults.{bad_value, first_bad as first_bad_in, taken_in}
-use Rattle.vt_arena.specs.Heads.{clumps_in, number_in, sealed_in, version_in}
+use Rattle.vt_arena.specs.declared.error.ArenaBad.{ArenaBad}
+use Rattle.vt_arena.specs.declared.error.ArenaBad.TheVariants as arena_bad
+use Rattle.vt_arena.specs.declared.error.Field.TheVariants.{Number, Sealed, Used, Version}
+use Rattle.vt_arena.specs.Faults.{bad_value, first_bad_head, room_taken}
+use Rattle.vt_arena.specs.Heads.{clump_count_in, number_in, sealed_in, version_in}
 use Rattle.vt_arena.specs.Places.{arena_room}
 use Rattle.vt_base.specs.declared.mount.MountBad.{MountBad}
 use Rattle.vt_base.specs.declared.mount.MountBad.TheVariants.{Disagree}
@@ -17,22 +17,22 @@ use Rattle.vt_base.specs.declared.mount.MountField.TheVariants.{Arenas}
 use Rattle.vt_disk.specs.Calls.{IsSynced}
 use Rattle.vt_disk.specs.Members.{DiskOf}
 use Rattle.vt_log.specs.Answers.{HoldTheSame}
-use Rattle.vt_log.specs.Faults.{AreFields, IsMountedBy, RefusesMount, OneHasRisen, bad_arena, first_bad, first_of_two, is_fault, out_of_order}
-use Rattle.vt_log.specs.Log.{IsMounted, LogState, disks_of}
+use Rattle.vt_log.specs.Faults.{AreFields, IsMountedBy, RefusesLogMount, OneHasRisen, bad_arena, first_bad_log, first_of_two, is_log_fault, out_of_order}
+use Rattle.vt_log.specs.Log.{IsMountedLog, LogState, disks_of}
 use Rattle.vt_log.specs.Logs.{IsLog, arena_count}
-use Rattle.vt_log.specs.Sound.{IsSound as IsSoundLog}
-use Rattle.vt_log.specs.Whole.{IsWhole}
-use Rattle.vt_log.specs.declared.bad.LogBad.{LogBad}
-use Rattle.vt_log.specs.declared.bad.LogBad.TheVariants as log_bad
+use Rattle.vt_log.specs.Sound.{IsSoundLog}
+use Rattle.vt_log.specs.Whole.{IsWholeLog}
+use Rattle.vt_log.specs.declared.error.LogBad.{LogBad}
+use Rattle.vt_log.specs.declared.error.LogBad.TheVariants as log_bad
 use Rattle.vt_model.specs.History.{History}
 use Rattle.vt_part.specs.Layout.{AreDistinct, layout_of}
 use Rattle.vt_part.specs.Parts.{names_of, table_of, tables_of, disk_of}
 use Rattle.vt_part.specs.Table.{Table}
-use Rattle.vt_part.specs.declared.bad.PartBad.TheVariants as part_bad
+use Rattle.vt_part.specs.declared.error.PartBad.TheVariants as part_bad
 use Rattle.vt_part.specs.declared.layout.ArenaRegion.{ArenaRegion}
 use Rattle.vt_part.specs.declared.part.Part.{Part}
 use Rattle.vt_shard.specs.declared.mounting.Sizes.{Sizes}
-use Rattle.vt_told.specs.Told.{of_log}
+use Rattle.vt_mount_errors.specs.MountErrors.{of_log}
 use Rattle.vt_recover.specs.declared.devices.Devices.{Devices}
 use Rattle.vt_core.specs.Files.{PerDevice, all_of}
 use Rattle.vt_core.specs.Mounting.{IsLogRead, devices_in, tables_in}
@@ -79,10 +79,10 @@ value_none number len version numbered sealed taken =
     (if_none (nat_lt 1 sealed) (Some (arena_bad.Torn Sealed sealed 1)) last tt
     (if_none (nat_lt room taken) (Some (arena_bad.Torn Used taken room)) None tt tt)))
 
-fields_none : (number len : ℕ) (fields : List ℕ) → NoFault (first_bad_in number len fields)
+fields_none : (number len : ℕ) (fields : List ℕ) → NoFault (first_bad_head number len fields)
 fields_none number len fields =
-    if_none (not (bytes_eq (take 4 fields) (codes "VARN"))) (Some arena_bad.NotFormatted) (bad_value number len (version_in fields) (number_in fields) (sealed_in fields) (taken_in fields)) tt
-    (value_none number len (version_in fields) (number_in fields) (sealed_in fields) (taken_in fields))
+    if_none (not (bytes_eq (take 4 fields) (codes "VARN"))) (Some arena_bad.NotFormatted) (bad_value number len (version_in fields) (number_in fields) (sealed_in fields) (room_taken fields)) tt
+    (value_none number len (version_in fields) (number_in fields) (sealed_in fields) (room_taken fields))
 
 abbrev NoFaultLog : Option LogBad → Type 0
 NoFaultLog None = ⊤
@@ -97,7 +97,7 @@ if_log true x y one other = one
 if_log false x y one other = other
 
 order_none : (i : ℕ) (fields : List ℕ) → NoFaultLog (out_of_order i fields)
-order_none i fields = if_log (clumps_in fields == 0) (if sealed_in fields == 0 then None else Some (log_bad.Arena i (arena_bad.Torn Sealed 1 0))) (Some (log_bad.Order i (clumps_in fields)))
+order_none i fields = if_log (clump_count_in fields == 0) (if sealed_in fields == 0 then None else Some (log_bad.Arena i (arena_bad.Torn Sealed 1 0))) (Some (log_bad.Order i (clump_count_in fields)))
     (if_log (sealed_in fields == 0) None (Some (log_bad.Arena i (arena_bad.Torn Sealed 1 0))) tt tt) tt
 
 arena_none : (behind : Bool) (i : ℕ) (bad : Option ArenaBad) (fields : List ℕ) → NoFault bad → NoFaultLog (bad_arena behind i bad fields)
@@ -108,16 +108,16 @@ two_none : (x y : Option LogBad) → NoFaultLog x → NoFaultLog y → NoFaultLo
 two_none None y one other = other
 two_none (Some bad) y one other = one
 
-arenas_none : (behind : Bool) (i : ℕ) (layout : List ArenaRegion) (fields : List (List ℕ)) → NoFaultLog (first_bad behind i layout fields)
+arenas_none : (behind : Bool) (i : ℕ) (layout : List ArenaRegion) (fields : List (List ℕ)) → NoFaultLog (first_bad_log behind i layout fields)
 arenas_none behind i [] fields = tt
 arenas_none behind i (r ∷ rest) [] = tt
 arenas_none behind i (r ∷ rest) (f ∷ fields) =
-    two_none (bad_arena behind i (first_bad_in r.number r.region.len f) f) (first_bad (behind || sealed_in f == 0) (i + 1) rest fields)
-    (arena_none behind i (first_bad_in r.number r.region.len f) f (fields_none r.number r.region.len f)) (arenas_none (behind || sealed_in f == 0) (i + 1) rest fields)
+    two_none (bad_arena behind i (first_bad_head r.number r.region.len f) f) (first_bad_log (behind || sealed_in f == 0) (i + 1) rest fields)
+    (arena_none behind i (first_bad_head r.number r.region.len f) f (fields_none r.number r.region.len f)) (arenas_none (behind || sealed_in f == 0) (i + 1) rest fields)
 
 -- a fault is told exactly where the log's mount told one
-counts_log : (names : List (List ℕ)) (layout : List ArenaRegion) (fields : List (List ℕ)) (why : LogBad) (old new : List ℕ) → RefusesMount names layout fields why
-    → MatchBool (is_fault why) (OneHasRisen old new) (new ≡ old) → CountsRefusal (of_log layout why) old new
+counts_log : (names : List (List ℕ)) (layout : List ArenaRegion) (fields : List (List ℕ)) (why : LogBad) (old new : List ℕ) → RefusesLogMount names layout fields why
+    → MatchBool (is_log_fault why) (OneHasRisen old new) (new ≡ old) → CountsRefusal (of_log layout why) old new
 counts_log names layout fields log_bad.Fault old new refuses it = it
 counts_log names layout fields log_bad.NoMemory old new refuses it = it
 counts_log names layout fields (log_bad.Order i clumps) old new refuses it = it
@@ -155,8 +155,8 @@ module _ {D : Type 0} (score : List ℕ → List ℕ) (disk : DiskOf D) (tables 
   -- the log is refused
   pub log_mount : (after : List D) (why : LogBad) (back : Devices D) → devices_in back ≡ with_log after devices filter → tables_in back ≡ tables
       → (fields : List (List ℕ)) → (IsTrue disk.tells → AreFields (layout_of tables) (map disk.bytes before) fields)
-      → RefusesMount (map (λ t. t.name) tables) (layout_of tables) fields why → HoldTheSame disk before after
-      → MatchBool (is_fault why) (OneHasRisen (map disk.faults before) (map disk.faults after)) (map disk.faults after ≡ map disk.faults before)
+      → RefusesLogMount (map (λ t. t.name) tables) (layout_of tables) fields why → HoldTheSame disk before after
+      → MatchBool (is_log_fault why) (OneHasRisen (map disk.faults before) (map disk.faults after)) (map disk.faults after ≡ map disk.faults before)
       → ((g : History) (base : ℕ) → IsTrue disk.tells → AreDistinct (map (λ t. t.name) tables) → IsLog score (layout_of tables) (map disk.bytes before) g base
       → (why ≡ log_bad.Fault) ⊎ (why ≡ log_bad.NoMemory))
       → IsMountOf score disk tables pd sizes sessions (Err (of_log (layout_of tables) why, back))
@@ -178,7 +178,7 @@ module _ {D : Type 0} (score : List ℕ → List ℕ) (disk : DiskOf D) (tables 
 
 -- what is known of a log that was just mounted
 pub log_given : {D : Type 0} (score : List ℕ → List ℕ) (disk : DiskOf D) (parts : List (Part D)) (sections : List D) (filter : Option D) (log : LogState D)
-    → IsWhole disk log → IsMounted log → log.layout ≡ layout_of (tables_of parts) → (same : log.tables ≡ tables_of parts) → arena_count (tables_of parts) ≤ 4096
+    → IsWholeLog disk log → IsMountedLog log → log.layout ≡ layout_of (tables_of parts) → (same : log.tables ≡ tables_of parts) → arena_count (tables_of parts) ≤ 4096
     → (fields : List (List ℕ)) → (IsTrue disk.tells → AreFields (layout_of (tables_of parts)) (map disk.bytes (disks_of parts)) fields)
     → IsMountedBy (names_of parts) (layout_of (tables_of parts)) fields log
     → ((g : History) (base : ℕ) → IsTrue disk.tells → AreDistinct (names_of parts) → IsLog score (layout_of (tables_of parts)) (map disk.bytes (disks_of parts)) g base

@@ -8,27 +8,27 @@ use Rattle.vt_model.specs.History.{History}
 use Rattle.vt_model.specs.Legal.{IsLegal}
 use Rattle.vt_model.specs.Places.{Setup}
 use Rattle.vt_part.specs.declared.layout.ArenaRegion.{ArenaRegion}
-use Rattle.vt_log.specs.declared.bad.Progress.{Progress}
-use Rattle.vt_log.specs.declared.bad.Progress.TheVariants.{Idle, Step, Durable}
-use Rattle.vt_log.specs.declared.bad.LogErr.{LogErr}
-use Rattle.vt_log.specs.declared.bad.LogErr.TheVariants.{Fault, Stopped}
-use Rattle.vt_log.specs.Answers.{Advances, CallsArena}
-use Rattle.vt_log.specs.Committing.{TakesStep}
+use Rattle.vt_log.specs.declared.error.Progress.{Progress}
+use Rattle.vt_log.specs.declared.error.Progress.TheVariants.{Idle, Step, Durable}
+use Rattle.vt_log.specs.declared.error.LogErr.{LogErr}
+use Rattle.vt_log.specs.declared.error.LogErr.TheVariants.{Fault, Stopped}
+use Rattle.vt_log.specs.Answers.{LogAdvances, CallsArena}
+use Rattle.vt_log.specs.Committing.{LogTakesStep}
 use Rattle.vt_log.specs.Faults.{CountsFaults, OneHasRisen, is_fault_now}
 use Rattle.vt_log.specs.Log.{LogState, queued}
-use Rattle.vt_log.specs.Sound.{IsSound as IsSoundLog, AreImages as AreImagesOf, AreWithinCall as AreWithinCallOf, StandForPrefix as LogStandForPrefix}
-use Rattle.vt_log.specs.Logs.{StandsFor as LogStandsFor}
+use Rattle.vt_log.specs.Sound.{IsSoundLog, AreImagesOf, AreWithinCallOf, LogStandsForPrefix}
+use Rattle.vt_log.specs.Logs.{LogStandsFor}
 use Rattle.vt_log.proofs.Lists.{at_slice, slice_get_other}
 use Rattle.vt_bloom.specs.Laws.{CoversMore}
 use Rattle.vt_shard.specs.Shard.{ShardState}
-use Rattle.vt_shard.specs.Sound.{IsSound as IsSoundShard, IsSoundFrom}
+use Rattle.vt_shard.specs.Sound.{IsSoundShard, IsSoundFrom}
 use Rattle.vt_core.specs.declared.event.Event.TheVariants.{LogAdvance}
 use Rattle.vt_core.specs.declared.event.Out.{Out}
 use Rattle.vt_core.specs.declared.event.Out.TheVariants.{Moved, Nothing, Failed}
 use Rattle.vt_core.specs.Causes.{CallsOne, CallsOnce, CountsOut, IsUndamaged, KeepsStops}
 use Rattle.vt_core.specs.Core.{CoreState, setup_of, machine_of, devices_of, each_of, stops_of}
 use Rattle.vt_core.specs.Events.{IsWork}
-use Rattle.vt_core.specs.Files.{Files, all_of}
+use Rattle.vt_core.specs.Files.{DeviceFiles, all_of}
 use Rattle.vt_core.specs.Machine.{Machine}
 use Rattle.vt_core.specs.Sound.{IsSound}
 use Rattle.vt_recover.specs.Sections.{IsLive}
@@ -42,7 +42,7 @@ use Rattle.vt_recover.proofs.Places.{length-set, get_set, get_other, map_set, on
 use Rattle.vt_recover.proofs.Counts.{risen_front}
 use Rattle.vt_part.specs.Layout.{layout_of}
 use Rattle.vt_part.specs.Table.{Table, IsPartition}
-use Rattle.vt_part.specs.Laws.{IsArena, LayoutsHaveArenas, ArenasAreInside}
+use Rattle.vt_part.specs.Laws.{IsArenaOfTable, LayoutsHaveArenas, ArenasAreInside}
 use Rattle.vt_disk.specs.declared.TheConstants.{BLOCK_LEN}
 use Rattle.vt_disk.specs.Disk.{ChangesAt}
 use Rattle.vt_disk.specs.Region.{Inside}
@@ -55,7 +55,7 @@ MoreDurable {D} disk = (score : List ℕ → List ℕ) (c : Setup) (t : ShardSta
     → IsSoundFrom score c disk t h durable from → durable ≤ more → more ≤ length h → IsSoundFrom score c disk t h more from
 
 abbrev pub EachPrefix : {D : Type 0} → DiskOf D → Type 0
-EachPrefix {D} disk = (score : List ℕ → List ℕ) (k : CoreState D) (h : History) (files : Files) (n : ℕ) → IsSound score disk k h
+EachPrefix {D} disk = (score : List ℕ → List ℕ) (k : CoreState D) (h : History) (files : DeviceFiles) (n : ℕ) → IsSound score disk k h
     → AreImagesOf disk (devices_of k).sections files.sections → AreImagesOf disk (devices_of k).filter files.filter
     → k.log.durable ≤ n → n ≤ length h → ArePartitions k.log.tables files.partitions
     → LogStandsFor score (setup_of k) (layout_of k.log.tables) files.partitions h n → StandsFor score (setup_of k) k.log.tables files h n
@@ -88,7 +88,7 @@ none_or_some None = inl refl
 none_or_some (Some x) = inr (x, refl)
 
 -- a call was made where the log isn't idle and hasn't stopped
-pub log_called : {D : Type 0} (disk : DiskOf D) (k : CoreState D) (l : LogState D) (answer : Result Progress LogErr) → TakesStep disk answer k.log l
+pub log_called : {D : Type 0} (disk : DiskOf D) (k : CoreState D) (l : LogState D) (answer : Result Progress LogErr) → LogTakesStep disk answer k.log l
     → (answer ≢ Ok Idle) → ((n : ℕ) → answer ≢ Err (Stopped n)) → (k.log.stopped ≡ None) × CallsArena disk answer k.log l
 log_called disk k l answer step busy goes = ⊎_elim
     (λ (none : k.log.stopped ≡ None). ⊎_elim
@@ -106,11 +106,11 @@ TablesStay {D} disk = (t : Table) (before after : D) → ChangesAt (λ i. BLOCK_
 -- a partition's arenas stand behind its block
 behind_block : LayoutsHaveArenas → ArenasAreInside → (tables : List Table) (i : ℕ) (r : ArenaRegion) → slice_get (layout_of tables) i ≡ Some r → BLOCK_LEN ≤ r.region.start
 behind_block have inside tables i r at =
-    let it = at_slice (IsArena tables) (layout_of tables) i r (have tables) at in
+    let it = at_slice (IsArenaOfTable tables) (layout_of tables) i r (have tables) at in
     subst (λ (q : ArenaRegion). BLOCK_LEN ≤ q.region.start) (sym it.3) (inside it.0 r.number it.2).0
 
 -- a call of the log leaves all tables
-pub tables_stay : {D : Type 0} (disk : DiskOf D) (k : CoreState D) (l : LogState D) (answer : Result Progress LogErr) → TakesStep disk answer k.log l
+pub tables_stay : {D : Type 0} (disk : DiskOf D) (k : CoreState D) (l : LogState D) (answer : Result Progress LogErr) → LogTakesStep disk answer k.log l
     → TablesStay disk → LayoutsHaveArenas → ArenasAreInside → k.log.layout ≡ layout_of k.log.tables → HaveTables disk k.log → HaveTables disk l
 tables_stay {D} disk k l answer step stay have inside layout was = leaves answer step.advances (λ busy goes. (log_called disk k l answer step busy goes).1)
   where
@@ -133,7 +133,7 @@ tables_stay {D} disk k l answer step stay have inside layout was = leaves answer
         was i t device file was_at (sym (get_other k.log.disks it.r.part i it.after other) ∙ here) left)
         (one_or_other i it.r.part)
 
-    leaves : (r : Result Progress LogErr) → Advances r k.log l → ((r ≢ Ok Idle) → ((n : ℕ) → r ≢ Err (Stopped n)) → CallsArena disk answer k.log l) → HaveTables disk l
+    leaves : (r : Result Progress LogErr) → LogAdvances r k.log l → ((r ≢ Ok Idle) → ((n : ℕ) → r ≢ Err (Stopped n)) → CallsArena disk answer k.log l) → HaveTables disk l
     leaves (Ok Idle) it called = same it.1
     leaves (Ok Step) it called = by_call (called (λ e. cc) (λ n e. cc))
     leaves (Ok (Durable n)) it called = by_call (called (λ e. cc) (λ n e. cc))
@@ -141,7 +141,7 @@ tables_stay {D} disk k l answer step stay have inside layout was = leaves answer
     leaves (Err (Stopped n)) it called = same it.1
 
 -- a log never has fewer durable blocks
-pub durable_stays : {D : Type 0} (r : Result Progress LogErr) (old new : LogState D) → Advances r old new → old.durable ≤ new.durable
+pub durable_stays : {D : Type 0} (r : Result Progress LogErr) (old new : LogState D) → LogAdvances r old new → old.durable ≤ new.durable
 durable_stays {D} (Ok Idle) old new it = let e = ap (λ (l : LogState D). l.durable) it.1 in omega (arith, e)
 durable_stays (Ok Step) old new it = omega (arith, it.0.durable)
 durable_stays (Ok (Durable n)) old new it = omega (arith, it.0.durable)
@@ -155,7 +155,7 @@ progress_is_work (Ok (Durable n)) old new quiet = quiet
 progress_is_work (Err Fault) old new quiet = quiet
 progress_is_work (Err (Stopped n)) old new quiet = quiet
 
-log_many : {D : Type 0} (disk : DiskOf D) (k : CoreState D) (l : LogState D) (r : Result Progress LogErr) → Advances r k.log l
+log_many : {D : Type 0} (disk : DiskOf D) (k : CoreState D) (l : LogState D) (r : Result Progress LogErr) → LogAdvances r k.log l
     → ((r ≢ Ok Idle) → ((n : ℕ) → r ≢ Err (Stopped n)) → length l.disks ≡ length k.log.disks) → length l.disks ≡ length k.log.disks
 log_many {D} disk k l (Ok Idle) it same = ap (λ (m : LogState D). length m.disks) it.1
 log_many disk k l (Ok Step) it same = same (λ e. cc) (λ n e. cc)
@@ -164,7 +164,7 @@ log_many disk k l (Err Fault) it same = same (λ e. cc) (λ n e. cc)
 log_many {D} disk k l (Err (Stopped n)) it same = ap (λ (m : LogState D). length m.disks) it.1
 
 module _ {D : Type 0} (score : List ℕ → List ℕ) (disk : DiskOf D) (k : CoreState D) (l : LogState D) (answer : Result Progress LogErr)
-    (step : TakesStep disk answer k.log l) where
+    (step : LogTakesStep disk answer k.log l) where
   durable : k.log.durable ≤ l.durable
   durable = durable_stays answer k.log l step.advances
 
@@ -229,7 +229,7 @@ module _ {D : Type 0} (score : List ℕ → List ℕ) (disk : DiskOf D) (k : Cor
   same_many = log_many disk k l answer step.advances (λ busy goes. let it = (log_called disk k l answer step busy goes).1 in ap length it.disks ∙ length-set k.log.disks it.r.part it.after)
 
   log_crash : EachPrefix disk → (k.log.layout ≡ layout_of k.log.tables → HaveTables disk k.log → HaveTables disk l)
-      → (IsTrue disk.tells → (h : History) → IsSoundLog score disk k.log h → (files : List (List ℕ)) → AreWithinCallOf disk k.log.disks l.disks files → LogStandForPrefix score k.log files h)
+      → (IsTrue disk.tells → (h : History) → IsSoundLog score disk k.log h → (files : List (List ℕ)) → AreWithinCallOf disk k.log.disks l.disks files → LogStandsForPrefix score k.log files h)
       → IsTrue disk.tells → LeavesPrefix score disk k (record k { log = l })
   log_crash each tables crash tells h files was within =
       let it = crash tells h was.log files.partitions within.partitions in
@@ -258,7 +258,7 @@ module _ {D : Type 0} (score : List ℕ → List ℕ) (disk : DiskOf D) (k : Cor
 -- ---- by what the log answers
 
 module _ {D : Type 0} (disk : DiskOf D) (k : CoreState D) (l : LogState D) where
-  pub log_calls : (r : Result Progress LogErr) → Advances r k.log l
+  pub log_calls : (r : Result Progress LogErr) → LogAdvances r k.log l
       → ((r ≢ Ok Idle) → ((n : ℕ) → r ≢ Err (Stopped n)) → CallsOne disk (all_of (devices_of k)) (all_of (devices_of (record k { log = l }))))
       → (l ≡ k.log → all_of (devices_of (record k { log = l })) ≡ all_of (devices_of k))
       → CallsOnce disk (out_of_progress r) (all_of (devices_of k)) (all_of (devices_of (record k { log = l })))
@@ -296,7 +296,7 @@ module _ {D : Type 0} (disk : DiskOf D) (k : CoreState D) (l : LogState D) where
   kept_stops : (out : Out) → l.stopped ≡ k.log.stopped → KeepsStops out k (record k { log = l })
   kept_stops out same = let e = stops_same same in record { stay = λ i call at. ap (λ (ss : List (Option ℕ)). slice_get ss i) e ∙ at; cause = λ _. e }
 
-  pub log_stops : (r : Result Progress LogErr) → Advances r k.log l → ((r ≢ Ok Idle) → ((n : ℕ) → r ≢ Err (Stopped n)) → k.log.stopped ≡ None)
+  pub log_stops : (r : Result Progress LogErr) → LogAdvances r k.log l → ((r ≢ Ok Idle) → ((n : ℕ) → r ≢ Err (Stopped n)) → k.log.stopped ≡ None)
       → KeepsStops (out_of_progress r) k (record k { log = l })
   log_stops (Ok Idle) it none = kept_stops Nothing (ap (λ (m : LogState D). m.stopped) it.1)
   log_stops (Ok Step) it none = kept_stops Moved (it.1 ∙ sym (none (λ e. cc) (λ n e. cc)))
@@ -310,7 +310,7 @@ module _ {D : Type 0} (disk : DiskOf D) (k : CoreState D) (l : LogState D) where
       stay was (suc i) call at = at
   log_stops (Err (Stopped n)) it none = kept_stops (Failed (WhyStopped n)) (ap (λ (m : LogState D). m.stopped) it.1)
 
-  pub log_sizes : (r : Result Progress LogErr) → Advances r k.log l → ((r ≢ Ok Idle) → ((n : ℕ) → r ≢ Err (Stopped n)) → map disk.size l.disks ≡ map disk.size k.log.disks)
+  pub log_sizes : (r : Result Progress LogErr) → LogAdvances r k.log l → ((r ≢ Ok Idle) → ((n : ℕ) → r ≢ Err (Stopped n)) → map disk.size l.disks ≡ map disk.size k.log.disks)
       → each_of disk.size (record k { log = l }) ≡ each_of disk.size k
   log_sizes (Ok Idle) it same = counts_same disk.size (ap (λ (m : LogState D). map disk.size m.disks) it.1)
   log_sizes (Ok Step) it same = counts_same disk.size (same (λ e. cc) (λ n e. cc))
@@ -319,10 +319,10 @@ module _ {D : Type 0} (disk : DiskOf D) (k : CoreState D) (l : LogState D) where
   log_sizes (Err (Stopped n)) it same = counts_same disk.size (ap (λ (m : LogState D). map disk.size m.disks) it.1)
 
 -- All of it.
-pub log_steps : {D : Type 0} (score : List ℕ → List ℕ) (disk : DiskOf D) (k : CoreState D) (l : LogState D) (answer : Result Progress LogErr) (step : TakesStep disk answer k.log l)
+pub log_steps : {D : Type 0} (score : List ℕ → List ℕ) (disk : DiskOf D) (k : CoreState D) (l : LogState D) (answer : Result Progress LogErr) (step : LogTakesStep disk answer k.log l)
     → MoreDurable disk → EachPrefix disk → CoversMore → IsWhole disk k → (k.log.layout ≡ layout_of k.log.tables → HaveTables disk k.log → HaveTables disk l)
     → (IsTrue disk.tells → (h : History) → IsSoundLog score disk k.log h → IsSoundLog score disk l h)
-    → (IsTrue disk.tells → (h : History) → IsSoundLog score disk k.log h → (files : List (List ℕ)) → AreWithinCallOf disk k.log.disks l.disks files → LogStandForPrefix score k.log files h)
+    → (IsTrue disk.tells → (h : History) → IsSoundLog score disk k.log h → (files : List (List ℕ)) → AreWithinCallOf disk k.log.disks l.disks files → LogStandsForPrefix score k.log files h)
     → Steps score disk LogAdvance (out_of_progress answer) k (record k { log = l })
 log_steps score disk k l answer step grows each more whole tables sound crash =
     let low = durable_stays answer k.log l step.advances in

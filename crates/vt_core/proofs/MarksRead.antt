@@ -3,7 +3,7 @@ use Rattle.std.proofs.Common.{◌≡◌, ⊎_elim, ℕ, List, map, Option, Some,
 use Rattle.std.specs.Prelude.{slice_get, IsTrue}
 use Rattle.std.specs.Option.{option_to_list}
 use Rattle.std.proofs.lemmas.Option.{same_Some}
-use Rattle.vt_bloom.specs.Bloom.{BloomState, IsSound as IsSoundBloom}
+use Rattle.vt_bloom.specs.Bloom.{BloomState, IsSoundBloom}
 use Rattle.vt_bloom.specs.Frame.{HasSaved, Saved}
 use Rattle.vt_bloom.specs.Laws.{HasOneSaved}
 use Rattle.vt_disk.specs.Members.{DiskOf}
@@ -13,7 +13,7 @@ use Rattle.vt_isect.specs.declared.phase.Phase.TheVariants.{ChangeHead, Rest}
 use Rattle.vt_isect.specs.Head.{IsHeadFrame}
 use Rattle.vt_isect.specs.Layout.{head_place}
 use Rattle.vt_isect.specs.Section.{SectionState}
-use Rattle.vt_isect.specs.Sound.{DiskHolds, Known, LeavesHead}
+use Rattle.vt_isect.specs.Sound.{DiskHolds, KnownBuckets, LeavesHead}
 use Rattle.vt_model.specs.History.{History}
 use Rattle.vt_shard.specs.Shard.{ShardState}
 use Rattle.vt_twin.specs.Frames.{current_frame}
@@ -25,7 +25,7 @@ use Rattle.vt_recover.proofs.Lists.{at_map}
 
 -- what the laws say that are called
 abbrev pub HeadsLeft : {D : Type 0} → DiskOf D → Type 0
-HeadsLeft {D} disk = (t : SectionState D) (known : Known) → DiskHolds disk t known → (file : List ℕ) → disk.images t.disk file
+HeadsLeft {D} disk = (t : SectionState D) (known : KnownBuckets) → DiskHolds disk t known → (file : List ℕ) → disk.images t.disk file
     → (head : Head) × LeavesHead t head × IsHeadFrame t.name head (current_frame head_place FRAME_LEN file)
 
 abbrev pub SavedLeft : {D : Type 0} → DiskOf D → Type 0

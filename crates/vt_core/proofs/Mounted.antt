@@ -14,8 +14,8 @@ use Rattle.vt_disk.specs.Calls.{IsSynced}
 use Rattle.vt_disk.specs.Members.{DiskOf}
 use Rattle.vt_isect.specs.Layout.{buckets_in}
 use Rattle.vt_isect.specs.Section.{SectionState}
-use Rattle.vt_log.specs.Log.{LogState, IsMounted}
-use Rattle.vt_log.specs.Sound.{IsSound as IsSoundLog}
+use Rattle.vt_log.specs.Log.{LogState, IsMountedLog}
+use Rattle.vt_log.specs.Sound.{IsSoundLog}
 use Rattle.vt_model.specs.History.{History, Accepted}
 use Rattle.vt_model.specs.Legal.{IsLegal}
 use Rattle.vt_model.specs.Places.{Setup}
@@ -28,11 +28,11 @@ use Rattle.vt_shard.specs.declared.mounting.Sizes.{Sizes}
 use Rattle.vt_core.specs.declared.TheConstants.{MOST_BUCKETS}
 use Rattle.vt_core.specs.Core.{CoreState, setup_of, devices_of, stops_of}
 use Rattle.vt_core.specs.Files.{PerDevice, all_of}
-use Rattle.vt_core.specs.Mounting.{HasRoomOf, IsFresh, IsHeadRead, IsLogOf, IsLogRead, IsMarkRead, IsReadAs, IsSetupOf, KeepsLimits, Mounts, Recalls, ReadsEntriesOnce}
+use Rattle.vt_core.specs.Mounting.{HasRoomOf, IsFreshlyMounted, IsHeadRead, IsLogOf, IsLogRead, IsMarkRead, IsReadAs, IsSetupOf, KeepsLimits, MountsStore, Recalls, ReadsEntriesOnce}
 use Rattle.vt_recover.specs.Marks.{AreCovered}
-use Rattle.vt_recover.specs.Opening.{IsFilterOpened, IsOpened, IsShardMade, OpensFilter}
+use Rattle.vt_recover.specs.Opening.{IsFilterOpened, IsFoundSection, IsShardMade, OpensFilter}
 use Rattle.vt_core.specs.Opening.{IsLogFound, TestsParts, with_log}
-use Rattle.vt_recover.specs.Recalling.{ReadsBack, ReadsLogBack, opened, Recalls as RecallsFrom}
+use Rattle.vt_recover.specs.Recalling.{ReadsBack, ReadsLogBack, opened, RecallsFrom}
 use Rattle.vt_core.specs.Sound.{IsSound, IsSoundFilter}
 use Rattle.vt_core.specs.Stands.{FilterStandsFor, scores_of}
 use Rattle.vt_core.specs.Whole.{IsWhole}
@@ -100,7 +100,7 @@ abbrev pub LegalBase : Type 0
 LegalBase = (score : List ℕ → List ℕ) (c : Setup) (base : ℕ) (h : History) → IsLegal score c h → IsLegal score (record c { base = base }) h
 
 module _ {D : Type 0} (score : List ℕ → List ℕ) (disk : DiskOf D) (devices : List D) (sections : List (SectionState D)) (made : List (ShardState D)) (sizes : Sizes)
-    (opens : AllZip (IsOpened disk) devices sections) (makes : AllZip (IsShardMade disk sizes.lumps sizes.clean) sections made)
+    (opens : AllZip (IsFoundSection disk) devices sections) (makes : AllZip (IsShardMade disk sizes.lumps sizes.clean) sections made)
     (log log1 : LogState D) (bits bits1 : Filter) (shards : List (ShardState D)) (least : ℕ)
     (filter : Option D) (bloom : Option (BloomState D)) (filter_opens : OpensFilter disk filter bloom bits) (part : ℕ) (tests : TestsParts {U = ⊤} part sections bloom log.durable (Ok tt))
     (before : List D) (given : IsLogFound score disk before devices filter log) (short : All (λ r. r.region.len ≤ 2 ^ 30) (layout_of log.tables))
@@ -197,8 +197,8 @@ module _ {D : Type 0} (score : List ℕ → List ℕ) (disk : DiskOf D) (devices
     });
   }
 
-  still_mounted : IsMounted log1
-  still_mounted = subst IsMounted (sym back.log) (record {
+  still_mounted : IsMountedLog log1
+  still_mounted = subst IsMountedLog (sym back.log) (record {
     committing = given.mounted.committing;
     staged = given.mounted.staged;
     rest = given.mounted.rest;
@@ -248,7 +248,7 @@ module _ {D : Type 0} (score : List ℕ → List ℕ) (disk : DiskOf D) (devices
       let it = link i s at in
       (it.keeps.lumps ∙ ap (λ (t : ShardState D). t.lumps) it.makes.is, it.keeps.clean_room ∙ ap (λ (t : ShardState D). t.index.clean_room) it.makes.is)
 
-  is_fresh : IsFresh disk log.tables pd sizes sessions k
+  is_fresh : IsFreshlyMounted disk log.tables pd sizes sessions k
   is_fresh = record {
     tables_are = ap (λ (l : LogState D). l.tables) back.log;
     layout = ap (λ (l : LogState D). l.layout) back.log ∙ given.layout;
@@ -364,7 +364,7 @@ module _ {D : Type 0} (score : List ℕ → List ℕ) (disk : DiskOf D) (devices
     recalls = record { sound = is_sound; setup = setup_same; durable = durable_is }
 
   pub mounts : (prefix : ReadsPrefix disk) (none_lacks : NoneLacks disk) (base_is_free : BaseIsFree disk) (legal_prefix : LegalPrefix) (legal_base : LegalBase) (one : HasOneSaved)
-      → Mounts score disk log.tables pd sizes sessions k
+      → MountsStore score disk log.tables pd sizes sessions k
   mounts prefix none_lacks base_is_free legal_prefix legal_base one = record {
     recalls = λ c h g base tells of. recalls tells prefix none_lacks base_is_free legal_prefix legal_base one c h g base of;
     fresh = is_fresh;

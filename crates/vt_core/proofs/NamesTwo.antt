@@ -6,33 +6,33 @@ use Rattle.vt_base.specs.declared.mount.MountBad.{MountBad}
 use Rattle.vt_base.specs.declared.mount.MountBad.TheVariants.{Disagree}
 use Rattle.vt_base.specs.declared.mount.MountField.{MountField}
 use Rattle.vt_base.specs.declared.mount.MountField.TheVariants.{Arenas, Buckets, Count, Crowd, First, Mark, State, Total}
-use Rattle.vt_bloom.specs.declared.bad.BloomBad.{BloomBad}
-use Rattle.vt_bloom.specs.Faults.{NamesItsCause as NamesFilterCause}
+use Rattle.vt_bloom.specs.declared.error.BloomError.{BloomError}
+use Rattle.vt_bloom.specs.Faults.{NamesFilterCause}
 use Rattle.vt_disk.specs.Members.{DiskOf}
-use Rattle.vt_isect.specs.declared.bad.SectBad.{SectBad}
+use Rattle.vt_isect.specs.declared.error.SectBad.{SectBad}
 use Rattle.vt_isect.specs.declared.head.Head.{Head}
-use Rattle.vt_isect.specs.Faults.{NamesItsCause as NamesSectionCause}
-use Rattle.vt_log.specs.declared.bad.LogBad.{LogBad}
-use Rattle.vt_log.specs.Faults.{RefusesMount}
+use Rattle.vt_isect.specs.Faults.{NamesSectionCause}
+use Rattle.vt_log.specs.declared.error.LogBad.{LogBad}
+use Rattle.vt_log.specs.Faults.{RefusesLogMount}
 use Rattle.vt_model.specs.Places.{Setup, bucket_count, first_bucket}
 use Rattle.vt_part.specs.declared.layout.ArenaRegion.{ArenaRegion}
 use Rattle.vt_part.specs.Table.{Table}
-use Rattle.vt_told.specs.Told.{NamesTwo, of_filter, of_log, of_section}
-use Rattle.vt_told.proofs.LogRefused.{if_some, not_equal}
+use Rattle.vt_mount_errors.specs.MountErrors.{NamesTwo, of_filter, of_log, of_section}
+use Rattle.vt_mount_errors.proofs.LogRefused.{if_some, not_equal}
 use Rattle.vt_core.specs.Files.{PerDevice}
-use Rattle.vt_core.specs.Refusals.{IsFirstPast, IsRefused, section_part, wrong_head}
-use Rattle.vt_recover.specs.Sections.{buckets_of}
+use Rattle.vt_core.specs.Refusals.{IsFirstPast, IsRefusedMount, section_part, wrong_head}
+use Rattle.vt_recover.specs.Sections.{section_buckets}
 use Rattle.vt_core.proofs.LogMount.{count_same}
 
 -- what the law says that is called
 abbrev pub LogNamesTwo : Type 0
-LogNamesTwo = (names : List (List ℕ)) (layout : List ArenaRegion) (fields : List (List ℕ)) (why : LogBad) → RefusesMount names layout fields why → NamesTwo (of_log layout why)
+LogNamesTwo = (names : List (List ℕ)) (layout : List ArenaRegion) (fields : List (List ℕ)) (why : LogBad) → RefusesLogMount names layout fields why → NamesTwo (of_log layout why)
 
 abbrev pub SectionNamesTwo : Type 0
 SectionNamesTwo = (part size : ℕ) (why : SectBad) → NamesSectionCause size why → NamesTwo (of_section part why)
 
 abbrev pub FilterNamesTwo : Type 0
-FilterNamesTwo = (part size : ℕ) (why : BloomBad) → NamesFilterCause size why → NamesTwo (of_filter part why)
+FilterNamesTwo = (part size : ℕ) (why : BloomError) → NamesFilterCause size why → NamesTwo (of_filter part why)
 
 -- two values of one field
 two_of : (bad : MountBad) (part : ℕ) (field : MountField) (found want : ℕ) → bad ≡ Disagree part field found want → found ≢ want → NamesTwo bad
@@ -60,7 +60,7 @@ head_two part first count total head bad is = ⊎_elim
     (if_some (not (head.state == 1)) (Disagree part State head.state 1) bad _ is)
 
 pub refused_two : {D : Type 0} (disk : DiskOf D) → LogNamesTwo → SectionNamesTwo → FilterNamesTwo
-    → (score : List ℕ → List ℕ) (tables : List Table) (devices : PerDevice D) (c : Setup) (bad : MountBad) → IsRefused score disk tables devices c bad → NamesTwo bad
+    → (score : List ℕ → List ℕ) (tables : List Table) (devices : PerDevice D) (c : Setup) (bad : MountBad) → IsRefusedMount score disk tables devices c bad → NamesTwo bad
 refused_two {D} disk log section filter score tables devices c bad it = ⊎_elim
     (λ fault. subst NamesTwo (sym fault) tt)
     (λ rest. ⊎_elim
@@ -77,7 +77,7 @@ refused_two {D} disk log section filter score tables devices c bad it = ⊎_elim
     (λ a. two_of bad (section_part devices a.0) Buckets (bucket_count c) 1048576 a.2 (past 1048576 c.sections a.0 a.1))
     limits)
     (λ rest. ⊎_elim
-    (λ a. head_two (section_part devices a.i) (first_bucket c.sections a.i) (buckets_of c a.i) (bucket_count c) a.head bad a.wrong)
+    (λ a. head_two (section_part devices a.i) (first_bucket c.sections a.i) (section_buckets c a.i) (bucket_count c) a.head bad a.wrong)
     (λ rest. ⊎_elim
     (λ a. two_of bad a.part Mark a.mark _ a.bad_is (above a.mark _ a.above))
     (λ late. ⊎_elim

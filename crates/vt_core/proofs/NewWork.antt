@@ -10,9 +10,9 @@ use Rattle.vt_base.specs.declared.answer.Said.TheVariants.{Score, Refused}
 use Rattle.vt_base.specs.declared.key.Key.{Key}
 use Rattle.vt_base.specs.declared.why.Why.{Why}
 use Rattle.vt_base.specs.declared.why.Why.TheVariants.{Collision, NoMemory}
-use Rattle.vt_bloom.specs.Bits.{Marks}
+use Rattle.vt_bloom.specs.Bits.{MarksScore}
 use Rattle.vt_disk.specs.Members.{DiskOf}
-use Rattle.vt_log.specs.Answers.{OnlyReads}
+use Rattle.vt_log.specs.Answers.{OnlyReadsLog}
 use Rattle.vt_log.specs.Log.{LogState}
 use Rattle.vt_model.specs.Answer.{Outcome, answer}
 use Rattle.vt_model.specs.History.{History, Accepted, IsBlock}
@@ -24,17 +24,17 @@ use Rattle.vt_core.specs.declared.event.Out.{Out}
 use Rattle.vt_core.specs.declared.event.Out.TheVariants.{NotYet}
 use Rattle.vt_lookup.specs.declared.writing.Verdict.{Verdict}
 use Rattle.vt_lookup.specs.declared.writing.Verdict.TheVariants.{New}
-use Rattle.vt_core.specs.Asking.{AddsBlock, AnswersRequest, EndsWrite, HasNoRoom, MayBeTold, Writes, says, shard_of, stop_for, with_parts}
+use Rattle.vt_core.specs.Asking.{AddsBlock, AnswersRequest, EndsWrite, HasNoRoom, MayBeTold, AnswersWriteOperation, says, shard_of, stop_for, with_parts}
 use Rattle.vt_lookup.specs.Adding.{AddsPacked}
 use Rattle.vt_core.specs.Causes.{CountsOut, IsUndamaged, OnlyReadFrom}
 use Rattle.vt_core.specs.Core.{CoreState, setup_of, machine_of, devices_of, each_of, stops_of}
 use Rattle.vt_core.specs.Events.{IsAsked}
-use Rattle.vt_lookup.specs.Finding.{Parts, parts_of}
+use Rattle.vt_lookup.specs.Finding.{StoreParts, parts_of}
 use Rattle.vt_core.specs.Files.{PerDevice, AreWithinCall, all_of}
 use Rattle.vt_core.specs.Machine.{Machine, WaitsForNone}
 use Rattle.vt_core.specs.Serving.{AddsIfRoom, AddsStored, TestsBlock}
 use Rattle.vt_core.specs.Sound.{IsSound}
-use Rattle.vt_core.specs.Steps.{GoesOn, Steps}
+use Rattle.vt_core.specs.Steps.{StoreGoesOn, Steps}
 use Rattle.vt_core.specs.Whole.{IsWhole}
 use Rattle.vt_recover.proofs.Below.{AreMarked, MarkedStay}
 use Rattle.vt_core.proofs.AddWork.{adding_devices, adding_goes_on, adding_machine, adding_stops, with_added}
@@ -79,7 +79,7 @@ module _ {D : Type 0} (score : List ℕ → List ℕ) (disk : DiskOf D) (k teste
   pub tested_is : tested ≡ after
   tested_is = it.new_is ∙ parts_are
 
-  reads : OnlyReads score disk 2 k.log (record k.log { disks = it.after.log.disks })
+  reads : OnlyReadsLog score disk 2 k.log (record k.log { disks = it.after.log.disks })
   reads = log_reads score disk k (score block.now) it.before it.after it.may_have it.looks_in (Ok New) it.looks
 
   quiet : (h : History) → machine_of after h ≡ machine_of k h
@@ -95,7 +95,7 @@ module _ {D : Type 0} (score : List ℕ → List ℕ) (disk : DiskOf D) (k teste
     serves = λ _. record {
       early = λ far. absurd (far is);
       stopped = λ _ call stop. let no : None ≡ Some call = sym goes ∙ stop in absurd (cc);
-      performs = λ _ _. subst (λ (b : Bool). MatchBool b ((out ≡ says (Refused Collision) k) × (new ≡ k)) (Writes score disk key block.now now out k new))
+      performs = λ _ _. subst (λ (b : Bool). MatchBool b ((out ≡ says (Refused Collision) k) × (new ≡ k)) (AnswersWriteOperation score disk key block.now now out k new))
           (sym (false_from_ne_true (bytes_eq (score block.now) (score [])) (λ e. nonzero ((bytes_eq-Decides (score block.now) (score [])).0 e))))
           (record { before = it.before; tested = it.after; may_have = it.may_have; verdict = Ok New; looks = it.looks_in; tests = it.tests; ends = ends });
     };
@@ -156,10 +156,10 @@ module _ {D : Type 0} (score : List ℕ → List ℕ) (disk : DiskOf D) (k teste
     log_is = ap (λ (m : CoreState D). m.log) parts_are
 
     p : AddsPacked b.packed (parts_of after.log it.after.shard) adds.after
-    p = subst (λ (x : Parts D). AddsPacked b.packed x adds.after) (ap (λ (l : LogState D). parts_of l it.after.shard) log_is) b.adds
+    p = subst (λ (x : StoreParts D). AddsPacked b.packed x adds.after) (ap (λ (l : LogState D). parts_of l it.after.shard) log_is) b.adds
 
-    marks : Marks after.bits b.packed.score.0 new.bits
-    marks = subst (λ (s : List ℕ). Marks after.bits s new.bits) (sym (b.is_packed.score ∙ b.is_packed.stored.scored ∙ ap score b.block)) adds.bits
+    marks : MarksScore after.bits b.packed.score.0 new.bits
+    marks = subst (λ (s : List ℕ). MarksScore after.bits s new.bits) (sym (b.is_packed.score ∙ b.is_packed.stored.scored ∙ ap score b.block)) adds.bits
 
     at : slice_get after.shards i ≡ Some it.after.shard
     at = get_set k.shards i it.after.shard it.before.shard it.looks_in.shard
@@ -178,11 +178,11 @@ module _ {D : Type 0} (score : List ℕ → List ℕ) (disk : DiskOf D) (k teste
     then_machine g = ap (λ (m : CoreState D). machine_of m g) new_is ∙ adding_machine score disk after i it.after.shard at b.packed adds.after p new.bits marks stay marked g
         ∙ ap (λ (m : Machine). record m { history = g }) (quiet g)
 
-    then_goes : GoesOn disk k new
+    then_goes : StoreGoesOn disk k new
     then_goes =
         let whole = reads_whole score disk k i it.before.shard it.after.shard it.after.log.disks it.looks_in.shard reads it.looks.shard w in
-        let x : GoesOn disk k after = reads_go_on score disk k i it.before.shard it.after.shard it.after.log.disks it.looks_in.shard reads it.looks.shard w in
-        let y : GoesOn disk after new = subst (λ (m : CoreState D). GoesOn disk after m) (sym new_is)
+        let x : StoreGoesOn disk k after = reads_go_on score disk k i it.before.shard it.after.shard it.after.log.disks it.looks_in.shard reads it.looks.shard w in
+        let y : StoreGoesOn disk after new = subst (λ (m : CoreState D). StoreGoesOn disk after m) (sym new_is)
         (adding_goes_on score disk after i it.after.shard at b.packed adds.after p new.bits marks stay marked whole) in
         record {
           store = keeps_then disk k after new x.store y.store;
@@ -252,7 +252,7 @@ module _ {D : Type 0} (score : List ℕ → List ℕ) (disk : DiskOf D) (k teste
       let parts : parts_of tested.log it.after.shard ≡ it.after = ap (λ (m : CoreState D). parts_of m.log it.after.shard) it.new_is in
       let here : AddsIfRoom score key block.now now i it.after out after new =
       subst (λ (m : CoreState D). AddsIfRoom score key block.now now i it.after out m new) tested_is
-      (subst (λ (x : Parts D). AddsIfRoom score key block.now now i x out tested new) parts
+      (subst (λ (x : StoreParts D). AddsIfRoom score key block.now now i x out tested new) parts
       (subst (λ (j : ℕ). AddsIfRoom score key block.now now j (parts_of tested.log it.after.shard) out tested new) place
       (subst (λ (x : Key). AddsIfRoom score x block.now now n (parts_of tested.log it.after.shard) out tested new) same adds))) in
       ⊎_elim

@@ -14,22 +14,22 @@ use Rattle.vt_disk.specs.Disk.{AreAmong}
 use Rattle.vt_disk.specs.Members.{DiskOf}
 use Rattle.vt_isect.specs.Section.{SectionState}
 use Rattle.vt_isect.specs.declared.head.Head.{Head}
-use Rattle.vt_log.specs.Answers.{OnlyReads}
+use Rattle.vt_log.specs.Answers.{OnlyReadsLog}
 use Rattle.vt_log.specs.Faults.{OneHasRisen}
-use Rattle.vt_log.specs.Sound.{AreImages as AreImagesOf, AreWithinCall as AreWithinCallOf}
+use Rattle.vt_log.specs.Sound.{AreImagesOf, AreWithinCallOf}
 use Rattle.vt_log.proofs.Lists.{slice_get_other}
 use Rattle.vt_model.specs.History.{History}
 use Rattle.vt_model.specs.Legal.{IsLegal}
 use Rattle.vt_model.specs.Places.{Setup}
 use Rattle.vt_shard.specs.Shard.{ShardState}
-use Rattle.vt_shard.specs.Sound.{IsSound as IsSoundShard}
+use Rattle.vt_shard.specs.Sound.{IsSoundShard}
 use Rattle.vt_core.specs.declared.event.Out.{Out}
 use Rattle.vt_core.specs.Causes.{CountsWhy, KeepsStops, OnlyReadFrom}
 use Rattle.vt_core.specs.Core.{CoreState, setup_of, machine_of, devices_of, each_of, stops_of}
 use Rattle.vt_core.specs.Files.{PerDevice, all_of}
 use Rattle.vt_lookup.specs.Finding.{parts_of, AreSound, CountsFailure, NoneRose, ReadsShard}
 use Rattle.vt_core.specs.Sound.{IsSound}
-use Rattle.vt_core.specs.Steps.{LeavesPrefix, GoesOn}
+use Rattle.vt_core.specs.Steps.{LeavesPrefix, StoreGoesOn}
 use Rattle.vt_core.specs.Whole.{IsWhole}
 use Rattle.vt_recover.proofs.Places.{get_set, get_other, length-set, map_set, map_then, one_or_other, map_over_set}
 use Rattle.vt_core.proofs.Calls.{map_all, joined, with_ends}
@@ -89,7 +89,7 @@ sum-set f (z ∷ xs) (suc i) x y more at le = omega (arith, sum-set f xs i x y m
 -- ---- the store
 
 module _ {D : Type 0} (score : List ℕ → List ℕ) (disk : DiskOf D) (k : CoreState D) (i : ℕ) (s new : ShardState D) (ds : List D)
-    (at : slice_get k.shards i ≡ Some s) (log : OnlyReads score disk 2 k.log (record k.log { disks = ds })) (reads : ReadsShard disk 2 s new) where
+    (at : slice_get k.shards i ≡ Some s) (log : OnlyReadsLog score disk 2 k.log (record k.log { disks = ds })) (reads : ReadsShard disk 2 s new) where
   abbrev pub after_reads : CoreState D
   after_reads = record k { log = record k.log { disks = ds }; shards = slice_set k.shards i new }
 
@@ -178,7 +178,7 @@ module _ {D : Type 0} (score : List ℕ → List ℕ) (disk : DiskOf D) (k : Cor
       ∙ ap (λ (ns : List ℕ). joined (map f k.log.disks) ns (map f (devices_of k).filter)) sections
       ∙ sym (map_all f (devices_of k))
 
-  pub reads_go_on : IsWhole disk k → GoesOn disk k after_reads
+  pub reads_go_on : IsWhole disk k → StoreGoesOn disk k after_reads
   reads_go_on w = record {
     store = record {
       tables = refl;

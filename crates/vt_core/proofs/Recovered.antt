@@ -11,11 +11,11 @@ use Rattle.vt_model.specs.Places.{Setup, current_arena}
 use Rattle.vt_part.specs.Laws.{IsUnambiguous}
 use Rattle.vt_part.specs.Table.{Table}
 use Rattle.vt_isect.specs.Layout.{buckets_in}
-use Rattle.vt_log.specs.Sound.{AreImages as AreImagesOf}
+use Rattle.vt_log.specs.Sound.{AreImagesOf}
 use Rattle.vt_log.proofs.Lists.{slice_get_other}
 use Rattle.vt_core.specs.Core.{CoreState, setup_of, devices_of, machine_of}
 use Rattle.vt_core.specs.Crashing.{AreLeftOf, AreLeft, IsRetried, Recovers, MayTurnInto}
-use Rattle.vt_core.specs.Files.{PerDevice, Files, AreImages, AreWithinCall}
+use Rattle.vt_core.specs.Files.{PerDevice, DeviceFiles, AreImages, AreWithinCall}
 use Rattle.vt_core.specs.Machine.{Crashes}
 use Rattle.vt_core.specs.Mounting.{AllStandFor, IsLogOf, IsSetupOf}
 use Rattle.vt_core.specs.Sound.{IsSound}
@@ -25,7 +25,7 @@ use Rattle.vt_recover.proofs.Lists.{at_map, same_lists, All-replicate}
 
 -- what a crash between two events leaves
 abbrev pub GivesPrefix : {D : Type 0} → DiskOf D → Type 0
-GivesPrefix {D} disk = (score : List ℕ → List ℕ) (k : CoreState D) (h : History) (files : Files)
+GivesPrefix {D} disk = (score : List ℕ → List ℕ) (k : CoreState D) (h : History) (files : DeviceFiles)
     → IsSound score disk k h → AreImages disk (devices_of k) files → StandForPrefix score (setup_of k) k.log.tables k.log.durable files h
 
 -- ---- devices that were left by a crash
@@ -45,7 +45,7 @@ left_read disk files devices left = same_lists files (map disk.bytes devices) (s
     sym e ∙ sym f)
 
 -- where nothing changes, what a crash may leave within a call it may leave now
-pub images_of : {D : Type 0} (disk : DiskOf D) (devices : PerDevice D) (files : Files) → AreWithinCall disk devices devices files → AreImages disk devices files
+pub images_of : {D : Type 0} (disk : DiskOf D) (devices : PerDevice D) (files : DeviceFiles) → AreWithinCall disk devices devices files → AreImages disk devices files
 images_of disk devices files within = record {
   partitions = within_same disk devices.partitions files.partitions within.partitions;
   sections = within_same disk devices.sections files.sections within.sections;
@@ -54,9 +54,9 @@ images_of disk devices files within = record {
 
 module _ {D : Type 0} (disk : DiskOf D) (score : List ℕ → List ℕ) (c : Setup) (tables : List Table) (h : History) (n : ℕ) where
   -- what is left where these files stand for the first n blocks stands for them, whatever a second crash leaves
-  all_left : (files : Files) (left : PerDevice D) → AreLeft disk files left → StandsFor score c tables files h n → AllStandFor score disk c tables left h n
+  all_left : (files : DeviceFiles) (left : PerDevice D) → AreLeft disk files left → StandsFor score c tables files h n → AllStandFor score disk c tables left h n
   all_left files left are stands more images =
-      let P : Files → Type 0 = λ fs. StandsFor score c tables fs h n in
+      let P : DeviceFiles → Type 0 = λ fs. StandsFor score c tables fs h n in
       let partitions : more.partitions ≡ files.partitions = left_same disk files.partitions left.partitions more.partitions are.partitions images.partitions in
       let sections : more.sections ≡ files.sections = left_same disk files.sections left.sections more.sections are.sections images.sections in
       let filter : more.filter ≡ files.filter = left_same disk files.filter left.filter more.filter are.filter images.filter in

@@ -5,7 +5,7 @@ use Rattle.std.specs.List.{All, AllZip}
 use Rattle.std.specs.Option.{option_to_list}
 use Rattle.std.proofs.lemmas.List.{length-map}
 use Rattle.std.proofs.lemmas.Option.{same_Some}
-use Rattle.vt_arena.specs.Heads.{clumps_in}
+use Rattle.vt_arena.specs.Heads.{clump_count_in}
 use Rattle.vt_base.specs.declared.mount.MountBad.{MountBad}
 use Rattle.vt_base.specs.declared.mount.MountBad.TheVariants.{Disagree}
 use Rattle.vt_base.specs.declared.mount.MountField.TheVariants.{Buckets, Mark}
@@ -22,10 +22,10 @@ use Rattle.vt_recover.specs.declared.devices.Devices.{Devices}
 use Rattle.vt_core.specs.Files.{PerDevice, all_of}
 use Rattle.vt_core.specs.Mounting.{IsHeadRead, IsSetupOf, devices_in, tables_in, IsMarkRead}
 use Rattle.vt_core.specs.Opening.{IsLogFound, RefusesBeside, TestsParts, buckets_in_each, with_log, IsMarkOf, wrong_at}
-use Rattle.vt_recover.specs.Opening.{IsOpened, OpensFilter}
+use Rattle.vt_recover.specs.Opening.{IsFoundSection, OpensFilter}
 use Rattle.vt_recover.specs.Refusals.{CountsRefusal, FilterIsRefused, SectionIsRefused}
-use Rattle.vt_core.specs.Refusals.{IsEarly, IsRefused, Refuses, HasMark, IsFirstPast, PassesTests, first_wrong, section_part, wrong_head}
-use Rattle.vt_recover.specs.Sections.{buckets_of}
+use Rattle.vt_core.specs.Refusals.{IsBeforeReading, IsRefusedMount, RefusesToMount, HasMark, IsFirstPast, PassesTests, first_wrong_field, section_part, wrong_head}
+use Rattle.vt_recover.specs.Sections.{section_buckets}
 use Rattle.vt_core.proofs.Beside.{all_from}
 use Rattle.vt_core.proofs.Fields.{clumps_are}
 use Rattle.vt_recover.proofs.Lists.{at_map, same_lists, index_map, only_one}
@@ -37,12 +37,12 @@ use Rattle.vt_isect.specs.Layout.{buckets_in}
 -- the same of what is handed back, where these are the devices
 pub refuses_back : {D : Type 0} (score : List ℕ → List ℕ) (disk : DiskOf D) (tables : List Table) (pd new : PerDevice D) (bad : MountBad) (back : Devices D)
     → devices_in back ≡ new → tables_in back ≡ tables
-    → ((c : Setup) → IsSetupOf disk tables pd c → IsRefused score disk tables pd c bad)
+    → ((c : Setup) → IsSetupOf disk tables pd c → IsRefusedMount score disk tables pd c bad)
     → CountsRefusal bad (map disk.faults (all_of pd)) (map disk.faults (all_of new))
-    → (IsEarly bad → HoldTheSame disk pd.sections new.sections)
+    → (IsBeforeReading bad → HoldTheSame disk pd.sections new.sections)
     → length new.sections ≡ length pd.sections → length new.filter ≡ length pd.filter
     → map disk.size (all_of new) ≡ map disk.size (all_of pd)
-    → Refuses score disk tables pd bad back
+    → RefusesToMount score disk tables pd bad back
 refuses_back score disk tables pd new bad back is are cause counts early sections filter sizes = record {
   cause = cause;
   counts = subst (λ (p : PerDevice _). CountsRefusal bad (map disk.faults (all_of pd)) (map disk.faults (all_of p))) (sym is) counts;
@@ -60,13 +60,13 @@ module _ {D : Type 0} (score : List ℕ → List ℕ) (disk : DiskOf D) (before 
   pd = with_log before devices filter
 
   module _ (c : Setup) (setup : IsSetupOf disk log.tables pd c) (part : ℕ) (at_part : part ≡ length before) (sections : List (SectionState D)) (bloom : Option (BloomState D)) (bits : Filter)
-      (opens : AllZip (IsOpened disk) devices sections) (filter_opens : OpensFilter disk filter bloom bits) where
+      (opens : AllZip (IsFoundSection disk) devices sections) (filter_opens : OpensFilter disk filter bloom bits) where
     same : buckets_in_each sections ≡ c.sections
     same = same_lists (buckets_in_each sections) c.sections
-        (length-map sections (λ s. s.buckets) ∙ zip_length (IsOpened disk) devices sections opens ∙ sym (length-map devices (λ d. buckets_in (disk.size d))) ∙ ap length (sym setup.sections))
+        (length-map sections (λ s. s.buckets) ∙ zip_length (IsFoundSection disk) devices sections opens ∙ sym (length-map devices (λ d. buckets_in (disk.size d))) ∙ ap length (sym setup.sections))
         (λ i x y here there.
         let s = slice_get_other sections (buckets_in_each sections) i x (length-map sections (λ s. s.buckets)) here in
-        let d = zip_beside (IsOpened disk) devices sections i s.0 opens s.1 in
+        let d = zip_beside (IsFoundSection disk) devices sections i s.0 opens s.1 in
         let e : x ≡ s.0.buckets = same_Some x s.0.buckets (sym here ∙ at_map (λ s. s.buckets) sections i s.0 s.1) in
         let f : s.0.buckets ≡ buckets_in (disk.size d.0) = ap (λ (t : SectionState D). t.buckets) d.2.fresh in
         let g : y ≡ buckets_in (disk.size d.0) = same_Some y (buckets_in (disk.size d.0))
@@ -75,7 +75,7 @@ module _ {D : Type 0} (score : List ℕ → List ℕ) (disk : DiskOf D) (before 
 
     head_of : (i : ℕ) (s : SectionState D) → slice_get sections i ≡ Some s → IsHeadRead disk pd i s.head
     head_of i s there =
-        let d = zip_beside (IsOpened disk) devices sections i s opens there in
+        let d = zip_beside (IsFoundSection disk) devices sections i s opens there in
         record { device = d.0; at = d.1; read = λ tells. (s.name, d.2.head tells) }
 
     mark_by : (b : BloomState D) → bloom ≡ Some b → (f : Option D) → filter ≡ f → OpensFilter disk f bloom bits → IsMarkRead disk pd b.mark
@@ -90,10 +90,10 @@ module _ {D : Type 0} (score : List ℕ → List ℕ) (disk : DiskOf D) (before 
         }
 
     wrong_there : (told : Option MountBad) (i : ℕ) (s : SectionState D) → slice_get sections i ≡ Some s → wrong_at part sections i s ≡ told
-        → first_wrong (section_part pd i) c i s.head ≡ told
+        → first_wrong_field (section_part pd i) c i s.head ≡ told
     wrong_there told i s there is =
-        let count : s.buckets ≡ buckets_of c i = sym (index_map (λ t. t.buckets) sections i s there) ∙ ap (λ (l : List ℕ). slice_index l i) same in
-        ap (λ (p : ℕ). wrong_head (p + i) (first_bucket c.sections i) (buckets_of c i) (bucket_count c) s.head) (sym at_part)
+        let count : s.buckets ≡ section_buckets c i = sym (index_map (λ t. t.buckets) sections i s there) ∙ ap (λ (l : List ℕ). slice_index l i) same in
+        ap (λ (p : ℕ). wrong_head (p + i) (first_bucket c.sections i) (section_buckets c i) (bucket_count c) s.head) (sym at_part)
         ∙ ap (λ (n : ℕ). wrong_head (part + i) (first_bucket c.sections i) n (bucket_count c) s.head) (sym count)
         ∙ ap (λ (l : List ℕ). wrong_head (part + i) (first_bucket l i) s.buckets (sum l) s.head) (sym same) ∙ is
 
@@ -101,14 +101,14 @@ module _ {D : Type 0} (score : List ℕ → List ℕ) (disk : DiskOf D) (before 
     has_mark of mark it = ⊎_elim
         (λ s. inl (s.0, s.1.head, s.3 ∙ ap (λ (p : ℕ). p + s.0) at_part, head_of s.0 s.1 s.2, s.4))
         (λ b. inr (
-          b.2 ∙ ap (λ (n : ℕ). part + n) (zip_length (IsOpened disk) devices sections opens) ∙ ap (λ (p : ℕ). p + length devices) at_part,
+          b.2 ∙ ap (λ (n : ℕ). part + n) (zip_length (IsFoundSection disk) devices sections opens) ∙ ap (λ (p : ℕ). p + length devices) at_part,
           subst (IsMarkRead disk pd) (sym b.3) (mark_by b.0 b.1 filter refl filter_opens),
         ))
         it
 
-    by_tests : (bad : MountBad) → TestsParts {U = ⊤} part sections bloom log.durable (Err bad) → IsRefused score disk log.tables pd c bad
+    by_tests : (bad : MountBad) → TestsParts {U = ⊤} part sections bloom log.durable (Err bad) → IsRefusedMount score disk log.tables pd c bad
     by_tests bad failed =
-        let len : sum_by clumps_in given.read.fields ≡ log.durable = clumps_are disk log given.whole given.read.fields given.read.mounted.heads in
+        let len : sum_by clump_count_in given.read.fields ≡ log.durable = clumps_are disk log given.whole given.read.fields given.read.mounted.heads in
         ⊎_elim
         (λ limits. inr (inr (inr (inr (inr (inl (inr (
           limits.0,
@@ -137,18 +137,18 @@ module _ {D : Type 0} (score : List ℕ → List ℕ) (disk : DiskOf D) (before 
 
     -- what passes each of them
     module _ (tests : TestsParts {U = ⊤} part sections bloom log.durable (Ok tt)) where
-      len_is : sum_by clumps_in given.read.fields ≡ log.durable
+      len_is : sum_by clump_count_in given.read.fields ≡ log.durable
       len_is = clumps_are disk log given.whole given.read.fields given.read.mounted.heads
 
       some_buckets : All (λ n. 0 < n) (buckets_in_each sections)
       some_buckets = all_from (λ n. 0 < n) (buckets_in_each sections) (λ i n at.
           let s = slice_get_other sections (buckets_in_each sections) i n (length-map sections (λ s. s.buckets)) at in
-          let d = zip_beside (IsOpened disk) devices sections i s.0 opens s.1 in
+          let d = zip_beside (IsFoundSection disk) devices sections i s.0 opens s.1 in
           let e : s.0.buckets ≡ n = same_Some s.0.buckets n (sym (at_map (λ s. s.buckets) sections i s.0 s.1) ∙ at) in
           subst (λ (m : ℕ). 0 < m) e d.2.some)
 
       mark_of : (f : Option D) → filter ≡ f → OpensFilter disk f bloom bits → (device : D) → f ≡ Some device
-          → (mark : ℕ) × IsMarkRead disk pd mark × (mark ≤ sum_by clumps_in given.read.fields)
+          → (mark : ℕ) × IsMarkRead disk pd mark × (mark ≤ sum_by clump_count_in given.read.fields)
       mark_of None is it device at = absurd (cc)
       mark_of (Some d) is it device at = (it.0.mark, mark_by it.0 it.1 filter refl filter_opens, omega (arith, tests.2.1 it.0 it.1, len_is))
 
@@ -164,14 +164,14 @@ module _ {D : Type 0} (score : List ℕ → List ℕ) (disk : DiskOf D) (before 
         read = given.read.read;
         log = given.read.mounted.passed;
         heads = λ i device at.
-            let s = zip_other (IsOpened disk) devices sections i device opens at in
+            let s = zip_other (IsFoundSection disk) devices sections i device opens at in
             (s.0.head, head_of i s.0 s.1, wrong_there None i s.0 s.1 (tests.1 i s.0 s.1), omega (arith, tests.2.0 i s.0 s.1, len_is));
         mark = λ i device at. mark_of filter refl filter_opens device (only_one filter i device at);
       }
 
   -- a test of the sections and the filter is that of the store
   pub beside_cause : (part : ℕ) → part ≡ length before → (bad : MountBad) → RefusesBeside disk part log.durable devices filter bad
-      → (c : Setup) → IsSetupOf disk log.tables pd c → IsRefused score disk log.tables pd c bad
+      → (c : Setup) → IsSetupOf disk log.tables pd c → IsRefusedMount score disk log.tables pd c bad
   beside_cause part at_part bad it c setup = ⊎_elim
       (λ memory. inr (inl memory))
       (λ a. ⊎_elim

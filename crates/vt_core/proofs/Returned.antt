@@ -5,9 +5,9 @@ use Rattle.std.specs.List.{AllZip}
 use Rattle.std.specs.Option.{option_to_list, option_map}
 use Rattle.std.proofs.lemmas.List.{length-map, map-append, take_all}
 use Rattle.std.proofs.lemmas.Option.{same_Some}
-use Rattle.vt_arena.specs.Heads.{clumps_in, fields_of, used_in}
-use Rattle.vt_arena.specs.Directory.{first_bad as first_bad_entry, last_entry}
-use Rattle.vt_arena.specs.declared.bad.BackBad.TheVariants as back_bad
+use Rattle.vt_arena.specs.Heads.{clump_count_in, fields_of, used_in}
+use Rattle.vt_arena.specs.Directory.{first_bad_entry, last_entry}
+use Rattle.vt_arena.specs.declared.error.BackBad.TheVariants as back_bad
 use Rattle.vt_arena.specs.declared.head.Found.{Found}
 use Rattle.vt_base.specs.declared.mount.MountBad.{MountBad}
 use Rattle.vt_base.specs.declared.mount.MountBad.TheVariants.{Fault, Disagree, NoMemory}
@@ -22,7 +22,7 @@ use Rattle.vt_disk.specs.Members.{DiskOf}
 use Rattle.vt_isect.specs.Section.{SectionState}
 use Rattle.vt_log.specs.Answers.{HoldTheSame}
 use Rattle.vt_log.specs.Log.{LogState}
-use Rattle.vt_log.specs.Sound.{IsSound as IsSoundLog}
+use Rattle.vt_log.specs.Sound.{IsSoundLog}
 use Rattle.vt_log.proofs.Lists.{at_slice, slice_get_other}
 use Rattle.vt_model.specs.History.{History}
 use Rattle.vt_model.specs.Places.{Setup, bucket_count, crowd}
@@ -34,14 +34,14 @@ use Rattle.vt_shard.specs.Sound.{IsSoundFrom, LeavesLive}
 use Rattle.vt_recover.specs.declared.devices.Devices.{Devices}
 use Rattle.vt_core.specs.Core.{CoreState, devices_of}
 use Rattle.vt_core.specs.Files.{PerDevice, all_of}
-use Rattle.vt_core.specs.Mounting.{IsLogOf, IsReadAs, IsSetupOf, KeepsLimits, LeavesStanding, Mounts, devices_in, tables_in}
+use Rattle.vt_core.specs.Mounting.{IsLogOf, IsReadAs, IsSetupOf, KeepsLimits, LeavesStanding, MountsStore, devices_in, tables_in}
 use Rattle.vt_recover.specs.Marks.{LacksMany}
 use Rattle.vt_shard.specs.declared.mounting.Sizes.{Sizes}
 use Rattle.vt_core.specs.Opening.{AgreeWith, AreHeld, IsLogFound, IsMountOf, RefusesBeside, TestsParts, with_log}
-use Rattle.vt_recover.specs.Opening.{IsOpened, IsShardMade, OpensFilter}
-use Rattle.vt_recover.specs.Recalling.{EndsEarly, IsCrowdedIn, IsDamagedAt, IsDamagedIn, ReadsBack, ReadsLogBack, KeepsBytes, Recalls as RecallsFrom, opened}
+use Rattle.vt_recover.specs.Opening.{IsFoundSection, IsShardMade, OpensFilter}
+use Rattle.vt_recover.specs.Recalling.{EndsEarly, IsCrowdedIn, IsDamagedAt, IsDamagedIn, ReadsBack, ReadsLogBack, KeepsSectionBytes, RecallsFrom, opened}
 use Rattle.vt_recover.specs.Refusals.{CountsRefusal}
-use Rattle.vt_core.specs.Refusals.{IsDamageAt, IsDamagedEntry, IsEarly, IsRefused, BucketIsCrowded, PassesTests}
+use Rattle.vt_core.specs.Refusals.{IsDamageAt, IsDamagedEntry, IsBeforeReading, IsRefusedMount, BucketIsCrowded, PassesTests}
 use Rattle.vt_recover.specs.Sections.{IsLive, SectionStandsFor}
 use Rattle.vt_core.proofs.Beside.{IsOfStore, of_store, sound_shard}
 use Rattle.vt_core.proofs.Chains.{IsChain, chain, chain_head, chain_buckets, made_faults, many_shards, shard_sizes}
@@ -68,7 +68,7 @@ filter_held {D} disk (Some d) bloom bits it =
 -- devices that hold what they held are handed back, for some cause
 pub held_mount : {D : Type 0} (score : List ℕ → List ℕ) (disk : DiskOf D) (tables : List Table) (pd new : PerDevice D) (bad : MountBad) (back : Devices D) (sizes : Sizes) (sessions : ℕ)
     → devices_in back ≡ new → tables_in back ≡ tables → AreHeld disk pd new
-    → ((c : Setup) → IsSetupOf disk tables pd c → IsRefused score disk tables pd c bad)
+    → ((c : Setup) → IsSetupOf disk tables pd c → IsRefusedMount score disk tables pd c bad)
     → CountsRefusal bad (map disk.faults (all_of pd)) (map disk.faults (all_of new))
     → ((c : Setup) (h g : History) (base : ℕ) → IsTrue disk.tells → IsLogOf score disk tables pd c h g base → KeepsLimits tables c → (bad ≡ Fault) ⊎ (bad ≡ NoMemory))
     → IsMountOf score disk tables pd sizes sessions (Err (bad, back))
@@ -125,10 +125,10 @@ module _ {D : Type 0} (score : List ℕ → List ℕ) (disk : DiskOf D) (before 
 
   -- ---- want of memory
 
-  module _ (sections : List (SectionState D)) (bloom : Option (BloomState D)) (bits : Filter) (opens : AllZip (IsOpened disk) devices sections) (filter_opens : OpensFilter disk filter bloom bits) where
+  module _ (sections : List (SectionState D)) (bloom : Option (BloomState D)) (bits : Filter) (opens : AllZip (IsFoundSection disk) devices sections) (filter_opens : OpensFilter disk filter bloom bits) where
     sections_held : HoldTheSame disk devices (map (λ s. s.disk) sections)
     sections_held = hold_zip disk devices (map (λ s. s.disk) sections)
-        (zip_map (IsHeld disk) (λ s. s.disk) devices sections (zip_implies (IsOpened disk) (λ d s. IsHeld disk d s.disk) devices sections (λ d s it. held_reads disk 3 d s.disk it.reads) opens))
+        (zip_map (IsHeld disk) (λ s. s.disk) devices sections (zip_implies (IsFoundSection disk) (λ d s. IsHeld disk d s.disk) devices sections (λ d s it. held_reads disk 3 d s.disk it.reads) opens))
 
     pub memory_mount : (back : Devices D) (sizes : Sizes) (sessions : ℕ) → devices_in back ≡ with_log log.disks (map (λ s. s.disk) sections) (option_map (λ b. b.disk) bloom) → tables_in back ≡ log.tables
         → IsMountOf score disk log.tables pd sizes sessions (Err (NoMemory, back))
@@ -136,7 +136,7 @@ module _ {D : Type 0} (score : List ℕ → List ℕ) (disk : DiskOf D) (before 
         let f = disk.faults in
         let faults : map f (map (λ s. s.disk) sections) ≡ map f devices =
         zip_same f f devices (map (λ s. s.disk) sections)
-        (zip_map (λ d e. f e ≡ f d) (λ s. s.disk) devices sections (zip_implies (IsOpened disk) (λ d s. f s.disk ≡ f d) devices sections (λ d s it. it.faults) opens)) in
+        (zip_map (λ d e. f e ≡ f d) (λ s. s.disk) devices sections (zip_implies (IsFoundSection disk) (λ d s. f s.disk ≡ f d) devices sections (λ d s it. it.faults) opens)) in
         let saved : map f (option_to_list (option_map (λ b. b.disk) bloom)) ≡ map f (option_to_list filter) =
         ap (map f) (list_map (λ b. b.disk) bloom) ∙ filter_same disk f filter bloom bits (λ d b it. it.faults) filter_opens in
         held_mount score disk log.tables pd (with_log log.disks (map (λ s. s.disk) sections) (option_map (λ b. b.disk) bloom)) NoMemory back sizes sessions is tables
@@ -178,7 +178,7 @@ module _ {D : Type 0} (score : List ℕ → List ℕ) (disk : DiskOf D) (before 
             (subst (IsLive c i) (sym head) store.live)
             (subst (λ (l : History). LeavesLive score c l s.0 file) (take_all (length g) g (omega arith)) left)
 
-        bytes_kept : ((h : History) (i : ℕ) (b a : ShardState D) → IsTrue disk.tells → IsSoundLog score disk log h → slice_get made i ≡ Some b → slice_get shards i ≡ Some a → KeepsBytes score disk h i b a)
+        bytes_kept : ((h : History) (i : ℕ) (b a : ShardState D) → IsTrue disk.tells → IsSoundLog score disk log h → slice_get made i ≡ Some b → slice_get shards i ≡ Some a → KeepsSectionBytes score disk h i b a)
             → (i : ℕ) (b a : D) → slice_get devices i ≡ Some b → slice_get (map (λ s. s.section.disk) shards) i ≡ Some a
             → (disk.bytes a ≡ disk.bytes b) ⊎ LacksMany score c g i (disk.bytes b)
         bytes_kept keeps i b a here there =
@@ -204,7 +204,7 @@ module _ {D : Type 0} (score : List ℕ → List ℕ) (disk : DiskOf D) (before 
       -- whatever was read back, what is left stands
       pub read_standing : (prefix : ReadsPrefix disk) (agree : FilesAgree disk) (read : (d : D) → disk.images d (disk.bytes d)) (tells : IsTrue disk.tells)
           → ((g : History) → IsSoundLog score disk log g → (from : ℕ) × RecallsFrom score disk g from (opened log made bits) (opened log1 shards bits1))
-          → ((h : History) (i : ℕ) (b a : ShardState D) → IsTrue disk.tells → IsSoundLog score disk log h → slice_get made i ≡ Some b → slice_get shards i ≡ Some a → KeepsBytes score disk h i b a)
+          → ((h : History) (i : ℕ) (b a : ShardState D) → IsTrue disk.tells → IsSoundLog score disk log h → slice_get made i ≡ Some b → slice_get shards i ≡ Some a → KeepsSectionBytes score disk h i b a)
           → LeavesStanding score disk log.tables pd new
       read_standing prefix agree read tells recalled keeps = leaves_read score disk log.tables pd new tells read log.disks given.held back.disks
           (λ i d at. at_slice (IsSynced disk) log.disks i d given.settled at) (filter_held disk filter bloom bits filter_opens) sizes_same
@@ -239,7 +239,7 @@ module _ {D : Type 0} (score : List ℕ → List ℕ) (disk : DiskOf D) (before 
       entry_damaged arena want found it =
           let d = slice_get_other before log.disks it.r.part it.device (held_many disk before log.disks given.held) it.stands.disk_is in
           let used : used_in (fields_of it.head.head) ≡ it.head.head.used = used_at disk log given.whole arena it.head it.head_is in
-          let clumps : clumps_in (fields_of it.head.head) ≡ it.head.head.clumps = clumps_at disk log given.whole arena it.head it.head_is in
+          let clumps : clump_count_in (fields_of it.head.head) ≡ it.head.head.clumps = clumps_at disk log given.whole arena it.head it.head_is in
           record {
             r = it.r;
             arena_is = ap (λ (rs : List ArenaRegion). slice_get rs arena) (sym given.layout) ∙ it.stands.arena;
@@ -262,7 +262,7 @@ module _ {D : Type 0} (score : List ℕ → List ℕ) (disk : DiskOf D) (before 
       damage_at (Bucket n) want found it = it
 
       ends_cause : (part : ℕ) → part ≡ length before → TestsParts {U = ⊤} part sections bloom log.durable (Ok tt) → (bad : MountBad) → EndsEarly score disk part (opened log made bits) bad
-          → (c : Setup) → IsSetupOf disk log.tables pd c → IsRefused score disk log.tables pd c bad
+          → (c : Setup) → IsSetupOf disk log.tables pd c → IsRefusedMount score disk log.tables pd c bad
       ends_cause part at tests bad it c setup = ⊎_elim
           (λ fault. inl fault)
           (λ rest. ⊎_elim
@@ -288,7 +288,7 @@ module _ {D : Type 0} (score : List ℕ → List ℕ) (disk : DiskOf D) (before 
               → BucketIsCrowded score disk log.tables pd c bad
           crowded_at i found is crowd =
               let t = zip_beside (IsShardMade disk lumps clean) sections made i crowd.shard makes crowd.at in
-              let d = zip_beside (IsOpened disk) devices sections i t.0 opens t.1 in
+              let d = zip_beside (IsFoundSection disk) devices sections i t.0 opens t.1 in
               record {
                 i = i;
                 device = d.0;
@@ -301,10 +301,10 @@ module _ {D : Type 0} (score : List ℕ → List ℕ) (disk : DiskOf D) (before 
                     (sound_shard score disk c g lumps clean i t.0 crowd.shard tells (of_store score disk c g tells devices setup.sections i d.0 t.0 d.1 stands d.2) t.2);
               }
 
-      never_early : (part : ℕ) (bad : MountBad) → EndsEarly score disk part (opened log made bits) bad → IsEarly bad → ⊥
+      never_early : (part : ℕ) (bad : MountBad) → EndsEarly score disk part (opened log made bits) bad → IsBeforeReading bad → ⊥
       never_early part bad it soon = ⊎_elim
-          (λ fault. subst IsEarly fault soon)
-          (λ rest. ⊎_elim (λ damage. subst IsEarly damage.3 soon) (λ crowds. subst IsEarly crowds.2 soon) rest)
+          (λ fault. subst IsBeforeReading fault soon)
+          (λ rest. ⊎_elim (λ damage. subst IsBeforeReading damage.3 soon) (λ crowds. subst IsBeforeReading crowds.2 soon) rest)
           it
 
       pub read_mount : {U : Type 0} (prefix : ReadsPrefix disk) (legal_prefix : LegalPrefix) (agree : FilesAgree disk) (read : (d : D) → IsTrue disk.tells → disk.images d (disk.bytes d)) (least part : ℕ) → part ≡ length before
@@ -318,7 +318,7 @@ module _ {D : Type 0} (score : List ℕ → List ℕ) (disk : DiskOf D) (before 
             (λ n. subst (λ (l : History). crowd score (bucket_count c) l n ≤ BUCKET_ROOM) (sym (read_as prefix tells c h g base of).prefix) ((legal_prefix score c h (read_as prefix tells c h g base of).n of.legal).buckets n))
             (λ i s there.
             let t = zip_beside (IsShardMade disk lumps clean) sections made i s makes there in
-            let d = zip_beside (IsOpened disk) devices sections i t.0 opens t.1 in
+            let d = zip_beside (IsFoundSection disk) devices sections i t.0 opens t.1 in
             sound_shard score disk c g lumps clean i t.0 s tells
             (of_store score disk c g tells devices of.setup.sections i d.0 t.0 d.1 ((read_as prefix tells c h g base of).sections i d.0 d.1) d.2) t.2));
         standing = λ tells. subst (λ (p : PerDevice D). LeavesStanding score disk log.tables pd p) (sym is)
@@ -336,7 +336,7 @@ module _ {D : Type 0} (score : List ℕ → List ℕ) (disk : DiskOf D) (before 
 
       pub found_mount : (prefix : ReadsPrefix disk) (agree : FilesAgree disk) (read : (d : D) → IsTrue disk.tells → disk.images d (disk.bytes d)) (least part : ℕ)
           → ReadsLogBack {U = Unit {0}} score disk least part (Ok tt) (opened log made bits) (opened log1 shards bits1)
-          → (k : CoreState D) (sizes : Sizes) (sessions : ℕ) → devices_of k ≡ new → Mounts score disk log.tables pd sizes sessions k
+          → (k : CoreState D) (sizes : Sizes) (sessions : ℕ) → devices_of k ≡ new → MountsStore score disk log.tables pd sizes sessions k
           → IsMountOf score disk log.tables pd sizes sessions (Ok k)
       found_mount prefix agree read least part all k sizes sessions is mounts = record {
         mounts = mounts;

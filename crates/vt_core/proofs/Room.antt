@@ -3,12 +3,12 @@ use Rattle.std.proofs.Common.{◌≡◌, ℕ, zero, suc, List, [], ◌∷◌, le
 use Rattle.std.proofs.lemmas.Option.{same_Some}
 use Rattle.std.specs.Prelude.{slice_get, slice_set}
 use Rattle.vt_core.specs.Files.{PerDevice}
-use Rattle.vt_recover.specs.Opening.{HasRoom}
+use Rattle.vt_recover.specs.Opening.{HasRoomForDevices}
 use Rattle.vt_recover.proofs.Places.{length-set}
 
 -- it is enough for the shards with one that has changed
-pub room_stays : {X D Z : Type 0} (xs : List X) (i : ℕ) (x : X) (room : Vec D Z) → HasRoom (length xs) room → HasRoom (length (slice_set xs i x)) room
-room_stays xs i x room has = subst (λ n. HasRoom n room) (sym (length-set xs i x)) has
+pub room_stays : {X D Z : Type 0} (xs : List X) (i : ℕ) (x : X) (room : Vec D Z) → HasRoomForDevices (length xs) room → HasRoomForDevices (length (slice_set xs i x)) room
+room_stays xs i x room has = subst (λ n. HasRoomForDevices n room) (sym (length-set xs i x)) has
 
 -- what stands at a place is put there again
 pub set_same : {X : Type 0} (xs : List X) (i : ℕ) (x : X) → slice_get xs i ≡ Some x → slice_set xs i x ≡ xs

@@ -9,28 +9,28 @@ use Rattle.vt_disk.specs.Calls.{MadeCalls}
 use Rattle.vt_disk.specs.Disk.{WithinCall}
 use Rattle.vt_disk.specs.Members.{DiskOf}
 use Rattle.vt_log.specs.Faults.{OneHasRisen}
-use Rattle.vt_log.specs.Sound.{AreWithinCall as AreWithinCallOf}
+use Rattle.vt_log.specs.Sound.{AreWithinCallOf}
 use Rattle.vt_model.specs.History.{History}
-use Rattle.vt_isect.specs.Faults.{is_fault}
+use Rattle.vt_isect.specs.Faults.{is_section_fault}
 use Rattle.vt_isect.specs.Section.{SectionState}
-use Rattle.vt_isect.specs.Writeback.{Advances as SectionAdvances}
+use Rattle.vt_isect.specs.Writeback.{SectionAdvances}
 use Rattle.vt_isect.specs.declared.head.Head.{Head}
 use Rattle.vt_isect.specs.declared.phase.Phase.{Phase}
 use Rattle.vt_isect.specs.declared.phase.Phase.TheVariants.{Rest, ReadSelector, ReadFrame, WriteFrame, SyncFrames, WriteSelector, SyncSelectors, ChangeHead}
-use Rattle.vt_isect.specs.declared.bad.ShardErr.{ShardErr}
-use Rattle.vt_isect.specs.declared.bad.ShardErr.TheVariants.{Fault, Damaged, Stopped}
+use Rattle.vt_isect.specs.declared.error.ShardErr.{ShardErr}
+use Rattle.vt_isect.specs.declared.error.ShardErr.TheVariants.{Fault, Damaged, Stopped}
 use Rattle.vt_twin.specs.declared.step.Step.{Step}
 use Rattle.vt_twin.specs.declared.step.Step.TheVariants.{More, Done}
 use Rattle.vt_shard.specs.Shard.{ShardState}
-use Rattle.vt_shard.specs.Sound.{IsSound as IsSoundShard, KeepsSound, LeavesLive}
-use Rattle.vt_shard.specs.Writeback.{TakesStep, ReadsFrame, MakesCall, without_list}
+use Rattle.vt_shard.specs.Sound.{IsSoundShard, KeepsSound, LeavesLive}
+use Rattle.vt_shard.specs.Writeback.{ShardTakesStep, ReadsFrame, ShardMakesCall, without_list}
 use Rattle.vt_core.specs.declared.event.Out.{Out}
 use Rattle.vt_core.specs.declared.event.Out.TheVariants.{Moved, Nothing}
 use Rattle.vt_core.specs.declared.event.Event.TheVariants.{FileAdvance}
 use Rattle.vt_core.specs.Causes.{CallsOnce, CallsOne, CountsOut, IsUndamaged, KeepsStops}
 use Rattle.vt_core.specs.Core.{CoreState, setup_of, machine_of, devices_of, each_of, stops_of}
 use Rattle.vt_core.specs.Events.{IsWork}
-use Rattle.vt_core.specs.Files.{Files, PerDevice, all_of}
+use Rattle.vt_core.specs.Files.{DeviceFiles, PerDevice, all_of}
 use Rattle.vt_core.specs.Sound.{IsSound}
 use Rattle.vt_recover.specs.Sections.{SectionStandsFor}
 use Rattle.vt_core.specs.Machine.{Machine}
@@ -80,7 +80,7 @@ module _ {D : Type 0} (score : List ℕ → List ℕ) (disk : DiskOf D) (k : Cor
   sections_are = map_over_set (λ s. s.section.disk) k.shards i after
 
   -- each other section is as it was, and this one is taken as it reads
-  images : ((d : D) → IsTrue disk.tells → disk.images d (disk.bytes d)) → IsTrue disk.tells → (files : Files)
+  images : ((d : D) → IsTrue disk.tells → disk.images d (disk.bytes d)) → IsTrue disk.tells → (files : DeviceFiles)
       → AreWithinCallOf disk (devices_of k).sections (devices_of (record k { shards = slice_set k.shards i after })).sections files.sections
       → slice_get (devices_of k).sections i ≡ Some before.section.disk → (j : ℕ) (device : D) (file : List ℕ) → slice_get (devices_of k).sections j ≡ Some device
       → slice_get (slice_set files.sections i (disk.bytes before.section.disk)) j ≡ Some file → disk.images device file
@@ -104,7 +104,7 @@ module _ {D : Type 0} (score : List ℕ → List ℕ) (disk : DiskOf D) (k : Cor
       let there : slice_get (devices_of k).sections i ≡ Some before.section.disk = at_map (λ s. s.section.disk) k.shards i before at in
       let new_there : slice_get (devices_of (record k { shards = slice_set k.shards i after })).sections i ≡ Some after.section.disk =
       at_map (λ s. s.section.disk) (slice_set k.shards i after) i after (get_set k.shards i after before at) in
-      let rest : Files = record files { sections = slice_set files.sections i (disk.bytes before.section.disk) } in
+      let rest : DeviceFiles = record files { sections = slice_set files.sections i (disk.bytes before.section.disk) } in
       let it = gives score k h rest was (record {
         partitions = within_same disk k.log.disks files.partitions within.partitions;
         sections = record { many = length-set files.sections i (disk.bytes before.section.disk) ∙ within.sections.many; each = images reads tells files within.sections there };
@@ -138,13 +138,13 @@ module _ {D : Type 0} (score : List ℕ → List ℕ) (disk : DiskOf D) (k : Cor
       calls_front disk (k.log.disks ++ (devices_of k).sections) (k.log.disks ++ (devices_of (record k { shards = slice_set k.shards i after })).sections) (devices_of k).filter
       (calls_behind disk k.log.disks (devices_of k).sections (devices_of (record k { shards = slice_set k.shards i after })).sections one)
 
-  runs : (r : Result Step ShardErr) → TakesStep r before after → ((n : ℕ) → r ≢ Err (Stopped n)) → before.section.stopped ≡ None
+  runs : (r : Result Step ShardErr) → ShardTakesStep r before after → ((n : ℕ) → r ≢ Err (Stopped n)) → before.section.stopped ≡ None
   runs r step goes = none_of before.section.stopped (λ n is. goes n ((step.stopped n).1 is))
 
   same_all : after ≡ before → all_of (devices_of (record k { shards = slice_set k.shards i after })) ≡ all_of (devices_of k)
   same_all same = ap (λ (ds : List D). joined k.log.disks ds (devices_of k).filter) (map_set (λ s. s.section.disk) k.shards i after before at (ap (λ (s : ShardState D). s.section.disk) same))
 
-  pub shard_calls : (r : Result Step ShardErr) → TakesStep r before after → MakesCall disk r before after
+  pub shard_calls : (r : Result Step ShardErr) → ShardTakesStep r before after → ShardMakesCall disk r before after
       → CallsOnce disk (out_of_writeback r) (all_of (devices_of k)) (all_of (devices_of (record k { shards = slice_set k.shards i after })))
   shard_calls (Ok step) takes made = all_called (made.calls (runs (Ok step) takes (λ n e. cc)))
   shard_calls (Err Fault) takes made = all_called (made.calls (runs (Err Fault) takes (λ n e. cc)))
@@ -177,7 +177,7 @@ module _ {D : Type 0} (score : List ℕ → List ℕ) (disk : DiskOf D) (k : Cor
       (risen_front (map f k.log.disks ++ map f (devices_of k).sections) (map f k.log.disks ++ map f (devices_of (record k { shards = slice_set k.shards i after })).sections) (map f (devices_of k).filter)
       (risen_behind (map f k.log.disks) (map f (devices_of k).sections) (map f (devices_of (record k { shards = slice_set k.shards i after })).sections) one)))
 
-  pub shard_counts : (r : Result Step ShardErr) → CountsFault is_fault r (disk.faults before.section.disk) (disk.faults after.section.disk)
+  pub shard_counts : (r : Result Step ShardErr) → CountsFault is_section_fault r (disk.faults before.section.disk) (disk.faults after.section.disk)
       → CountsOut (out_of_writeback r) (each_of disk.faults k) (each_of disk.faults (record k { shards = slice_set k.shards i after }))
   shard_counts (Ok step) same = counts_same disk.faults same
   shard_counts (Err Fault) rose = counts_rose rose
@@ -255,7 +255,7 @@ section_stop (Err Fault) old new it other none = absurd (other refl)
 section_stop (Err (Damaged bucket want found)) old new it other none = it.1.stopped
 section_stop {D} (Err (Stopped n)) old new it other none = ap (λ (t : SectionState D). t.stopped) it.1 ∙ none
 
-goes_stop : {D : Type 0} (before after : ShardState D) (r : Result Step ShardErr) → TakesStep r before after → r ≢ Err Fault → before.section.stopped ≡ None
+goes_stop : {D : Type 0} (before after : ShardState D) (r : Result Step ShardErr) → ShardTakesStep r before after → r ≢ Err Fault → before.section.stopped ≡ None
     → after.section.stopped ≡ before.section.stopped
 goes_stop {D} before after r takes other none =
     let it = takes.advances.section in
@@ -279,7 +279,7 @@ no_some (Some n) is some = absurd (cc)
 
 -- what a shard keeps in a step of its writeback
 pub step_keeps : {D : Type 0} (disk : DiskOf D) (k : CoreState D) (i : ℕ) (before after : ShardState D) (r : Result Step ShardErr) → IsShardOf disk k i k.log.durable before
-    → IsSome before.writeback → TakesStep r before after → MakesCall disk r before after → Keeps disk k.log.durable before after
+    → IsSome before.writeback → ShardTakesStep r before after → ShardMakesCall disk r before after → Keeps disk k.log.durable before after
 step_keeps {D} disk k i before after r was under takes made =
     let it = takes.advances.section in
     let marks = marks_within r before.section it.0 k.log.durable it.1 was.mark was.next in
@@ -309,7 +309,7 @@ writeback_is_work (Err bad) old new same = same
 
 -- a stop stays, and comes only with a disk fault
 pub shard_stops : {D : Type 0} (score : List ℕ → List ℕ) (disk : DiskOf D) (k : CoreState D) (i : ℕ) (before after : ShardState D) (at : slice_get k.shards i ≡ Some before)
-    (r : Result Step ShardErr) → TakesStep r before after → KeepsStops (out_of_writeback r) k (record k { shards = slice_set k.shards i after })
+    (r : Result Step ShardErr) → ShardTakesStep r before after → KeepsStops (out_of_writeback r) k (record k { shards = slice_set k.shards i after })
 shard_stops score disk k i before after at (Ok step) takes = kept_stops score disk k i before after at Moved
     (goes_stop before after (Ok step) takes (λ e. cc) (runs score disk k i before after at (Ok step) takes (λ n e. cc)))
 shard_stops score disk k i before after at (Err Fault) takes = record {
@@ -324,7 +324,7 @@ shard_stops score disk k i before after at (Err (Stopped n)) takes = kept_stops 
 -- All of it, where a writeback is under way.
 pub call_steps : {D : Type 0} (score : List ℕ → List ℕ) (disk : DiskOf D) (k : CoreState D) (i : ℕ) (before after : ShardState D) (at : slice_get k.shards i ≡ Some before)
     (r : Result Step ShardErr) → GivesPrefix disk → IsWhole disk k → ((d : D) → IsTrue disk.tells → disk.images d (disk.bytes d))
-    → (under : IsSome before.writeback) → (takes : TakesStep r before after) → (reads : ReadsFrame disk r before after) → (made : MakesCall disk r before after)
+    → (under : IsSome before.writeback) → (takes : ShardTakesStep r before after) → (reads : ReadsFrame disk r before after) → (made : ShardMakesCall disk r before after)
     → (IsTrue disk.tells → KeepsSound disk before after)
     → (IsTrue disk.tells → (h : History) (n : ℕ) → IsSoundShard score (setup_of k) disk before h k.log.durable → k.log.durable ≤ n → n ≤ length h → (file : List ℕ)
     → WithinCall (disk.images before.section.disk) (disk.images after.section.disk) file → LeavesLive score (setup_of k) (take n h) before file)

@@ -13,8 +13,8 @@ use Rattle.vt_isect.specs.Layout.{buckets_in}
 use Rattle.vt_isect.specs.Section.{IsAtRest, SectionState}
 use Rattle.vt_isect.specs.declared.head.Head.{Head}
 use Rattle.vt_shard.specs.Shard.{ShardState, KeepsPlace, OnlyMark}
-use Rattle.vt_shard.specs.Sound.{IsSound as IsSoundShard, KeepsSound}
-use Rattle.vt_shard.specs.Writeback.{Begins, HasWork}
+use Rattle.vt_shard.specs.Sound.{IsSoundShard, KeepsSound}
+use Rattle.vt_shard.specs.Writeback.{BeginsShardWriteback, HasWork}
 use Rattle.vt_core.specs.declared.event.Event.{Event}
 use Rattle.vt_core.specs.declared.event.Event.TheVariants.{FileBegin, EvictLump, EvictIndex}
 use Rattle.vt_core.specs.declared.event.Out.{Out}
@@ -26,7 +26,7 @@ use Rattle.vt_core.specs.Files.{PerDevice, AreWithinCall, all_of}
 use Rattle.vt_core.specs.Machine.{Machine}
 use Rattle.vt_core.specs.Sound.{IsSound}
 use Rattle.vt_recover.specs.Sections.{IsLive}
-use Rattle.vt_core.specs.Steps.{Steps, GoesOn, Does}
+use Rattle.vt_core.specs.Steps.{Steps, StoreGoesOn, DoesEvent}
 use Rattle.vt_core.specs.Whole.{IsWhole, IsShardOf}
 use Rattle.vt_core.specs.Work.{IsMovedWhere, DropsLump, DropsEntry, BeginsWriteback}
 use Rattle.vt_recover.proofs.Places.{get_set, get_other, length-set, map_set, map_then, one_or_other}
@@ -127,7 +127,7 @@ module _ {D : Type 0} (score : List ℕ → List ℕ) (disk : DiskOf D) (k : Cor
   pub shard_quiet : (h : History) → machine_of (record k { shards = slice_set k.shards i after }) h ≡ machine_of k h
   shard_quiet h = ap (λ (c : Setup). record { setup = c; history = h; synced = k.synced; waiting = k.waiting }) same_setup
 
-  pub shard_goes_on : IsWhole disk k → GoesOn disk k (record k { shards = slice_set k.shards i after })
+  pub shard_goes_on : IsWhole disk k → StoreGoesOn disk k (record k { shards = slice_set k.shards i after })
   shard_goes_on w = record {
     store = record {
       tables = refl;
@@ -172,7 +172,7 @@ module _ {D : Type 0} (score : List ℕ → List ℕ) (disk : DiskOf D) (k : Cor
         → ((old new : Machine) → new ≡ old → MakesStep score event out old new)
         → ((old new : List D) → new ≡ old → MakesCalls disk event out old new)
         → ((old new : List ℕ) → new ≡ old → CountsOut out old new) → IsUndamaged out
-        → Does score disk event out k (record k { shards = slice_set k.shards i after })
+        → DoesEvent score disk event out k (record k { shards = slice_set k.shards i after })
         → Steps score disk event out k (record k { shards = slice_set k.shards i after })
     quiet_steps gives w sound event out makes calls counts undamaged does = record {
       machine = λ tells h was. (
@@ -279,7 +279,7 @@ by_count (suc n) false it = let e : false ≡ true = it.1 (omega arith) in absur
 
 -- a writeback of the durable blocks that begins
 pub begin_keeps : {D : Type 0} (disk : DiskOf D) (k : CoreState D) (i : ℕ) (before after : ShardState D) → IsShardOf disk k i k.log.durable before
-    → Begins k.log.durable (max before.section.head.mark k.log.durable) before after → Keeps disk k.log.durable before after
+    → BeginsShardWriteback k.log.durable (max before.section.head.mark k.log.durable) before after → Keeps disk k.log.durable before after
 begin_keeps {D} disk k i before after was it =
     let filed : after.filed ≡ max before.filed k.log.durable = ap (λ (x : ShardState D). x.filed) it.shard in
     let writeback : after.writeback ≡ Some k.log.durable = ap (λ (x : ShardState D). x.writeback) it.shard in
@@ -338,7 +338,7 @@ file_steps {D} score disk k i before at gives w out after it sound =
 
 -- whether one began
 pub begun_writeback : {D : Type 0} (durable : ℕ) (before after : ShardState D) (begun : Bool) → before.writeback ≡ None
-    → (IsTrue begun ↔ HasWork durable before) → (begun ≡ true → Begins durable (max before.section.head.mark durable) before after) → (begun ≡ false → after ≡ before)
+    → (IsTrue begun ↔ HasWork durable before) → (begun ≡ true → BeginsShardWriteback durable (max before.section.head.mark durable) before after) → (begun ≡ false → after ≡ before)
     → BeginsWriteback durable (if begun then Moved else Nothing) before after
 begun_writeback durable before after true none work begins idle = (none, work.0 refl, begins refl)
 begun_writeback durable before after false none work begins idle = (inr (λ some. let e : false ≡ true = work.1 some in absurd (cc)), idle refl)

@@ -13,9 +13,9 @@ use Rattle.vt_part.specs.Table.{Table}
 use Rattle.vt_isect.specs.Layout.{buckets_in}
 use Rattle.vt_log.specs.Answers.{HoldTheSame}
 use Rattle.vt_log.specs.Logs.{IsLog}
-use Rattle.vt_log.specs.Sound.{AreImages as AreImagesOf}
+use Rattle.vt_log.specs.Sound.{AreImagesOf}
 use Rattle.vt_log.proofs.Lists.{slice_get_other}
-use Rattle.vt_core.specs.Files.{PerDevice, Files, AreImages}
+use Rattle.vt_core.specs.Files.{PerDevice, DeviceFiles, AreImages}
 use Rattle.vt_core.specs.Mounting.{AllStandFor, EachStands, IsLogOf, IsSetupOf, LeavesStanding}
 use Rattle.vt_recover.specs.Marks.{LacksMany}
 use Rattle.vt_core.specs.Opening.{AreHeld}
@@ -35,7 +35,7 @@ images_among disk old new files held images = record {
       held.images_are i device d.0 at d.1 file (images.each i d.0 file d.1 is);
 }
 
-all_among : {D : Type 0} (disk : DiskOf D) (old new : PerDevice D) (files : Files) → AreHeld disk old new → AreImages disk new files → AreImages disk old files
+all_among : {D : Type 0} (disk : DiskOf D) (old new : PerDevice D) (files : DeviceFiles) → AreHeld disk old new → AreImages disk new files → AreImages disk old files
 all_among disk old new files held images = record {
   partitions = images_among disk old.partitions new.partitions files.partitions held.partitions images.partitions;
   sections = images_among disk old.sections new.sections files.sections held.sections images.sections;
@@ -79,7 +79,7 @@ settled_files disk devices files tells settled images = same_lists files (map di
     e ∙ sym f)
 
 -- the first blocks are the same
-stands_at : (score : List ℕ → List ℕ) (c : Setup) (tables : List Table) (files : Files) (h : History) (n m : ℕ) → take n h ≡ take m h
+stands_at : (score : List ℕ → List ℕ) (c : Setup) (tables : List Table) (files : DeviceFiles) (h : History) (n m : ℕ) → take n h ≡ take m h
     → StandsFor score c tables files h n → StandsFor score c tables files h m
 stands_at score c tables files h n m same it = record {
   partitions = it.partitions;
@@ -117,10 +117,10 @@ module _ {D : Type 0} (score : List ℕ → List ℕ) (disk : DiskOf D) (tables 
   partitions = held_twice disk old.partitions mid new.partitions was is
 
   -- what is left, with the sections as they were read
-  abbrev as_read : Files → Files
+  abbrev as_read : DeviceFiles → DeviceFiles
   as_read files = record { partitions = files.partitions; sections = map disk.bytes old.sections; filter = files.filter }
 
-  images_as_read : (files : Files) → AreImages disk new files → AreImages disk old (as_read files)
+  images_as_read : (files : DeviceFiles) → AreImages disk new files → AreImages disk old (as_read files)
   images_as_read files images = record {
     partitions = images_among disk old.partitions new.partitions files.partitions partitions images.partitions;
     sections = images_read disk read old.sections;
@@ -128,7 +128,7 @@ module _ {D : Type 0} (score : List ℕ → List ℕ) (disk : DiskOf D) (tables 
   }
 
   -- it stands for the same first blocks as the log does
-  stands_too : (c : Setup) (h : History) (n : ℕ) (files : Files) → IsLegal score c h → IsSetupOf disk tables old c → EachStands score disk c tables 0 old h
+  stands_too : (c : Setup) (h : History) (n : ℕ) (files : DeviceFiles) → IsLegal score c h → IsSetupOf disk tables old c → EachStands score disk c tables 0 old h
       → AreImages disk new files → StandsFor score c tables (as_read files) h n → StandsFor score c tables files h n
   stands_too c h n files legal setup each images it =
       let same : files.partitions ≡ map disk.bytes old.partitions =

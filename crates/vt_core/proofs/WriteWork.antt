@@ -23,11 +23,11 @@ use Rattle.vt_base.specs.declared.operation.Operation.TheVariants as asks
 use Rattle.vt_core.specs.declared.event.Event.TheVariants.{Ask}
 use Rattle.vt_lookup.specs.declared.writing.Verdict.{Verdict}
 use Rattle.vt_lookup.specs.declared.writing.Verdict.TheVariants.{Held, New}
-use Rattle.vt_core.specs.Asking.{AnswersRequest, EndsWrite, MayBeTold, Performs, Writes, says, shard_of, stop_for, with_parts}
+use Rattle.vt_core.specs.Asking.{AnswersRequest, EndsWrite, MayBeTold, Performs, AnswersWriteOperation, says, shard_of, stop_for, with_parts}
 use Rattle.vt_core.specs.Causes.{CountsSaid, CountsWhy, IsUndamagedSaid, IsUndamagedWhy}
 use Rattle.vt_core.specs.Core.{CoreState, setup_of, machine_of, each_of}
 use Rattle.vt_core.specs.Events.{FailsIn, GivesAnswer}
-use Rattle.vt_lookup.specs.Finding.{CountsFailure, IsRefusal, JudgesWrite, MayEndLook, NoneRose}
+use Rattle.vt_lookup.specs.Finding.{CountsFailure, IsWriteRefusal, JudgesWrite, MayEndLook, NoneRose}
 use Rattle.vt_core.specs.Machine.{WaitsForNone}
 use Rattle.vt_core.specs.Serving.{TestsBlock}
 use Rattle.vt_core.specs.Steps.{Steps}
@@ -115,7 +115,7 @@ module _ {D : Type 0} (score : List ℕ → List ℕ) (disk : DiskOf D) (k : Cor
           (λ h tells sound. (none, sound.log.front, inl ((λ e. cc), inr (record { answer_is = collision score (setup_of k) h kind block.now is (both h); same = refl }))))
           tt (λ ns. refl)
           (performs_write (Refused Collision) k
-          (subst (λ (b : Bool). MatchBool b ((says (Refused Collision) k ≡ says (Refused Collision) k) × (k ≡ k)) (Writes score disk (record { score = record { 0 = score block.now }; kind = kind }) block.now now (says (Refused Collision) k) k k))
+          (subst (λ (b : Bool). MatchBool b ((says (Refused Collision) k ≡ says (Refused Collision) k) × (k ≡ k)) (AnswersWriteOperation score disk (record { score = record { 0 = score block.now }; kind = kind }) block.now now (says (Refused Collision) k) k k))
           (sym ((bytes_eq-Decides (score block.now) (score [])).1 zero)) (refl, refl))
           (λ why e. let same : Collision ≡ why = cc in plain_told score k kind block.now Collision why tt same))
 
@@ -135,7 +135,7 @@ module _ {D : Type 0} (score : List ℕ → List ℕ) (disk : DiskOf D) (k new :
   abbrev after : CoreState D
   after = mid score disk k (score block.now) it.before it.after it.may_have it.looks_in verdict it.looks
 
-  refusal_undamaged : (why : Why) → IsRefusal why → IsUndamagedWhy why
+  refusal_undamaged : (why : Why) → IsWriteRefusal why → IsUndamagedWhy why
   refusal_undamaged Collision ok = tt
   refusal_undamaged IndexFull ok = tt
   refusal_undamaged ArenasFull ok = tt
@@ -199,7 +199,7 @@ module _ {D : Type 0} (score : List ℕ → List ℕ) (disk : DiskOf D) (k new :
         crash = λ tells. reads_crash score disk k i it.before.shard it.after.shard it.after.log.disks it.looks_in.shard reads it.looks.shard gives;
         undamaged = λ h tells sound. tested_undamaged h verdict (it.judged h tells sound is refl nonzero);
         does = performs_write score disk k gives w session now none kind block is goes (said_of key verdict) after
-            (subst (λ (b : Bool). MatchBool b ((says (said_of key verdict) k ≡ says (Refused Collision) k) × (after ≡ k)) (Writes score disk key block.now now (says (said_of key verdict) k) k after))
+            (subst (λ (b : Bool). MatchBool b ((says (said_of key verdict) k ≡ says (Refused Collision) k) × (after ≡ k)) (AnswersWriteOperation score disk key block.now now (says (said_of key verdict) k) k after))
             (sym (false_from_ne_true (bytes_eq (score block.now) (score [])) (λ e. nonzero ((bytes_eq-Decides (score block.now) (score [])).0 e))))
             (record {
               before = it.before;

@@ -16,7 +16,7 @@ use Rattle.vt_model.specs.Answer.{answer}
 use Rattle.vt_model.specs.Places.{section_of_score}
 use Rattle.vt_log.specs.declared.TheConstants.{QUEUE_MAX}
 use Rattle.vt_log.specs.Log.{queued}
-use Rattle.vt_bloom.specs.Bits.{HasBitsOf, Marks}
+use Rattle.vt_bloom.specs.Bits.{HasBitsOf, MarksScore}
 use Rattle.vt_shard.specs.declared.TheConstants.{ROOM}
 use Rattle.vt_model.specs.Causes.{ReachesParts, MayFindDamage, TakesMemory}
 use Rattle.vt_lookup.specs.declared.writing.Verdict.{Verdict}
@@ -24,9 +24,9 @@ use Rattle.vt_lookup.specs.declared.writing.Verdict.TheVariants.{Held, New}
 use Rattle.vt_core.specs.declared.event.Out.{Out}
 use Rattle.vt_core.specs.declared.event.Out.TheVariants.{Said as SaidOut, Waits, NotYet, Nothing, Moved, Failed}
 use Rattle.vt_core.specs.Core.{CoreState, history_len, setup_of}
-use Rattle.vt_base.specs.Operations.{reply_of}
+use Rattle.vt_base.specs.Operations.{reply_saying}
 use Rattle.vt_core.specs.Machine.{WaitsForNone, WaitsAt}
-use Rattle.vt_lookup.specs.Finding.{Parts, Sought, SeeksBlock, TestsWrite}
+use Rattle.vt_lookup.specs.Finding.{StoreParts, Sought, SeeksBlock, TestsWrite}
 use Rattle.vt_lookup.specs.Adding.{AddsPacked}
 
 -- ---- sessions
@@ -64,13 +64,13 @@ AnswersSync session (Failed why) old new = ⊥
 
 -- A store looks for a score in the log and in the score's shard, as they are, and its filter's bits
 -- say whether a block may have it.
-pub record LooksIn {D : Type 0} (k : CoreState D) (s : List ℕ) (p : Parts D) (may_have : Bool)
+pub record LooksIn {D : Type 0} (k : CoreState D) (s : List ℕ) (p : StoreParts D) (may_have : Bool)
     : Type 0 where
   pub log : p.log ≡ k.log
   pub shard : slice_get k.shards (section_of_score (setup_of k) s) ≡ Some p.shard
   pub bits : IsTrue may_have ↔ HasBitsOf k.bits s
 
-abbrev pub with_parts : {D : Type 0} → (shard : ℕ) → Parts D → CoreState D → CoreState D
+abbrev pub with_parts : {D : Type 0} → (shard : ℕ) → StoreParts D → CoreState D → CoreState D
 with_parts shard p k = record k { log = p.log; shards = slice_set k.shards shard p.shard }
 
 abbrev pub shard_of : {D : Type 0} → CoreState D → (s : List ℕ) → ℕ
@@ -95,10 +95,11 @@ lent count (Ok (Some bytes)) =
     if nat_lt count (length bytes) then Refused TooSmall else Block bytes
 
 -- a block is read: from memory, or as the index and the log give it
-pub record Reads {D : Type 0} (score : List ℕ → List ℕ) (disk : DiskOf D) (key : Key) (count : ℕ)
+pub record AnswersReadOperation {D : Type 0} (score : List ℕ
+    → List ℕ) (disk : DiskOf D) (key : Key) (count : ℕ)
     (said : Said) (old new : CoreState D) : Type 0 where
-  pub before : Parts D
-  pub after : Parts D
+  pub before : StoreParts D
+  pub after : StoreParts D
   pub may_have : Bool
   pub block : Sought
   pub looks : LooksIn old key.score.0 before may_have
@@ -109,12 +110,12 @@ pub record Reads {D : Type 0} (score : List ℕ → List ℕ) (disk : DiskOf D) 
 -- ---- a write
 
 -- there is no room to add a block: the queue is full, or the shard has no spare
-abbrev pub HasNoRoom : {D : Type 0} → Parts D → Type 0
+abbrev pub HasNoRoom : {D : Type 0} → StoreParts D → Type 0
 HasNoRoom p = (queued p.log ≡ QUEUE_MAX) ⊎ (length p.shard.index.dirty ≡ ROOM)
 
 -- the block of this key is added, with this time
 pub record AddsBlock {D : Type 0} (score : List ℕ → List ℕ) (key : Key) (bytes : List ℕ) (now : ℕ)
-    (old new : Parts D) : Type 0 where
+    (old new : StoreParts D) : Type 0 where
   pub packed : Packed
   pub is_packed : IsPacked score packed
   pub kind : packed.kind ≡ key.kind
@@ -123,19 +124,20 @@ pub record AddsBlock {D : Type 0} (score : List ℕ → List ℕ) (key : Key) (b
   pub adds : AddsPacked packed old new
 
 -- and its score's bits are set
-pub record Adds {D : Type 0} (score : List ℕ → List ℕ) (key : Key) (bytes : List ℕ) (now : ℕ)
-    (tested : Parts D) (out : Out) (old new : CoreState D) : Type 0 where
+pub record AddsBlockAndBits {D : Type 0} (score : List ℕ
+    → List ℕ) (key : Key) (bytes : List ℕ) (now : ℕ)
+    (tested : StoreParts D) (out : Out) (old new : CoreState D) : Type 0 where
   pub room : ¬ HasNoRoom tested
-  pub after : Parts D
+  pub after : StoreParts D
   pub adds : AddsBlock score key bytes now tested after
-  pub bits : Marks old.bits key.score.0 new.bits
+  pub bits : MarksScore old.bits key.score.0 new.bits
   pub out_is : out ≡ says (Score key.score) old
   pub new_is : new ≡ record (with_parts (shard_of old key.score.0) after old) { bits = new.bits }
 
 -- what is said of a block that was tested, and it is added if it is new: NotYet exactly where there
 -- is no room; memory may be short for its clump
 abbrev pub EndsWrite : {D : Type 0} → (List ℕ → List ℕ) → Key → (bytes : List ℕ) → (now : ℕ)
-    → Result Verdict Why → (tested : Parts D) → Out → (old new : CoreState D) → Type 0
+    → Result Verdict Why → (tested : StoreParts D) → Out → (old new : CoreState D) → Type 0
 EndsWrite score key bytes now (Err why) tested out old new =
     (out ≡ says (Refused why) old) × (new ≡ with_parts (shard_of old key.score.0) tested old)
 EndsWrite score key bytes now (Ok Held) tested out old new =
@@ -146,13 +148,14 @@ EndsWrite score key bytes now (Ok New) tested out old new =
     × (new ≡ with_parts (shard_of old key.score.0) tested old))
     ⊎ (¬ HasNoRoom tested × (out ≡ says (Refused NoMemory) old)
     × (new ≡ with_parts (shard_of old key.score.0) tested old))
-    ⊎ Adds score key bytes now tested out old new
+    ⊎ AddsBlockAndBits score key bytes now tested out old new
 
 -- a block is written
-pub record Writes {D : Type 0} (score : List ℕ → List ℕ) (disk : DiskOf D) (key : Key)
+pub record AnswersWriteOperation {D : Type 0} (score : List ℕ
+    → List ℕ) (disk : DiskOf D) (key : Key)
     (bytes : List ℕ) (now : ℕ) (out : Out) (old new : CoreState D) : Type 0 where
-  pub before : Parts D
-  pub tested : Parts D
+  pub before : StoreParts D
+  pub tested : StoreParts D
   pub may_have : Bool
   pub verdict : Result Verdict Why
   pub looks : LooksIn old key.score.0 before may_have
@@ -168,21 +171,23 @@ abbrev pub Performs : {D : Type 0} → (List ℕ → List ℕ) → DiskOf D → 
 Performs score disk session ping now out old new = ⊥
 Performs score disk session (read s kind count) now out old new =
     (said : Said) × (out ≡ says said old)
-    × Reads score disk (record { score = record { 0 = s }; kind = kind }) count said old new
+    × AnswersReadOperation score disk (record { score = record { 0 = s }; kind = kind }) count said
+    old new
 Performs score disk session (write kind bytes) now out old new =
     MatchBool (bytes_eq (score bytes) (score []))
     ((out ≡ says (Refused Collision) old) × (new ≡ old))
-    (Writes score disk (record { score = record { 0 = score bytes }; kind = kind }) bytes now out
+    (AnswersWriteOperation score disk (record { score = record { 0 = score bytes }; kind = kind })
+    bytes now out
     old new)
 Performs score disk session sync now out old new =
     (out ≡ Waits) × (new ≡ with_waiting session (Some (history_len old)) old)
 
 -- What an operation of a session that waits for none gives. One that needs no part of the store is
 -- answered as by a store without blocks; one that writes to a part that has stopped is refused.
-pub record Serves {D : Type 0} (score : List ℕ → List ℕ) (disk : DiskOf D) (session : ℕ)
+pub record AnswersOperation {D : Type 0} (score : List ℕ → List ℕ) (disk : DiskOf D) (session : ℕ)
     (m : Operation) (now : ℕ) (out : Out) (old new : CoreState D) : Type 0 where
   pub early : ¬ ReachesParts score m → (said : Said) × (out ≡ says said old)
-      × (reply_of said ≡ (answer score (setup_of old) [] m).reply) × (new ≡ old)
+      × (reply_saying said ≡ (answer score (setup_of old) [] m).reply) × (new ≡ old)
   pub stopped : ReachesParts score m → (call : ℕ) → stop_for score old m ≡ Some call
       → (out ≡ says (Refused (Stopped call)) old) × (new ≡ old)
   pub performs : ReachesParts score m → stop_for score old m ≡ None
@@ -202,5 +207,6 @@ MayBeTold score k m why = ⊤
 pub record AnswersRequest {D : Type 0} (score : List ℕ → List ℕ) (disk : DiskOf D) (session : ℕ)
     (m : Operation) (now : ℕ) (out : Out) (old new : CoreState D) : Type 0 where
   pub waits : (number : ℕ) → WaitsAt old.waiting session number → (out ≡ Nothing) × (new ≡ old)
-  pub serves : WaitsForNone old.waiting session → Serves score disk session m now out old new
+  pub serves : WaitsForNone old.waiting session
+      → AnswersOperation score disk session m now out old new
   pub cause : (why : Why) → out ≡ says (Refused why) old → MayBeTold score old m why

@@ -3,7 +3,7 @@ use Rattle.std.specs.Prelude.{ℕ, Option, List, ◌∷◌, ◌++◌, map}
 use Rattle.std.specs.Option.{option_to_list}
 use Rattle.vt_model.specs.History.{History}
 use Rattle.vt_model.specs.Places.{Setup}
-use Rattle.vt_log.specs.Log.{LogState, front, setup_of as setup_of_log}
+use Rattle.vt_log.specs.Log.{LogState, front, setup_of_log}
 use Rattle.vt_bloom.specs.Bits.{Filter}
 use Rattle.vt_bloom.specs.Bloom.{BloomState}
 use Rattle.vt_shard.specs.Shard.{ShardState}

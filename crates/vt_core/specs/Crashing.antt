@@ -8,9 +8,9 @@ use Rattle.vt_core.specs.declared.event.Event.{Event}
 use Rattle.vt_core.specs.declared.event.Out.{Out}
 use Rattle.vt_core.specs.Core.{CoreState, devices_of}
 use Rattle.vt_core.specs.Events.{MakesStep}
-use Rattle.vt_core.specs.Files.{PerDevice, Files, AreWithinCall}
+use Rattle.vt_core.specs.Files.{PerDevice, DeviceFiles, AreWithinCall}
 use Rattle.vt_core.specs.Machine.{Machine, Crashes}
-use Rattle.vt_core.specs.Mounting.{LeavesStanding, Mounts}
+use Rattle.vt_core.specs.Mounting.{LeavesStanding, MountsStore}
 use Rattle.vt_core.specs.Stands.{ArePartitions}
 use Rattle.vt_core.specs.Steps.{Steps}
 
@@ -23,7 +23,8 @@ pub record AreLeftOf {D : Type 0} (disk : DiskOf D) (files : List (List ℕ)) (d
       → slice_get files i ≡ Some file
       → (disk.bytes device ≡ file) × Only file (disk.images device)
 
-pub record AreLeft {D : Type 0} (disk : DiskOf D) (files : Files) (devices : PerDevice D) : Type 0
+pub record AreLeft {D : Type 0} (disk : DiskOf D) (files : DeviceFiles) (devices : PerDevice D)
+    : Type 0
   where
     pub partitions : AreLeftOf disk files.partitions devices.partitions
     pub sections : AreLeftOf disk files.sections devices.sections
@@ -32,7 +33,7 @@ pub record AreLeft {D : Type 0} (disk : DiskOf D) (files : Files) (devices : Per
 -- At a moment while the one devices were turning into the others there was a crash, which left some
 -- image of each, and these devices.
 pub record LeftByCrash {D : Type 0} (disk : DiskOf D) (old during left : PerDevice D) : Type 0 where
-  pub files : Files
+  pub files : DeviceFiles
   pub images : AreWithinCall disk old during files
   pub are : AreLeft disk files left
   pub sizes : map disk.size left.sections ≡ map disk.size old.sections
@@ -59,7 +60,7 @@ pub record Recovers {D : Type 0} (score : List ℕ → List ℕ) (disk : DiskOf 
   pub retried : IsRetried score disk tables tries left devices
   pub sizes : Sizes
   pub sessions : ℕ
-  pub mounts : Mounts score disk tables devices sizes sessions again
+  pub mounts : MountsStore score disk tables devices sizes sessions again
 
 -- nothing is under way, or an event is
 abbrev pub MayTurnInto : {D : Type 0} → (List ℕ → List ℕ) → DiskOf D → (old during : CoreState D)

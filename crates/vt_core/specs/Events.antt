@@ -3,7 +3,7 @@ use Rattle.std.specs.Prelude.{◌≡◌, ◌≢◌, ◌⊎◌, ⊤, ℕ, ◌<◌
 use Rattle.vt_base.specs.declared.answer.Said.{Said}
 use Rattle.vt_base.specs.declared.answer.Said.TheVariants.{Synced, Refused}
 use Rattle.vt_base.specs.declared.why.Why.TheVariants.{Stopped}
-use Rattle.vt_base.specs.Operations.{operation_of, reply_of}
+use Rattle.vt_base.specs.Operations.{operation_of, reply_saying}
 use Rattle.vt_base.specs.Protocol.{Operation, sync}
 use Rattle.vt_model.specs.Answer.{answer}
 use Rattle.vt_model.specs.Causes.{MayFail, Cause, why_of}
@@ -31,7 +31,7 @@ IsFor sessions shards (EvictIndex shard) = shard < shards
 -- the model's answer is given, which adds a block or not
 abbrev pub GivesAnswer : (List ℕ → List ℕ) → Operation → Said → (old new : Machine) → Type 0
 GivesAnswer score m said old new =
-    Accepts score m (reply_of said) old new ⊎ Answers score m (reply_of said) old new
+    Accepts score m (reply_saying said) old new ⊎ Answers score m (reply_saying said) old new
 
 -- the store fails, for a cause that the operation may meet, and adds nothing
 abbrev pub FailsIn : (List ℕ → List ℕ) → Operation → Said → (old new : Machine) → Type 0

@@ -20,14 +20,14 @@ use Rattle.vt_bloom.specs.Bloom.{BloomState}
 use Rattle.vt_bloom.specs.Frame.{Saved, HasSaved}
 use Rattle.vt_log.specs.Answers.{HoldTheSame}
 use Rattle.vt_log.specs.Faults.{AreFields, IsMountedBy}
-use Rattle.vt_log.specs.Log.{IsMounted, LogState, disks_of}
+use Rattle.vt_log.specs.Log.{IsMountedLog, LogState, disks_of}
 use Rattle.vt_log.specs.Logs.{IsLog, arena_count}
 use Rattle.vt_shard.specs.Shard.{ShardState}
 use Rattle.vt_shard.specs.declared.mounting.Sizes.{Sizes}
 use Rattle.vt_core.specs.declared.TheConstants.{MOST_ARENAS, MOST_BUCKETS}
 use Rattle.vt_recover.specs.declared.devices.Devices.{Devices}
 use Rattle.vt_core.specs.Core.{CoreState, setup_of, devices_of, stops_of}
-use Rattle.vt_core.specs.Files.{PerDevice, Files, AreImages, all_of}
+use Rattle.vt_core.specs.Files.{PerDevice, DeviceFiles, AreImages, all_of}
 use Rattle.vt_core.specs.Sound.{IsSound}
 use Rattle.vt_core.specs.Stands.{ArePartitions, StandsFor, StandForPrefix, FilterStandsFor}
 use Rattle.vt_recover.specs.Sections.{SectionStandsFor}
@@ -61,13 +61,14 @@ pub record IsSetupOf {D : Type 0} (disk : DiskOf D) (tables : List Table) (devic
 -- every combination of images stands for a prefix of one history that has this many blocks at least
 abbrev pub EachStands : {D : Type 0} → (List ℕ → List ℕ) → DiskOf D → Setup → List Table
     → (least : ℕ) → PerDevice D → History → Type 0
-EachStands score disk c tables least devices h = (files : Files) → AreImages disk devices files
+EachStands score disk c tables least devices h =
+    (files : DeviceFiles) → AreImages disk devices files
     → StandForPrefix score c tables least files h
 
 -- or for the first n blocks of it
 abbrev pub AllStandFor : {D : Type 0} → (List ℕ → List ℕ) → DiskOf D → Setup → List Table
     → PerDevice D → History → (n : ℕ) → Type 0
-AllStandFor score disk c tables devices h n = (files : Files) → AreImages disk devices files
+AllStandFor score disk c tables devices h n = (files : DeviceFiles) → AreImages disk devices files
     → StandsFor score c tables files h n
 
 -- ---- a store that is found
@@ -142,7 +143,8 @@ HasRoomOf sizes s = (s.lumps ≡ lru_cache [] sizes.lumps) × (s.index.clean_roo
 -- Whatever its devices hold, it stands on them and on no others, as their heads are read, and
 -- nothing is queued, under way, stopped or waited for. No block is in memory, and each shard has
 -- just the room that it was given. Without a device the filter has 2^16 bits, and a score 8 of them.
-pub record IsFresh {D : Type 0} (disk : DiskOf D) (tables : List Table) (devices : PerDevice D)
+pub record IsFreshlyMounted {D : Type 0} (disk : DiskOf D) (tables : List Table)
+    (devices : PerDevice D)
     (room : Sizes) (sessions : ℕ) (k : CoreState D) : Type 0 where
   pub tables_are : k.log.tables ≡ tables
   pub layout : k.log.layout ≡ layout_of tables
@@ -156,7 +158,7 @@ pub record IsFresh {D : Type 0} (disk : DiskOf D) (tables : List Table) (devices
   pub heads_read : (i : ℕ) (s : ShardState D) → slice_get k.shards i ≡ Some s
       → IsHeadRead disk devices i s.section.head
   pub mark_read : (b : BloomState D) → k.bloom ≡ Some b → IsMarkRead disk devices b.mark
-  pub log : IsMounted k.log
+  pub log : IsMountedLog k.log
   pub stops : All (λ stop. stop ≡ None) (stops_of k)
   pub writebacks : All (λ s. s.writeback ≡ None) k.shards
   pub saves : All (λ b. b.twin.change ≡ None) (option_to_list k.bloom)
@@ -174,11 +176,12 @@ ReadsEntriesOnce disk tables devices k = (n : ℕ) → IsTrue disk.tells
     + length devices.partitions + 2 * arena_count tables + (k.log.durable - n)
 
 -- all that is said of a store that was mounted
-pub record Mounts {D : Type 0} (score : List ℕ → List ℕ) (disk : DiskOf D) (tables : List Table)
+pub record MountsStore {D : Type 0} (score : List ℕ
+    → List ℕ) (disk : DiskOf D) (tables : List Table)
     (devices : PerDevice D) (sizes : Sizes) (sessions : ℕ) (k : CoreState D) : Type 0 where
   pub recalls : (c : Setup) (h g : History) (base : ℕ) → IsTrue disk.tells
       → IsLogOf score disk tables devices c h g base → Recalls score disk c g base k
-  pub fresh : IsFresh disk tables devices sizes sessions k
+  pub fresh : IsFreshlyMounted disk tables devices sizes sessions k
   pub calls : ReadsEntriesOnce disk tables devices k
   pub faults_are : map disk.faults (all_of (devices_of k)) ≡ map disk.faults (all_of devices)
 

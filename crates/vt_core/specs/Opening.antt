@@ -12,15 +12,15 @@ use Rattle.vt_disk.specs.Members.{DiskOf}
 use Rattle.vt_model.specs.History.{History}
 use Rattle.vt_model.specs.Places.{Setup, first_bucket}
 use Rattle.vt_isect.specs.Layout.{buckets_in}
-use Rattle.vt_isect.specs.Section.{SectionState, mounted}
+use Rattle.vt_isect.specs.Section.{SectionState, mounted_section}
 use Rattle.vt_bloom.specs.Bits.{Filter}
 use Rattle.vt_bloom.specs.Bloom.{BloomState}
 use Rattle.vt_shard.specs.declared.mounting.Sizes.{Sizes}
 use Rattle.vt_log.specs.Answers.{HoldTheSame}
-use Rattle.vt_log.specs.Log.{IsMounted, LogState}
+use Rattle.vt_log.specs.Log.{IsMountedLog, LogState}
 use Rattle.vt_log.specs.Logs.{IsLog, arena_count}
-use Rattle.vt_log.specs.Sound.{IsSound as IsSoundLog}
-use Rattle.vt_log.specs.Whole.{IsWhole as IsWholeLog}
+use Rattle.vt_log.specs.Sound.{IsSoundLog}
+use Rattle.vt_log.specs.Whole.{IsWholeLog}
 use Rattle.vt_part.specs.Layout.{layout_of}
 use Rattle.vt_part.specs.Table.{Table}
 use Rattle.vt_core.specs.declared.TheConstants.{MOST_ARENAS, MOST_BUCKETS}
@@ -28,12 +28,12 @@ use Rattle.vt_recover.specs.declared.devices.Devices.{Devices}
 use Rattle.vt_core.specs.declared.mounting.Beside.{Beside}
 use Rattle.vt_core.specs.Core.{CoreState}
 use Rattle.vt_core.specs.Files.{PerDevice}
-use Rattle.vt_core.specs.Mounting.{IsLogOf, IsLogRead, KeepsLimits, LeavesStanding, Mounts, devices_after}
+use Rattle.vt_core.specs.Mounting.{IsLogOf, IsLogRead, KeepsLimits, LeavesStanding, MountsStore, devices_after}
 use Rattle.vt_core.specs.Stands.{FilterStandsFor}
 use Rattle.vt_recover.specs.Sections.{SectionStandsFor}
-use Rattle.vt_recover.specs.Opening.{HasRoom, IsOpened, OpensFilter}
+use Rattle.vt_recover.specs.Opening.{HasRoomForDevices, IsFoundSection, OpensFilter}
 use Rattle.vt_recover.specs.Refusals.{SectionIsRefused, FilterIsRefused}
-use Rattle.vt_core.specs.Refusals.{PassesOrRefuses, Refuses, wrong_head}
+use Rattle.vt_core.specs.Refusals.{PassesOrRefuses, RefusesToMount, wrong_head}
 
 -- ---- tests
 
@@ -88,10 +88,10 @@ TestsParts part sections bloom len (Err bad) =
 -- blocks; the first section is this part of the store.
 pub record IsBeside {D : Type 0} (disk : DiskOf D) (part len : ℕ) (devices : List D)
     (filter : Option D) (b : Beside D) : Type 0 where
-  pub sections : AllZip (IsOpened disk) devices b.sections.items
+  pub sections : AllZip (IsFoundSection disk) devices b.sections.items
   pub filter_is : OpensFilter disk filter b.bloom b.bits
   pub tests : TestsParts {U = ⊤} part b.sections.items b.bloom len (Ok tt)
-  pub room : HasRoom (length devices) b.room
+  pub room : HasRoomForDevices (length devices) b.room
 
 -- why they are refused: one of the devices is, or one of the tests fails
 abbrev pub RefusesBeside : {D : Type 0} → DiskOf D → (part len : ℕ) → List D → Option D → MountBad
@@ -101,7 +101,7 @@ RefusesBeside {D} disk part len devices filter bad =
     ⊎ SectionIsRefused disk part devices bad
     ⊎ FilterIsRefused disk (part + length devices) (option_to_list filter) bad
     ⊎ ((sections : List (SectionState D)) × (bloom : Option (BloomState D)) × (bits : Filter)
-    × AllZip (IsOpened disk) devices sections × OpensFilter disk filter bloom bits
+    × AllZip (IsFoundSection disk) devices sections × OpensFilter disk filter bloom bits
     × TestsParts {U = ⊤} part sections bloom len (Err bad))
 
 -- the sections and the filter that are read agree with a history, and the buckets pass no limit
@@ -139,7 +139,7 @@ pub record AreHeld {D : Type 0} (disk : DiskOf D) (old new : PerDevice D) : Type
 pub record IsLogFound {D : Type 0} (score : List ℕ → List ℕ) (disk : DiskOf D) (before : List D)
     (sections : List D) (filter : Option D) (log : LogState D) : Type 0 where
   pub whole : IsWholeLog disk log
-  pub mounted : IsMounted log
+  pub mounted : IsMountedLog log
   pub layout : log.layout ≡ layout_of log.tables
   pub arenas : arena_count log.tables ≤ MOST_ARENAS
   pub read : IsLogRead disk log.tables (with_log before sections filter) log
@@ -156,10 +156,11 @@ pub record IsLogFound {D : Type 0} (score : List ℕ → List ℕ) (disk : DiskO
 pub record IsMountOf {D : Type 0} (score : List ℕ → List ℕ) (disk : DiskOf D) (tables : List Table)
     (devices : PerDevice D) (sizes : Sizes) (sessions : ℕ)
     (result : Result (CoreState D) (MountBad × Devices D)) : Type 0 where
-  pub mounts : IfOk result (Mounts score disk tables devices sizes sessions)
+  pub mounts : IfOk result (MountsStore score disk tables devices sizes sessions)
   pub found : (c : Setup) (h g : History) (base : ℕ) → IsTrue disk.tells
       → IsLogOf score disk tables devices c h g base → KeepsLimits tables c
       → IfErr result (λ refusal. (refusal.0 ≡ Fault) ⊎ (refusal.0 ≡ NoMemory))
   pub standing : IsTrue disk.tells
       → LeavesStanding score disk tables devices (devices_after result)
-  pub refused : IfErr result (λ refusal. Refuses score disk tables devices refusal.0 refusal.1)
+  pub refused : IfErr result
+      (λ refusal. RefusesToMount score disk tables devices refusal.0 refusal.1)

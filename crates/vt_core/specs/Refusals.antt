@@ -17,24 +17,24 @@ use Rattle.vt_model.specs.declared.TheConstants.{BUCKET_ROOM}
 use Rattle.vt_part.specs.Layout.{layout_of}
 use Rattle.vt_part.specs.Table.{Table}
 use Rattle.vt_part.specs.declared.layout.ArenaRegion.{ArenaRegion}
-use Rattle.vt_arena.specs.declared.bad.BackBad.TheVariants as back_bad
+use Rattle.vt_arena.specs.declared.error.BackBad.TheVariants as back_bad
 use Rattle.vt_arena.specs.declared.directory.At.{At}
-use Rattle.vt_arena.specs.Directory.{last_entry, first_bad as first_bad_entry}
-use Rattle.vt_isect.specs.declared.bad.ShardErr.TheVariants as shard_err
+use Rattle.vt_arena.specs.Directory.{last_entry, first_bad_entry}
+use Rattle.vt_isect.specs.declared.error.ShardErr.TheVariants as shard_err
 use Rattle.vt_isect.specs.declared.head.Head.{Head}
 use Rattle.vt_isect.specs.Merging.{IsDamage}
-use Rattle.vt_arena.specs.Heads.{clumps_in, used_in}
+use Rattle.vt_arena.specs.Heads.{clump_count_in, used_in}
 use Rattle.vt_log.specs.Answers.{HoldTheSame}
-use Rattle.vt_log.specs.Faults.{AreFields, RefusesMount as RefusesLog, first_bad}
+use Rattle.vt_log.specs.Faults.{AreFields, RefusesLogMount, first_bad_log}
 use Rattle.vt_log.specs.Logs.{IsLog, arena_count}
-use Rattle.vt_log.specs.declared.bad.LogBad.{LogBad}
-use Rattle.vt_told.specs.Told.{of_log}
+use Rattle.vt_log.specs.declared.error.LogBad.{LogBad}
+use Rattle.vt_mount_errors.specs.MountErrors.{of_log}
 use Rattle.vt_core.specs.declared.TheConstants.{MOST_ARENAS, MOST_BUCKETS}
 use Rattle.vt_recover.specs.declared.devices.Devices.{Devices}
 use Rattle.vt_core.specs.declared.mounting.Tally.{Tally}
 use Rattle.vt_core.specs.Files.{PerDevice, all_of}
 use Rattle.vt_core.specs.Mounting.{IsSetupOf, IsHeadRead, IsMarkRead, KeepsLimits, devices_in, tables_in}
-use Rattle.vt_recover.specs.Sections.{SectionStandsFor, buckets_of}
+use Rattle.vt_recover.specs.Sections.{SectionStandsFor, section_buckets}
 use Rattle.vt_recover.specs.Refusals.{SectionIsRefused, FilterIsRefused, CountsRefusal}
 
 -- ---- the tests, in order
@@ -54,7 +54,7 @@ pub record LogIsRefused {D : Type 0} (disk : DiskOf D) (tables : List Table)
   pub fields : List (List ℕ)
   pub read : IsTrue disk.tells
       → AreFields (layout_of tables) (map disk.bytes devices.partitions) fields
-  pub refuses : RefusesLog (map (λ t. t.name) tables) (layout_of tables) fields why
+  pub refuses : RefusesLogMount (map (λ t. t.name) tables) (layout_of tables) fields why
 
 -- the first of these counts with which their sum passes a limit
 pub record IsFirstPast (limit : ℕ) (counts : List ℕ) (i : ℕ) : Type 0 where
@@ -95,16 +95,16 @@ wrong_head part first count total head =
     else None
 
 -- the first field of the head of section i that isn't as the sections together want it
-abbrev pub first_wrong : (part : ℕ) → Setup → (i : ℕ) → Head → Option MountBad
-first_wrong part c i head =
-    wrong_head part (first_bucket c.sections i) (buckets_of c i) (bucket_count c) head
+abbrev pub first_wrong_field : (part : ℕ) → Setup → (i : ℕ) → Head → Option MountBad
+first_wrong_field part c i head =
+    wrong_head part (first_bucket c.sections i) (section_buckets c i) (bucket_count c) head
 
 pub record HeadIsWrong {D : Type 0} (disk : DiskOf D) (devices : PerDevice D) (c : Setup)
     (bad : MountBad) : Type 0 where
   pub i : ℕ
   pub head : Head
   pub read : IsHeadRead disk devices i head
-  pub wrong : first_wrong (section_part devices i) c i head ≡ Some bad
+  pub wrong : first_wrong_field (section_part devices i) c i head ≡ Some bad
 
 -- the part of the store with this number has this mark
 abbrev pub HasMark : {D : Type 0} → DiskOf D → PerDevice D → (part mark : ℕ) → Type 0
@@ -114,9 +114,9 @@ HasMark disk devices part mark =
     ⊎ ((part ≡ filter_part devices) × IsMarkRead disk devices mark)
 
 -- these are the fields of the heads of all arenas, as their devices have them where these tell
-abbrev pub AreRead : {D : Type 0} → DiskOf D → (tables : List Table) → PerDevice D
+abbrev pub AreHeadsRead : {D : Type 0} → DiskOf D → (tables : List Table) → PerDevice D
     → (fields : List (List ℕ)) → Type 0
-AreRead disk tables devices fields = IsTrue disk.tells
+AreHeadsRead disk tables devices fields = IsTrue disk.tells
     → AreFields (layout_of tables) (map disk.bytes devices.partitions) fields
 
 -- a mark is above the log's length
@@ -126,9 +126,9 @@ pub record MarkIsWrong {D : Type 0} (disk : DiskOf D) (tables : List Table)
   pub mark : ℕ
   pub has : HasMark disk devices part mark
   pub fields : List (List ℕ)
-  pub read : AreRead disk tables devices fields
-  pub above : sum_by clumps_in fields < mark
-  pub bad_is : bad ≡ Disagree part Mark mark (sum_by clumps_in fields)
+  pub read : AreHeadsRead disk tables devices fields
+  pub above : sum_by clump_count_in fields < mark
+  pub bad_is : bad ≡ Disagree part Mark mark (sum_by clump_count_in fields)
 
 -- Every test passes that comes before the log is read back: of the arenas' heads, of how many
 -- arenas and buckets there are, of each section's head, and of the marks.
@@ -136,13 +136,14 @@ pub record PassesTests {D : Type 0} (disk : DiskOf D) (tables : List Table)
     (devices : PerDevice D) (c : Setup) : Type 0 where
   pub limits : KeepsLimits tables c
   pub fields : List (List ℕ)
-  pub read : AreRead disk tables devices fields
-  pub log : first_bad Bool.false 0 (layout_of tables) fields ≡ None
+  pub read : AreHeadsRead disk tables devices fields
+  pub log : first_bad_log Bool.false 0 (layout_of tables) fields ≡ None
   pub heads : (i : ℕ) (device : D) → slice_get devices.sections i ≡ Some device → (head : Head)
-      × IsHeadRead disk devices i head × (first_wrong (section_part devices i) c i head ≡ None)
-      × (head.mark ≤ sum_by clumps_in fields)
+      × IsHeadRead disk devices i head
+      × (first_wrong_field (section_part devices i) c i head ≡ None)
+      × (head.mark ≤ sum_by clump_count_in fields)
   pub mark : (i : ℕ) (device : D) → slice_get devices.filter i ≡ Some device → (mark : ℕ)
-      × IsMarkRead disk devices mark × (mark ≤ sum_by clumps_in fields)
+      × IsMarkRead disk devices mark × (mark ≤ sum_by clump_count_in fields)
 
 -- The log gives more blocks of a bucket of section i than a bucket has room for. Where the section
 -- agrees with the log, these are the log's own.
@@ -168,11 +169,11 @@ pub record IsDamagedEntry {D : Type 0} (disk : DiskOf D) (tables : List Table)
   pub device : D
   pub disk_is : slice_get devices.partitions r.part ≡ Some device
   pub fields : List (List ℕ)
-  pub read : AreRead disk tables devices fields
+  pub read : AreHeadsRead disk tables devices fields
   pub head : List ℕ
   pub head_is : slice_get fields arena ≡ Some head
   pub at : At
-  pub index : at.index ≤ clumps_in head
+  pub index : at.index ≤ clump_count_in head
   pub end : at.end ≤ used_in head
   pub entry : List ℕ
   pub entry_is : IsTrue disk.tells → entry ≡ last_entry r.region at.index (disk.bytes device)
@@ -199,9 +200,9 @@ pub record IsFoundDamaged {D : Type 0} (disk : DiskOf D) (tables : List Table)
 
 -- Whatever the devices hold, a refusal is that of one of these tests, where those of what is read
 -- back come last; a fault and want of memory need none.
-abbrev pub IsRefused : {D : Type 0} → (List ℕ → List ℕ) → DiskOf D → (tables : List Table)
+abbrev pub IsRefusedMount : {D : Type 0} → (List ℕ → List ℕ) → DiskOf D → (tables : List Table)
     → PerDevice D → Setup → MountBad → Type 0
-IsRefused score disk tables devices c bad =
+IsRefusedMount score disk tables devices c bad =
     (bad ≡ Fault) ⊎ (bad ≡ NoMemory)
     ⊎ LogIsRefused disk tables devices bad
     ⊎ SectionIsRefused disk (length devices.partitions) devices.sections bad
@@ -213,22 +214,23 @@ IsRefused score disk tables devices c bad =
     × (BucketIsCrowded score disk tables devices c bad ⊎ IsFoundDamaged disk tables devices bad))
 
 -- the refusal of a test that comes before the log is read back
-abbrev pub IsEarly : MountBad → Type 0
-IsEarly (Disagree part Crowd found want) = ⊥
-IsEarly (Damaged site want found) = ⊥
-IsEarly Fault = ⊥
-IsEarly NoMemory = ⊥
-IsEarly bad = ⊤
+abbrev pub IsBeforeReading : MountBad → Type 0
+IsBeforeReading (Disagree part Crowd found want) = ⊥
+IsBeforeReading (Damaged site want found) = ⊥
+IsBeforeReading Fault = ⊥
+IsBeforeReading NoMemory = ⊥
+IsBeforeReading bad = ⊤
 
 -- all that is said of a refusal to mount, beside what the devices stand for then: each is handed
 -- back in its place, and nothing is written before the log is read back
-pub record Refuses {D : Type 0} (score : List ℕ → List ℕ) (disk : DiskOf D) (tables : List Table)
+pub record RefusesToMount {D : Type 0} (score : List ℕ
+    → List ℕ) (disk : DiskOf D) (tables : List Table)
     (devices : PerDevice D) (bad : MountBad) (back : Devices D) : Type 0 where
   pub cause : (c : Setup) → IsSetupOf disk tables devices c
-      → IsRefused score disk tables devices c bad
+      → IsRefusedMount score disk tables devices c bad
   pub counts : CountsRefusal bad (map disk.faults (all_of devices))
       (map disk.faults (all_of (devices_in back)))
-  pub early : IsEarly bad → HoldTheSame disk devices.sections (devices_in back).sections
+  pub early : IsBeforeReading bad → HoldTheSame disk devices.sections (devices_in back).sections
   pub tables_are : tables_in back ≡ tables
   pub sections : length back.sections.items ≡ length devices.sections
   pub filter : length (option_to_list back.filter) ≡ length devices.filter

@@ -4,12 +4,12 @@ use Rattle.vt_disk.specs.Members.{DiskOf}
 use Rattle.vt_model.specs.History.{History, Accepted}
 use Rattle.vt_model.specs.Legal.{IsLegal}
 use Rattle.vt_part.specs.Table.{Table, IsPartition}
-use Rattle.vt_log.specs.Sound.{IsSound as IsSoundLog}
+use Rattle.vt_log.specs.Sound.{IsSoundLog}
 use Rattle.vt_bloom.specs.Bits.{HasBitsOf}
-use Rattle.vt_bloom.specs.Bloom.{BloomState, IsSound as IsSoundBloom}
+use Rattle.vt_bloom.specs.Bloom.{BloomState, IsSoundBloom}
 use Rattle.vt_bloom.specs.Frame.{Saved, Covers}
 use Rattle.vt_shard.specs.Shard.{ShardState}
-use Rattle.vt_shard.specs.Sound.{IsSound as IsSoundShard}
+use Rattle.vt_shard.specs.Sound.{IsSoundShard}
 use Rattle.vt_core.specs.Core.{CoreState, setup_of}
 use Rattle.vt_core.specs.Stands.{scores_of}
 use Rattle.vt_core.specs.Whole.{IsWhole}

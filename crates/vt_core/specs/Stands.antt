@@ -5,9 +5,9 @@ use Rattle.vt_model.specs.History.{History}
 use Rattle.vt_model.specs.Places.{Setup}
 use Rattle.vt_part.specs.Layout.{layout_of}
 use Rattle.vt_part.specs.Table.{Table, IsPartition}
-use Rattle.vt_log.specs.Logs.{StandsFor as LogStandsFor}
+use Rattle.vt_log.specs.Logs.{LogStandsFor}
 use Rattle.vt_bloom.specs.Frame.{Saved, HasSaved, Covers}
-use Rattle.vt_core.specs.Files.{Files}
+use Rattle.vt_core.specs.Files.{DeviceFiles}
 use Rattle.vt_recover.specs.Sections.{SectionStandsFor}
 
 -- the scores of a history's blocks
@@ -29,7 +29,8 @@ pub record ArePartitions (tables : List Table) (files : List (List ℕ)) : Type 
 -- The files stand for the first n blocks of a history: on partitions with these tables their log is
 -- these, with a base from the arena that was filled last with them to the one that is being filled
 -- now; and their sections and their filter say nothing of later blocks.
-pub record StandsFor (score : List ℕ → List ℕ) (c : Setup) (tables : List Table) (files : Files)
+pub record StandsFor (score : List ℕ
+    → List ℕ) (c : Setup) (tables : List Table) (files : DeviceFiles)
     (h : History) (n : ℕ) : Type 0 where
   pub partitions : ArePartitions tables files.partitions
   pub log : LogStandsFor score c (layout_of tables) files.partitions h n
@@ -41,7 +42,7 @@ pub record StandsFor (score : List ℕ → List ℕ) (c : Setup) (tables : List 
 
 -- they do for a prefix of the history that has this many blocks at least
 pub record StandForPrefix (score : List ℕ → List ℕ) (c : Setup) (tables : List Table) (least : ℕ)
-    (files : Files) (h : History) : Type 0 where
+    (files : DeviceFiles) (h : History) : Type 0 where
   pub n : ℕ
   pub keeps : least ≤ n
   pub within : n ≤ length h

@@ -11,7 +11,7 @@ use Rattle.vt_core.specs.Causes.{CountsOut, IsUndamaged, KeepsStops, MakesCalls}
 use Rattle.vt_core.specs.Core.{CoreState, setup_of, machine_of, devices_of, each_of, history_len}
 use Rattle.vt_base.specs.Operations.{operation_of}
 use Rattle.vt_core.specs.Events.{MakesStep}
-use Rattle.vt_core.specs.Files.{Files, AreWithinCall, all_of}
+use Rattle.vt_core.specs.Files.{DeviceFiles, AreWithinCall, all_of}
 use Rattle.vt_core.specs.Machine.{Machine}
 use Rattle.vt_core.specs.Sound.{IsSound}
 use Rattle.vt_core.specs.Stands.{StandForPrefix}
@@ -31,25 +31,25 @@ StepsSoundly score disk event out old new = (h : History) → IsSound score disk
 -- has all durable blocks, and so all that are synced before it and after it
 abbrev pub LeavesPrefix : {D : Type 0} → (List ℕ → List ℕ) → DiskOf D → (old new : CoreState D)
     → Type 0
-LeavesPrefix score disk old new = (h : History) (files : Files) → IsSound score disk old h
+LeavesPrefix score disk old new = (h : History) (files : DeviceFiles) → IsSound score disk old h
     → AreWithinCall disk (devices_of old) (devices_of new) files
     → StandForPrefix score (setup_of old) old.log.tables old.log.durable files h
 
 -- ---- on any devices
 
-abbrev pub Does : {D : Type 0} → (List ℕ → List ℕ) → DiskOf D → Event → Out
+abbrev pub DoesEvent : {D : Type 0} → (List ℕ → List ℕ) → DiskOf D → Event → Out
     → (old new : CoreState D) → Type 0
-Does score disk (Ask session operation now) out old new =
+DoesEvent score disk (Ask session operation now) out old new =
     AnswersRequest score disk session (operation_of operation) now out old new
-Does score disk (AskAnswer session) out old new = AnswersSync session out old new
-Does score disk LogAdvance out old new = AdvancesLog disk out old new
-Does score disk BloomAdvance out old new = SavesFilter out old new
-Does score disk (FileBegin shard) out old new =
+DoesEvent score disk (AskAnswer session) out old new = AnswersSync session out old new
+DoesEvent score disk LogAdvance out old new = AdvancesLog disk out old new
+DoesEvent score disk BloomAdvance out old new = SavesFilter out old new
+DoesEvent score disk (FileBegin shard) out old new =
     ChangesShard shard old new (BeginsWriteback old.log.durable out)
-Does score disk (FileAdvance shard) out old new =
+DoesEvent score disk (FileAdvance shard) out old new =
     ChangesShard shard old new (AdvancesWriteback disk out)
-Does score disk (EvictLump shard) out old new = ChangesShard shard old new (DropsLump out)
-Does score disk (EvictIndex shard) out old new = ChangesShard shard old new (DropsEntry out)
+DoesEvent score disk (EvictLump shard) out old new = ChangesShard shard old new (DropsLump out)
+DoesEvent score disk (EvictIndex shard) out old new = ChangesShard shard old new (DropsEntry out)
 
 -- what a store was mounted with stays, and no block and no promise is lost
 pub record KeepsStore {D : Type 0} (disk : DiskOf D) (old new : CoreState D) : Type 0 where
@@ -66,7 +66,7 @@ pub record KeepsStore {D : Type 0} (disk : DiskOf D) (old new : CoreState D) : T
   pub synced : old.synced ≤ new.synced
 
 -- and an event accepts one block at most, and has only those synced that were durable before it
-pub record GoesOn {D : Type 0} (disk : DiskOf D) (old new : CoreState D) : Type 0 where
+pub record StoreGoesOn {D : Type 0} (disk : DiskOf D) (old new : CoreState D) : Type 0 where
   pub store : KeepsStore disk old new
   pub one_more : history_len new ≤ history_len old + 1
   pub synced_before : new.synced ≤ old.log.durable
@@ -77,11 +77,11 @@ pub record Steps {D : Type 0} (score : List ℕ → List ℕ) (disk : DiskOf D) 
   pub crash : IsTrue disk.tells → LeavesPrefix score disk old new
   pub undamaged : (h : History) → IsTrue disk.tells → IsSound score disk old h
       → IsUndamaged out
-  pub does : Does score disk event out old new
+  pub does : DoesEvent score disk event out old new
   pub calls : MakesCalls disk event out (all_of (devices_of old)) (all_of (devices_of new))
   pub counts : CountsOut out (each_of disk.faults old) (each_of disk.faults new)
   pub stops : KeepsStops out old new
-  pub goes_on : GoesOn disk old new
+  pub goes_on : StoreGoesOn disk old new
 
 -- ---- one after another
 

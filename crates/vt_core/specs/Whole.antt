@@ -8,7 +8,7 @@ use Rattle.vt_bloom.specs.Bloom.{BloomState, HasCounts}
 use Rattle.vt_isect.specs.Layout.{buckets_in}
 use Rattle.vt_isect.specs.Section.{IsAtRest}
 use Rattle.vt_shard.specs.Shard.{ShardState}
-use Rattle.vt_twin.specs.Twin.{calls_made}
+use Rattle.vt_twin.specs.Twin.{twin_calls_made}
 use Rattle.vt_core.specs.Core.{CoreState, setup_of, history_len}
 use Rattle.vt_recover.specs.Sections.{IsLive}
 
@@ -35,7 +35,7 @@ pub record IsFilterOf {D : Type 0} (k : CoreState D) (durable : ℕ) (b : BloomS
     pub counts : HasCounts b k.bits
     pub mark : b.mark ≤ durable
     pub next : b.next ≤ durable
-    pub made : calls_made b.twin ≤ 3
+    pub made : twin_calls_made b.twin ≤ 3
 
 pub record IsWhole {D : Type 0} (disk : DiskOf D) (k : CoreState D) : Type 0 where
   pub some_arena : 0 < length k.log.layout

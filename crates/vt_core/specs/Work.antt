@@ -6,20 +6,20 @@ use Rattle.vt_base.specs.declared.why.Why.TheVariants.{DiskFault, Stopped}
 use Rattle.vt_disk.specs.Members.{DiskOf}
 use Rattle.vt_twin.specs.declared.step.Step.{Step}
 use Rattle.vt_twin.specs.declared.step.Step.TheVariants.{Done}
-use Rattle.vt_disk.specs.declared.call.CallErr.{CallErr}
-use Rattle.vt_disk.specs.declared.call.CallErr.TheVariants as call_err
-use Rattle.vt_twin.specs.Twin.{calls_made}
-use Rattle.vt_log.specs.Committing.{TakesStep as LogTakesStep}
-use Rattle.vt_log.specs.declared.bad.Progress.{Progress}
-use Rattle.vt_log.specs.declared.bad.Progress.TheVariants.{Idle, Step as LogStep, Durable}
-use Rattle.vt_log.specs.declared.bad.LogErr.{LogErr}
-use Rattle.vt_log.specs.declared.bad.LogErr.TheVariants as log_err
-use Rattle.vt_isect.specs.declared.bad.ShardErr.{ShardErr}
+use Rattle.vt_disk.specs.declared.call.CallError.{CallError}
+use Rattle.vt_disk.specs.declared.call.CallError.TheVariants as call_error
+use Rattle.vt_twin.specs.Twin.{twin_calls_made}
+use Rattle.vt_log.specs.Committing.{LogTakesStep}
+use Rattle.vt_log.specs.declared.error.Progress.{Progress}
+use Rattle.vt_log.specs.declared.error.Progress.TheVariants.{Idle, Step as LogStep, Durable}
+use Rattle.vt_log.specs.declared.error.LogErr.{LogErr}
+use Rattle.vt_log.specs.declared.error.LogErr.TheVariants as log_err
+use Rattle.vt_isect.specs.declared.error.ShardErr.{ShardErr}
 use Rattle.vt_lumps.specs.Lumps.{without_last}
 use Rattle.vt_shard.specs.Shard.{ShardState}
-use Rattle.vt_shard.specs.Writeback.{Begins, HasWork, TakesStep, ReadsFrame, MakesCall}
+use Rattle.vt_shard.specs.Writeback.{BeginsShardWriteback, HasWork, ShardTakesStep, ReadsFrame, ShardMakesCall}
 use Rattle.vt_bloom.specs.Bits.{Filter}
-use Rattle.vt_bloom.specs.Bloom.{BloomState, with_save, Advances as BloomAdvances}
+use Rattle.vt_bloom.specs.Bloom.{BloomState, with_save, BloomAdvances}
 use Rattle.vt_core.specs.declared.event.Out.{Out}
 use Rattle.vt_core.specs.declared.event.Out.TheVariants.{Moved, Nothing, Failed}
 use Rattle.vt_core.specs.Core.{CoreState}
@@ -47,15 +47,15 @@ pub record AdvancesLog {D : Type 0} (disk : DiskOf D) (out : Out) (old new : Cor
 
 -- ---- the saved filter
 
-abbrev pub out_of_save : Result Step CallErr → Out
+abbrev pub out_of_save : Result Step CallError → Out
 out_of_save (Ok step) = Moved
-out_of_save (Err call_err.Fault) = Failed DiskFault
-out_of_save (Err (call_err.Stopped call)) = Failed (Stopped call)
+out_of_save (Err call_error.Fault) = Failed DiskFault
+out_of_save (Err (call_error.Stopped call)) = Failed (Stopped call)
 
 -- the filter as a call finds it: where no save is under way, one of all durable blocks begins
-abbrev pub IsBegun : {D : Type 0} → (bits : Filter) → (durable : ℕ) → (old begun : BloomState D)
+abbrev pub IsSaveBegun : {D : Type 0} → (bits : Filter) → (durable : ℕ) → (old begun : BloomState D)
     → Type 0
-IsBegun bits durable old begun =
+IsSaveBegun bits durable old begun =
     (IsSome old.twin.change × (begun ≡ old))
     ⊎ ((old.twin.change ≡ None) × (old.mark ≢ durable)
     × (begun ≡ with_save (record { filter = bits; mark = durable }) old))
@@ -68,13 +68,13 @@ IsSaved durable b = (b.twin.change ≡ None) × (b.mark ≡ durable)
 pub record Saves {D : Type 0} (bits : Filter) (durable : ℕ) (out : Out) (old new : BloomState D)
     : Type 0 where
   pub begun : BloomState D
-  pub answer : Result Step CallErr
-  pub begins : IsBegun bits durable old begun
-  pub made : calls_made begun.twin ≤ 3
+  pub answer : Result Step CallError
+  pub begins : IsSaveBegun bits durable old begun
+  pub made : twin_calls_made begun.twin ≤ 3
   pub advances : BloomAdvances answer begun new
-  pub done : IfOk answer (λ step. (step ≡ Done) ↔ (calls_made begun.twin ≡ 3))
+  pub done : IfOk answer (λ step. (step ≡ Done) ↔ (twin_calls_made begun.twin ≡ 3))
   pub stopped : (call : ℕ)
-      → (answer ≡ Err (call_err.Stopped call)) ↔ (begun.calls.stopped ≡ Some call)
+      → (answer ≡ Err (call_error.Stopped call)) ↔ (begun.calls.stopped ≡ Some call)
   pub out_is : out ≡ out_of_save answer
 
 abbrev pub SavesOne : {D : Type 0} → (bits : Filter) → (durable : ℕ) → Out
@@ -109,7 +109,7 @@ abbrev pub BeginsWriteback : {D : Type 0} → (durable : ℕ) → Out → (befor
     → Type 0
 BeginsWriteback durable Moved before after =
     (before.writeback ≡ None) × HasWork durable before
-    × Begins durable (max before.section.head.mark durable) before after
+    × BeginsShardWriteback durable (max before.section.head.mark durable) before after
 BeginsWriteback durable Nothing before after =
     (IsSome before.writeback ⊎ ¬ HasWork durable before) × (after ≡ before)
 BeginsWriteback durable out before after = ⊥
@@ -123,8 +123,9 @@ abbrev pub AdvancesWriteback : {D : Type 0} → DiskOf D → Out → (before aft
     → Type 0
 AdvancesWriteback disk out before after =
     ((before.writeback ≡ None) × (out ≡ Nothing) × (after ≡ before))
-    ⊎ (IsSome before.writeback × ((answer : Result Step ShardErr) × TakesStep answer before after
-    × ReadsFrame disk answer before after × MakesCall disk answer before after
+    ⊎ (IsSome before.writeback
+    × ((answer : Result Step ShardErr) × ShardTakesStep answer before after
+    × ReadsFrame disk answer before after × ShardMakesCall disk answer before after
     × (out ≡ out_of_writeback answer)))
 
 -- ---- what is dropped from memory

@@ -4,19 +4,19 @@ ghost use Rattle.std.specs.Prelude.{◌≡◌, ◌≤◌, ◌∷◌, [], ℕ, Is
 ghost use Rattle.vt_bloom.specs.Bloom.{BloomState, HasCounts};
 ghost use Rattle.vt_bloom.specs.Frame.{Covers};
 ghost use Rattle.vt_model.specs.History.{History};
-ghost use Rattle.vt_twin.specs.Twin.{calls_made};
+ghost use Rattle.vt_twin.specs.Twin.{twin_calls_made};
 ghost use Rattle.vt_core.specs.declared.event.Event.{Event};
 ghost use Rattle.vt_core.specs.Saving.{CallsDevice, SavesSoundly, devices_of};
 ghost use Rattle.vt_core.specs.Sound.{IsSoundFilter};
 ghost use Rattle.vt_core.specs.Stands.{scores_of};
-ghost use Rattle.vt_core.specs.Work.{IsBegun, IsSaved, SavesIn, SavesOne, out_of_progress, out_of_save};
+ghost use Rattle.vt_core.specs.Work.{IsSaveBegun, IsSaved, SavesIn, SavesOne, out_of_progress, out_of_save};
 
 use crate::event::Out;
 use crate::laws::crash_gives_a_prefix;
 use crate::store::Core;
 use vt_base::{Scorer, Why};
 use vt_bloom::{Bits, Bloom};
-use vt_disk::{CallErr, Disk};
+use vt_disk::{CallError, Disk};
 use vt_log::{LogErr, Progress};
 use vt_twin::Step;
 
@@ -65,7 +65,7 @@ fn out_of_progress(answer: Result<Progress, LogErr>) -> Out
 /// Makes the next device call of a filter's saves, if there is a filter.
 fn advance_any<D: Disk>(bloom: &mut Option<Bloom<D>>, bits: &Bits, durable: u64) -> Out
     requires counts { (b : BloomState D) → bloom.old ≡ Some b → HasCounts b bits.now }
-    requires made { (b : BloomState D) → bloom.old ≡ Some b → calls_made b.twin ≤ 3 }
+    requires made { (b : BloomState D) → bloom.old ≡ Some b → twin_calls_made b.twin ≤ 3 }
     ensures saves { SavesIn bits.now durable result bloom.old bloom.new }
     ensures sound { (before after : BloomState D) → bloom.old ≡ Some before
         → bloom.new ≡ Some after → SavesSoundly D.Disk bits.now durable before after }
@@ -80,7 +80,7 @@ fn advance_any<D: Disk>(bloom: &mut Option<Bloom<D>>, bits: &Bits, durable: u64)
 /// Begins a save where none is under way and one is due, and makes its next device call.
 fn advance_save<D: Disk>(bloom: &mut Bloom<D>, bits: &Bits, durable: u64) -> Out
     requires counts { HasCounts bloom.old bits.now }
-    requires made { calls_made bloom.old.twin ≤ 3 }
+    requires made { twin_calls_made bloom.old.twin ≤ 3 }
     ensures saves { SavesOne bits.now durable result bloom.old bloom.new }
     ensures sound { SavesSoundly D.Disk bits.now durable bloom.old bloom.new }
     ensures calls { CallsDevice D.Disk result (bloom.old.disk ∷ []) (bloom.new.disk ∷ []) }
@@ -96,7 +96,7 @@ fn advance_save<D: Disk>(bloom: &mut Bloom<D>, bits: &Bits, durable: u64) -> Out
 /// Begins a save where none is under way and one is due. Whether one is under way then.
 fn begin_save<D: Disk>(bloom: &mut Bloom<D>, bits: &Bits, durable: u64) -> bool
     requires { HasCounts bloom.old bits.now }
-    ensures begun { result ≡ true → IsBegun bits.now durable bloom.old bloom.new }
+    ensures begun { result ≡ true → IsSaveBegun bits.now durable bloom.old bloom.new }
     ensures under_way { result ≡ true → IsSome bloom.new.twin.change }
     ensures done { result ≡ false → IsSaved durable bloom.old × (bloom.new ≡ bloom.old) }
     ensures sound { (score : List ℕ → List ℕ) (g : History) → IsTrue D.tells
@@ -114,12 +114,12 @@ fn begin_save<D: Disk>(bloom: &mut Bloom<D>, bits: &Bits, durable: u64) -> bool
 }
 
 /// What a call of a save gives.
-fn out_of_save(answer: Result<Step, CallErr>) -> Out
+fn out_of_save(answer: Result<Step, CallError>) -> Out
     ensures { result ≡ out_of_save answer }
 {
     match answer {
         Ok(_) => Out::Moved,
-        Err(CallErr::Fault) => Out::Failed(Why::DiskFault),
-        Err(CallErr::Stopped(call)) => Out::Failed(Why::Stopped(call)),
+        Err(CallError::Fault) => Out::Failed(Why::DiskFault),
+        Err(CallError::Stopped(call)) => Out::Failed(Why::Stopped(call)),
     }
 }

@@ -101,7 +101,7 @@ impl<D: Disk, S: Scorer> Core<D, S> {
         self.find_on::<Brand>(alloc, key, Blank::new(1))
     }
 
-    /// The same on a new ledger, in which steps are counted in contracts alone (`vt_steps`).
+    /// The same on a new ledger, in which steps are counted in contracts alone (`vt_base`).
     fn find_on<L: Ledger>(
         &mut self,
         alloc: Global,
@@ -116,7 +116,7 @@ impl<D: Disk, S: Scorer> Core<D, S> {
     {
         let shard = self.shard_of(&key.score) as usize;
         let may_have = self.bits.may_have(&key.score);
-        let mut steps = vt_steps::Steps::<L>::new(blank);
+        let mut steps = vt_base::Steps::<L>::new(blank);
         find_block(
             alloc,
             &mut self.log,
@@ -194,7 +194,7 @@ impl<D: Disk, S: Scorer> Core<D, S> {
         self.test_on::<Brand>(alloc, shard, key, block, Blank::new(1))
     }
 
-    /// The same on a new ledger, in which steps are counted in contracts alone (`vt_steps`).
+    /// The same on a new ledger, in which steps are counted in contracts alone (`vt_base`).
     fn test_on<L: Ledger>(
         &mut self,
         alloc: Global,
@@ -217,7 +217,7 @@ impl<D: Disk, S: Scorer> Core<D, S> {
             → slice_get self.new.shards shard ≡ Some s → dirty_info key.now s.index ≡ None }
     {
         let may_have = self.bits.may_have(&key.score);
-        let mut steps = vt_steps::Steps::<L>::new(blank);
+        let mut steps = vt_base::Steps::<L>::new(blank);
         test_write(
             alloc,
             &mut self.log,

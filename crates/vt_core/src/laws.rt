@@ -9,18 +9,18 @@ ghost use Rattle.vt_bloom.specs.Bloom.{BloomState};
 ghost use Rattle.vt_isect.specs.declared.head.Head.{Head};
 ghost use Rattle.vt_part.specs.Layout.{layout_of};
 ghost use Rattle.vt_part.specs.Table.{Table};
-ghost use Rattle.vt_log.specs.Logs.{StandsFor as LogStandsFor};
-ghost use Rattle.vt_log.specs.Sound.{AreImages as AreImagesOf};
+ghost use Rattle.vt_log.specs.Logs.{LogStandsFor};
+ghost use Rattle.vt_log.specs.Sound.{AreImagesOf};
 ghost use Rattle.vt_shard.specs.Shard.{ShardState};
-ghost use Rattle.vt_told.specs.Told.{NamesTwo};
+ghost use Rattle.vt_mount_errors.specs.MountErrors.{NamesTwo};
 ghost use Rattle.vt_core.specs.declared.event.Event.{Event};
 ghost use Rattle.vt_core.specs.declared.event.Out.{Out};
 ghost use Rattle.vt_core.specs.Core.{CoreState, setup_of, devices_of, machine_of};
 ghost use Rattle.vt_core.specs.Crashing.{Act, Lives, LivesMachine, MayTurnInto, Recovers};
-ghost use Rattle.vt_core.specs.Files.{Files, PerDevice, AreImages};
+ghost use Rattle.vt_core.specs.Files.{DeviceFiles, PerDevice, AreImages};
 ghost use Rattle.vt_core.specs.Machine.{Crashes};
 ghost use Rattle.vt_core.specs.Mounting.{EachStands, AllStandFor, IsHeadRead, IsLogOf, IsMarkRead, IsReadAs, IsSetupOf};
-ghost use Rattle.vt_core.specs.Refusals.{IsRefused};
+ghost use Rattle.vt_core.specs.Refusals.{IsRefusedMount};
 ghost use Rattle.vt_core.specs.Sound.{IsSound};
 ghost use Rattle.vt_core.specs.Stands.{ArePartitions, StandsFor, StandForPrefix};
 ghost use Rattle.vt_core.specs.Steps.{KeepsStore, Runs, RunsMachine};
@@ -31,10 +31,10 @@ use vt_disk::Disk;
 /// history that has all durable blocks. The log alone says for which: the sections and the filter
 /// go with each prefix that has them.
 pub fn crash_gives_a_prefix<D: Disk>()
-    ensures prefix { (score : List ℕ → List ℕ) (k : CoreState D) (h : History) (files : Files)
+    ensures prefix { (score : List ℕ → List ℕ) (k : CoreState D) (h : History) (files : DeviceFiles)
         → IsSound score D.Disk k h → AreImages D.Disk (devices_of k) files
         → StandForPrefix score (setup_of k) k.log.tables k.log.durable files h }
-    ensures each { (score : List ℕ → List ℕ) (k : CoreState D) (h : History) (files : Files)
+    ensures each { (score : List ℕ → List ℕ) (k : CoreState D) (h : History) (files : DeviceFiles)
         (n : ℕ) → IsSound score D.Disk k h
         → AreImagesOf D.Disk (devices_of k).sections files.sections
         → AreImagesOf D.Disk (devices_of k).filter files.filter
@@ -149,7 +149,8 @@ pub fn runs_keep_the_store<D: Disk>()
 /// A refusal to mount names two values that differ, whatever the devices hold.
 pub fn refusals_name_two<D: Disk>()
     ensures { (score : List ℕ → List ℕ) (tables : List Table) (devices : PerDevice D)
-        (c : Setup) (bad : MountBad) → IsRefused score D.Disk tables devices c bad → NamesTwo bad }
+        (c : Setup) (bad : MountBad) → IsRefusedMount score D.Disk tables devices c bad
+        → NamesTwo bad }
 {
-    vt_told::refusals_name_two();
+    vt_mount_errors::refusals_name_two();
 }

@@ -6,14 +6,14 @@ ghost use Rattle.vt_base.specs.declared.mount.MountField.{MountField};
 ghost use Rattle.vt_model.specs.History.{History};
 ghost use Rattle.vt_model.specs.Places.{Setup};
 ghost use Rattle.vt_part.specs.Parts.{disk_of, table_of, tables_of};
-ghost use Rattle.vt_part.specs.Table.{end_of};
-ghost use Rattle.vt_log.specs.Log.{IsMounted};
+ghost use Rattle.vt_part.specs.Table.{arenas_end};
+ghost use Rattle.vt_log.specs.Log.{IsMountedLog};
 ghost use Rattle.vt_log.specs.Logs.{arena_count};
 ghost use Rattle.vt_core.specs.Files.{all_of};
-ghost use Rattle.vt_core.specs.Mounting.{devices_in, devices_after, tables_in, IsLogOf, KeepsLimits, LeavesStanding, Mounts};
+ghost use Rattle.vt_core.specs.Mounting.{devices_in, devices_after, tables_in, IsLogOf, KeepsLimits, LeavesStanding, MountsStore};
 ghost use Rattle.vt_core.specs.Opening.{AgreeWith, AreHeld, IsBeside, IsLogFound, IsMountOf, RefusesBeside, TestsHeads, TestsMarks, TestsParts, beside_after, buckets_in_each, with_log};
 ghost use Rattle.vt_recover.specs.Refusals.{CountsRefusal};
-ghost use Rattle.vt_core.specs.Refusals.{IsTally, PassesOrRefuses, Refuses, wrong_head};
+ghost use Rattle.vt_core.specs.Refusals.{IsTally, PassesOrRefuses, RefusesToMount, wrong_head};
 
 use crate::laws::what_is_read_is_a_prefix;
 use crate::store::Core;
@@ -24,13 +24,13 @@ use vt_bloom::{Bits, Bloom};
 use vt_disk::Disk;
 use vt_isect::{Head, Section};
 use vt_log::Log;
+use vt_mount_errors::of_log;
 use vt_part::Part;
 use vt_recover::{
     Devices, close_sections, close_shards, device_of, least_mark, open_filter, open_memory,
     open_sections, read_back,
 };
 use vt_shard::Sizes;
-use vt_told::of_log;
 
 impl<D: Disk, S: Scorer + Drop> Core<D, S> {
     /// Finds the store of these devices. It syncs each of them, finds the log, the sections and the
@@ -53,7 +53,7 @@ impl<D: Disk, S: Scorer + Drop> Core<D, S> {
         scorer: S,
     ) -> Result<Self, (MountBad, Devices<D>)>
         requires many { length devices.parts.items + length devices.sections.items + 1 < 2 ^ 32 }
-        requires rooms { All (λ part. end_of (table_of part) ≤ D.size (disk_of part))
+        requires rooms { All (λ part. arenas_end (table_of part) ≤ D.size (disk_of part))
             devices.parts.items }
         requires some_arena { 0 < arena_count (tables_in devices) }
         requires some_section { 0 < length devices.sections.items }
@@ -62,7 +62,7 @@ impl<D: Disk, S: Scorer + Drop> Core<D, S> {
 
         // The store has the log that is read, and on devices that stand for prefixes of one legal
         // history nothing but a fault and want of memory keeps it from being found.
-        ensures mounts { IfOk result (Mounts S.score_of D.Disk (tables_in devices)
+        ensures mounts { IfOk result (MountsStore S.score_of D.Disk (tables_in devices)
             (devices_in devices) sizes sessions) }
         ensures found { (c : Setup) (h g : History) (base : ℕ) → IsTrue D.tells
             → IsLogOf S.score_of D.Disk (tables_in devices) (devices_in devices) c h g base
@@ -74,7 +74,8 @@ impl<D: Disk, S: Scorer + Drop> Core<D, S> {
             (devices_in devices) (devices_after result) }
 
         // A refusal has its cause, whatever the devices hold, and hands them back.
-        ensures refused { IfErr result (λ refusal. Refuses S.score_of D.Disk (tables_in devices)
+        ensures refused { IfErr result
+            (λ refusal. RefusesToMount S.score_of D.Disk (tables_in devices)
             (devices_in devices) refusal.0 refusal.1) }
     {
         let Devices {
@@ -118,7 +119,7 @@ fn open<D: Disk, S: Scorer + Drop>(
     sessions: u32,
 ) -> Result<Core<D, S>, (MountBad, Devices<D>)>
     requires many { part + length sections.items + 1 < 2 ^ 32 }
-    requires mounted { IsMounted log }
+    requires mounted { IsMountedLog log }
     requires part { part ≡ length log.disks }
     requires some_arena { 0 < length log.layout }
     requires some_section { 0 < length sections.items }

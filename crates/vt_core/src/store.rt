@@ -48,13 +48,13 @@ impl<D: Disk, S: Scorer> Model for Core<D, S> {
 
     ghost use Rattle.std.specs.Prelude.{length};
     ghost use Rattle.vt_core.specs.View.{state_of};
-    ghost use Rattle.vt_recover.specs.Opening.{HasRoom};
+    ghost use Rattle.vt_recover.specs.Opening.{HasRoomForDevices};
     ghost use Rattle.vt_core.specs.Whole.{IsWhole};
 
     ghost view = { state_of };
 
     ghost invariant = { λ k. IsWhole D.Disk (state_of k)
-        × HasRoom (length k.shards.items) k.room };
+        × HasRoomForDevices (length k.shards.items) k.room };
 }
 
 impl<D: Disk, S: Scorer> Core<D, S> {

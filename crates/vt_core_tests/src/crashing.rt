@@ -9,7 +9,7 @@ use std::test::Fail;
 use vt_base::{MountBad, Operation, Sha1Scorer, Why};
 use vt_core::{Core, Event};
 use vt_memdisk::CrashMode;
-use vt_rows::{Rows, Wrong};
+use vt_rows::{RowError, Rows};
 
 // ---- a script
 
@@ -342,7 +342,7 @@ fn see<T: TestStore>(alloc: Global, case: Case, rows: &mut Rows) {
 }
 
 /// The same, of stores on disks in memory.
-fn see_in_memory(alloc: Global, case: Case) -> Result<(), Wrong> {
+fn see_in_memory(alloc: Global, case: Case) -> Result<(), RowError> {
     let mut rows = Rows::new();
     see::<Core<Mem, Sha1Scorer>>(alloc, case, &mut rows);
     rows.all()

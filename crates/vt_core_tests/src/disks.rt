@@ -2,7 +2,7 @@
 
 ghost use Rattle.std.specs.Prelude.{◌≡◌, ◌≤◌, ◌<◌, [], ◌∷◌, IfSome};
 ghost use Rattle.vt_part.specs.Parts.{disk_of, table_of};
-ghost use Rattle.vt_part.specs.Table.{end_of};
+ghost use Rattle.vt_part.specs.Table.{arenas_end};
 
 use std::alloc::Global;
 use vt_disk::Disk;
@@ -253,7 +253,7 @@ pub fn crashed<D: TestDisk>(alloc: Global, disks: Disks<D>, mode: CrashMode) -> 
 
 /// A partition with arenas.
 pub fn mounted_part<D: Disk + Drop>(disk: D) -> Option<Part<D>>
-    ensures { IfSome result (λ part. (end_of (table_of part) ≤ D.size (disk_of part))
+    ensures { IfSome result (λ part. (arenas_end (table_of part) ≤ D.size (disk_of part))
         × (0 < (table_of part).count) × ((table_of part).count ≤ 100)) }
 {
     let Ok(part) = vt_part::mount(disk) else {

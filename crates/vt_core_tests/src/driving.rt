@@ -7,13 +7,13 @@ use crate::disks::{Disks, Fails, Mem, TestDisk, crashed, only, partition, sectio
 use crate::stores::{DATA, TestScorer, TestStore, there};
 use std::alloc::Global;
 use std::test::Fail;
-use vt_answer::{Store, read, write};
 use vt_base::{Operation, Said, Scorer, Sha1Scorer, Why};
 use vt_core::{Core, Event, Out};
 use vt_disk::Disk;
-use vt_drive::{Driven, ask, end, sync};
+use vt_handler::{Store, read, write};
 use vt_memdisk::CrashMode;
-use vt_rows::{Rows, Wrong};
+use vt_requests::{Driven, ask, end, sync};
+use vt_rows::{RowError, Rows};
 
 /// What is done to a store behind its session: its use is ended, or all is synced, by the call for
 /// that or by a request.
@@ -248,9 +248,9 @@ const STOPPED: Why = Why::Stopped(2);
 fn see_stopped<T: Store>(alloc: Global, store: &mut T, rows: &mut Rows) {
     let written = writes(alloc, store, 1);
     rows.is("a block is written", written);
-    let sync = vt_answer::sync(alloc, store);
+    let sync = vt_handler::sync(alloc, store);
     rows.is("the sync that fails", sync == Err(Why::DiskFault));
-    let sync = vt_answer::sync(alloc, store);
+    let sync = vt_handler::sync(alloc, store);
     rows.is("a later sync", sync == Err(STOPPED));
     let write = write(alloc, store, DATA, b"abc");
     rows.is("a later write", write == Err(STOPPED));
@@ -384,7 +384,7 @@ fn see<T: DrivenStore>(alloc: Global, case: Case, rows: &mut Rows) {
 }
 
 /// The same, of stores on disks in memory.
-fn see_in_memory(alloc: Global, case: Case) -> Result<(), Wrong> {
+fn see_in_memory(alloc: Global, case: Case) -> Result<(), RowError> {
     let mut rows = Rows::new();
     see::<Driven<Mem, Sha1Scorer>>(alloc, case, &mut rows);
     rows.all()

@@ -1,5 +1,5 @@
 //! Tests of stores on disks in memory, and of what drives them. They stand in a crate of their own,
-//! so that `vt_core` and `vt_drive` are proved once.
+//! so that `vt_core` and `vt_requests` are proved once.
 #![tactic(auto)]
 
 #[cfg(test)]

@@ -10,7 +10,7 @@ use std::test::Fail;
 use vt_base::{FieldValue, MountBad, MountField, Operation, Place, ShortScorer, Site};
 use vt_core::{Core, Event, Out};
 use vt_memdisk::CrashMode;
-use vt_rows::{Rows, Wrong};
+use vt_rows::{RowError, Rows};
 
 /// The bytes of an arena with room for more blocks than a shard has for their entries.
 const LARGE: u32 = 131_072;
@@ -398,7 +398,7 @@ fn see<T: TestStore>(alloc: Global, case: Case, rows: &mut Rows) {
 }
 
 /// The same, of stores on disks in memory.
-fn see_in_memory(alloc: Global, case: Case) -> Result<(), Wrong> {
+fn see_in_memory(alloc: Global, case: Case) -> Result<(), RowError> {
     let mut rows = Rows::new();
     see::<Core<Mem, ShortScorer>>(alloc, case, &mut rows);
     rows.all()

@@ -13,7 +13,7 @@ use std::alloc::Global;
 use std::marker::Brand;
 use std::sync::ledger::{Blank, Ledger};
 use std::test::Fail;
-use vt_base::{Bytes, Key, Kind, MAX_BLOCK, Scorer, ShortScorer, Why};
+use vt_base::{Bytes, Key, Kind, MAX_BLOCK, Scorer, ShortScorer, Steps, Why};
 use vt_clump::pack;
 use vt_disk::Disk;
 use vt_isect::Section;
@@ -21,7 +21,6 @@ use vt_log::Log;
 use vt_lookup::{Verdict, add_block, find_block, test_write};
 use vt_rows::Rows;
 use vt_shard::Shard;
-use vt_steps::Steps;
 
 /// What the steps are handed, but for the filter. What a test asks is proved for any such parts, which
 /// is much less work than for those of a store, and runs on them.

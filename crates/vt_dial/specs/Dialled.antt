@@ -26,7 +26,7 @@ with_back link (back to first) = more
 with_back link more = more
 
 -- nothing has gone over a link, where it tells that, and no call of it has failed
-pub record IsFresh {L : Type 0} (link : LinkOf L) (l : L) : Type 0 where
+pub record IsFreshLink {L : Type 0} (link : LinkOf L) (l : L) : Type 0 where
   pub given : IsTrue link.tells → link.given l ≡ []
   pub written : IsTrue link.tells → link.written l ≡ []
   pub read_faults : link.read_faults l ≡ 0

@@ -2,7 +2,7 @@
 
 ghost use Rattle.std.specs.Prelude.{◌≡◌, ◌<◌, ◌^◌, ℕ, Bool, IsTrue, IsSome, IfOk, OnOk, OnErr};
 ghost use Rattle.vt_base.specs.Faults.{HasCause};
-ghost use Rattle.vt_dial.specs.Dialled.{Dialled, IsFresh, with_link, with_back};
+ghost use Rattle.vt_dial.specs.Dialled.{Dialled, IsFreshLink, with_link, with_back};
 
 use vt_base::Failed;
 use vt_conf::Address;
@@ -25,7 +25,7 @@ pub trait Dialer {
     /// host can't be dialled.
     fn dial(&mut self, address: &Address) -> Result<Self::Link, Failed>
         ensures host { OnOk result (IsSome address.now.host) }
-        ensures fresh { IfOk result (IsFresh Self.Link.Link) }
+        ensures fresh { IfOk result (IsFreshLink Self.Link.Link) }
         ensures made { OnOk result (IsTrue tells
             → dialled self.new ≡ with_link address.now (dialled self.old)) }
         ensures none { OnErr result (IsTrue tells → dialled self.new ≡ dialled self.old) }

@@ -2,7 +2,7 @@
 
 ghost use Rattle.std.specs.Prelude.{◌≡◌, ◌↔◌, ◌<◌, ◌^◌, IfSome, IsTrue};
 ghost use Rattle.std.specs.Option.{ForSome};
-ghost use Rattle.vt_dial.specs.Dialled.{IsFresh};
+ghost use Rattle.vt_dial.specs.Dialled.{IsFreshLink};
 ghost use Rattle.vt_dial.specs.Places.{waiting_in};
 
 use crate::Dialer;
@@ -18,18 +18,18 @@ pub struct MemDialer {
     port: u16,
     place: Place,
     faults: u64,
-    ghost fresh: { ForSome (waiting_in place) (IsFresh ⟦<MemLink as Link>⟧) },
+    ghost fresh: { ForSome (waiting_in place) (IsFreshLink ⟦<MemLink as Link>⟧) },
     ghost faults_fit: { faults < 2 ^ 64 },
 }
 
 impl MemDialer {
     ghost use Rattle.std.specs.Prelude.{◌≡◌, ◌≢◌, ◌⊎◌, Some, None, MatchOption};
-    ghost use Rattle.vt_dial.specs.Dialled.{IsFresh, back, with_link};
+    ghost use Rattle.vt_dial.specs.Dialled.{IsFreshLink, back, with_link};
     ghost use Rattle.vt_dial.specs.Memory.{dialled_of, dialer_faults, server_of, waiting_of};
 
     /// A server at this host and port, to which this link can be made.
     pub fn new(host: Text, port: u16, link: MemLink) -> Self
-        requires { IsFresh ⟦<MemLink as Link>⟧ link }
+        requires { IsFreshLink ⟦<MemLink as Link>⟧ link }
         ensures server { server_of result ≡ record { host = Some host; port = port } }
         ensures waiting { waiting_of result ≡ Some link }
         ensures faults { dialer_faults result ≡ 0 }
@@ -72,7 +72,7 @@ impl MemDialer {
         ensures link { MatchOption result
             ((address.now ≢ server_of self.old) ⊎ (waiting_of self.old ≡ None))
             (λ link. (address.now ≡ server_of self.old) × (waiting_of self.old ≡ Some link)) }
-        ensures fresh { IfSome result (IsFresh ⟦<MemLink as Link>⟧) }
+        ensures fresh { IfSome result (IsFreshLink ⟦<MemLink as Link>⟧) }
         ensures left { MatchOption result (dialled_of self.new ≡ dialled_of self.old)
             (λ _. dialled_of self.new ≡ with_link address.now (dialled_of self.old)) }
         ensures server { server_of self.new ≡ server_of self.old }
@@ -99,7 +99,7 @@ impl MemDialer {
 impl Dialer for MemDialer {
     ghost use Rattle.std.specs.Prelude.{◌≡◌, ◌≢◌, ◌⊎◌, ◌↔◌, true, None, IsErr, IsSome, IfOk, OnOk, OnErr};
     ghost use Rattle.vt_base.specs.Faults.{HasCause};
-    ghost use Rattle.vt_dial.specs.Dialled.{IsFresh, with_back, with_link};
+    ghost use Rattle.vt_dial.specs.Dialled.{IsFreshLink, with_back, with_link};
     ghost use Rattle.vt_dial.specs.Memory.{dialled_of, dialer_faults, server_of, waiting_of};
 
     type Link = MemLink;
@@ -119,7 +119,7 @@ impl Dialer for MemDialer {
         ensures refused { IsErr result
             ↔ ((address.now ≢ server_of self.old) ⊎ (waiting_of self.old ≡ None)) }
         ensures host { OnOk result (IsSome address.now.host) }
-        ensures fresh { IfOk result (IsFresh ⟦<MemLink as Link>⟧) }
+        ensures fresh { IfOk result (IsFreshLink ⟦<MemLink as Link>⟧) }
         ensures made { OnOk result
             (dialled_of self.new ≡ with_link address.now (dialled_of self.old)) }
         ensures none { OnErr result (dialled_of self.new ≡ dialled_of self.old) }

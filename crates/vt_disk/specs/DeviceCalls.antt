@@ -6,8 +6,8 @@ use Rattle.vt_base.specs.Faults.{HasCause}
 use Rattle.vt_disk.specs.declared.call.Call.{Call}
 use Rattle.vt_disk.specs.declared.call.Call.TheVariants.{Write, Sync}
 use Rattle.vt_disk.specs.declared.call.CallCount.{CallCount}
-use Rattle.vt_disk.specs.declared.call.CallErr.{CallErr}
-use Rattle.vt_disk.specs.declared.call.CallErr.TheVariants.{Fault, Stopped}
+use Rattle.vt_disk.specs.declared.call.CallError.{CallError}
+use Rattle.vt_disk.specs.declared.call.CallError.TheVariants.{Fault, Stopped}
 use Rattle.vt_disk.specs.Calls.{WritesAt, MadeCalls, IsSynced}
 use Rattle.vt_disk.specs.Disk.{Touches, with_bytes}
 use Rattle.vt_disk.specs.Members.{DiskOf}
@@ -37,8 +37,8 @@ bytes_after (write start chunk) file = with_bytes start chunk file
 bytes_after sync file = file
 
 -- behind a call the count is one more; one that failed is the last, by its number
-abbrev pub counted : CallCount → CallCount
-counted calls = record calls { made = one_more calls.made }
+abbrev pub call_counted : CallCount → CallCount
+call_counted calls = record calls { made = one_more calls.made }
 
 abbrev pub stopped_at : CallCount → CallCount
 stopped_at calls = record { made = one_more calls.made; stopped = Some calls.made }
@@ -48,7 +48,7 @@ stopped_at calls = record { made = one_more calls.made; stopped = Some calls.mad
 pub record CallMade {D T E : Type 0} (disk : DiskOf D) (call : DeviceCall) (result : Result T E)
     (old new : CallCount) (before after : D) : Type 0 where
   pub runs : old.stopped ≡ None
-  pub counts : MatchResult result (λ _. new ≡ counted old) (λ _. new ≡ stopped_at old)
+  pub counts : MatchResult result (λ _. new ≡ call_counted old) (λ _. new ≡ stopped_at old)
   pub written : OnOk result (IsTrue disk.tells
       → disk.bytes after ≡ bytes_after call (disk.bytes before))
   pub settled : OnOk result (call ≡ sync → IsSynced disk after)
@@ -57,6 +57,6 @@ pub record CallMade {D T E : Type 0} (disk : DiskOf D) (call : DeviceCall) (resu
   pub cause : HasCause result (disk.faults before) (disk.faults after)
 
 -- the answer tells of a fault of the disk in this call
-abbrev pub is_fault : CallErr → Bool
-is_fault Fault = true
-is_fault (Stopped n) = false
+abbrev pub is_call_fault : CallError → Bool
+is_call_fault Fault = true
+is_call_fault (Stopped n) = false

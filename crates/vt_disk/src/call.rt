@@ -20,7 +20,7 @@ pub enum Call<'a> {
 
 /// Why a step made no device call that succeeded.
 #[derive(Clone, Copy, Debug, PartialEq, Eq)]
-pub enum CallErr {
+pub enum CallError {
     /// Its device call failed, and the device's count of faults rose.
     Fault,
     /// The device call of this number, a write or a sync, has failed earlier. The calls are those

@@ -8,7 +8,7 @@ mod disk;
 mod laws;
 mod region;
 
-pub use call::{Call, CallCount, CallErr};
+pub use call::{Call, CallCount, CallError};
 pub use disk::Disk;
 pub use laws::moments_within_calls;
 pub use region::Region;

@@ -6,8 +6,8 @@ use crate::disks::{FailingDisk, Made, NEVER, left_in, read, write};
 use std::alloc::Global;
 use std::test::Fail;
 use vt_base::Score;
-use vt_bloom::{Bits, Bloom, BloomBad, Field, exponent, format, mount, positions};
-use vt_disk::{CallErr, Disk};
+use vt_bloom::{Bits, Bloom, BloomError, Field, exponent, format, mount, positions};
+use vt_disk::{CallError, Disk};
 use vt_memdisk::CrashMode;
 use vt_rows::Rows;
 use vt_twin::Step;
@@ -31,7 +31,7 @@ const B: Score = Score([
 ]);
 
 /// Makes a disk a filter of 8,192 bytes and 3 bits a score.
-fn format_least<D: Disk>(alloc: Global, disk: &mut D) -> Result<(), BloomBad> {
+fn format_least<D: Disk>(alloc: Global, disk: &mut D) -> Result<(), BloomError> {
     format(alloc, disk, 8192, 3)
 }
 
@@ -49,7 +49,7 @@ fn may_have(bits: &Bits) -> (bool, bool) {
 }
 
 /// What the filter of a disk tells, or why the disk isn't mounted.
-fn mounted<D: Disk + Drop>(alloc: Global, disk: D) -> Result<Told, BloomBad> {
+fn mounted<D: Disk + Drop>(alloc: Global, disk: D) -> Result<Told, BloomError> {
     match mount(alloc, disk) {
         Ok((bloom, bits)) => Ok(told(&bloom, &bits)),
         Err((bad, _disk)) => Err(bad),
@@ -60,14 +60,14 @@ fn mounted<D: Disk + Drop>(alloc: Global, disk: D) -> Result<Told, BloomBad> {
 /// is much less work than for one on a device.
 trait Saves {
     /// Makes one device call of the save: None where none is under way.
-    fn step(&mut self) -> Option<Result<Step, CallErr>>;
+    fn step(&mut self) -> Option<Result<Step, CallError>>;
 
     /// Whether a save is under way, the number of the call that stopped it, and the mark.
     fn standing(&self) -> (bool, Option<u64>, u64);
 }
 
 impl<D: Disk> Saves for Bloom<D> {
-    fn step(&mut self) -> Option<Result<Step, CallErr>> {
+    fn step(&mut self) -> Option<Result<Step, CallError>> {
         if !self.saving() {
             return None;
         }
@@ -80,7 +80,7 @@ impl<D: Disk> Saves for Bloom<D> {
 }
 
 /// Makes so many device calls and one further. None where one before that doesn't give More.
-fn step_after<F: Saves>(filter: &mut F, calls: u64) -> Option<Result<Step, CallErr>> {
+fn step_after<F: Saves>(filter: &mut F, calls: u64) -> Option<Result<Step, CallError>> {
     for _ in 0..calls {
         if filter.step() != Some(Ok(Step::More)) {
             return None;
@@ -90,9 +90,9 @@ fn step_after<F: Saves>(filter: &mut F, calls: u64) -> Option<Result<Step, CallE
 }
 
 /// What comes of a save that ends with this call: the answer to it, and how the save stands then.
-fn end(call: u64, fails: bool) -> (Option<Result<Step, CallErr>>, (bool, Option<u64>, u64)) {
+fn end(call: u64, fails: bool) -> (Option<Result<Step, CallError>>, (bool, Option<u64>, u64)) {
     if fails {
-        (Some(Err(CallErr::Fault)), (true, Some(call), 0))
+        (Some(Err(CallError::Fault)), (true, Some(call), 0))
     } else if call < 3 {
         (Some(Ok(Step::More)), (true, None, 0))
     } else {
@@ -106,7 +106,7 @@ fn stop<F: Saves>(rows: &mut Rows, row: usize, filter: &mut F, call: u64, fails:
     let last = step_after(filter, call);
     rows.nth(row, "the answer to the last call", last == answer);
     if fails {
-        let is_stopped = filter.step() == Some(Err(CallErr::Stopped(call)));
+        let is_stopped = filter.step() == Some(Err(CallError::Stopped(call)));
         rows.nth(row, "the answer behind a call that failed", is_stopped);
     }
     let stands = filter.standing() == standing;
@@ -305,7 +305,7 @@ fn a_save_is_stopped_anywhere(rt: HostRuntime) -> Result<(), Fail> {
 fn mounts<D: FailingDisk>(
     alloc: Global,
     (len, failing_call, start): (u64, u64, &[u8; 8]),
-    wanted: Result<Told, BloomBad>,
+    wanted: Result<Told, BloomError>,
 ) -> bool {
     let Some(mut disk) = D::failing_at(alloc, len, &[failing_call]) else {
         return false;
@@ -313,13 +313,13 @@ fn mounts<D: FailingDisk>(
     write(&mut disk, 0, start) == Some(Ok(())) && mounted(alloc, disk) == wanted
 }
 
-const TOO_SMALL: BloomBad = BloomBad::TooSmall {
+const TOO_SMALL: BloomError = BloomError::TooSmall {
     len: 40_959,
     need: LEN,
 };
 
-fn torn(field: Field, found: u64, want: u64) -> BloomBad {
-    BloomBad::Torn { field, found, want }
+fn torn(field: Field, found: u64, want: u64) -> BloomError {
+    BloomError::Torn { field, found, want }
 }
 
 #[test]
@@ -328,10 +328,15 @@ fn the_first_fault_is_told(rt: HostRuntime) -> Result<(), Fail> {
     // The length says how large the filter is, and not the field.
     let table = [
         (40_959, NEVER, b"\0\0\0\0\0\0\0\0", Err(TOO_SMALL)),
-        (LEN, 1, b"\0\0\0\0\0\0\0\0", Err(BloomBad::Fault)),
-        (LEN, 2, b"\0\0\0\0\0\0\0\0", Err(BloomBad::Fault)),
-        (LEN, 3, b"\0\0\0\0\0\0\0\0", Err(BloomBad::Fault)),
-        (LEN, NEVER, b"\0\0\0\0\0\0\0\0", Err(BloomBad::NotFormatted)),
+        (LEN, 1, b"\0\0\0\0\0\0\0\0", Err(BloomError::Fault)),
+        (LEN, 2, b"\0\0\0\0\0\0\0\0", Err(BloomError::Fault)),
+        (LEN, 3, b"\0\0\0\0\0\0\0\0", Err(BloomError::Fault)),
+        (
+            LEN,
+            NEVER,
+            b"\0\0\0\0\0\0\0\0",
+            Err(BloomError::NotFormatted),
+        ),
         (LEN, NEVER, b"VBLM\0\0\0\0", Err(torn(Field::Version, 0, 1))),
         (LEN, NEVER, b"VBLM\0\x01\0\0", Err(torn(Field::M, 0, 16))),
         (
@@ -367,7 +372,7 @@ fn answers<D: FailingDisk>(
     alloc: Global,
     len: u64,
     failing_call: u64,
-    answer: Result<(), BloomBad>,
+    answer: Result<(), BloomError>,
 ) -> bool {
     match D::failing_at(alloc, len, &[failing_call]) {
         Some(mut disk) => format_least(alloc, &mut disk) == answer,
@@ -381,9 +386,9 @@ fn formatting_is_refused(rt: HostRuntime) -> Result<(), Fail> {
     let table = [
         (40_959, NEVER, Err(TOO_SMALL)),
         (57_344, NEVER, Err(torn(Field::M, 16, 17))),
-        (LEN, 0, Err(BloomBad::Fault)),
-        (LEN, 1, Err(BloomBad::Fault)),
-        (LEN, 2, Err(BloomBad::Fault)),
+        (LEN, 0, Err(BloomError::Fault)),
+        (LEN, 1, Err(BloomError::Fault)),
+        (LEN, 2, Err(BloomError::Fault)),
         (LEN, 3, Ok(())),
     ];
     for (row, (len, failing_call, answer)) in table.iter().enumerate() {

@@ -134,7 +134,7 @@ fn out_of_order(entry: u16, count: u16) -> BucketBad {
 /// notes whether the refusal is the row's.
 fn see_refused(rows: &mut Rows, table: &[(usize, u8, BucketBad)]) {
     let mut frame = [0xee; FRAME_LEN];
-    vt_fields::put(&mut frame, 0, &SPELLED);
+    vt_base::fields::put(&mut frame, 0, &SPELLED);
     for (row, (place, byte, bad)) in table.iter().enumerate() {
         if let Some(found) = frame.get_mut(*place) {
             *found = *byte;

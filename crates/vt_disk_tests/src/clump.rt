@@ -53,8 +53,8 @@ fn told(clump: Clump, block: &[u8]) -> Told {
 #[test]
 fn a_clump_is_read_whatever_its_creator_and_what_follows(rt: HostRuntime) -> Result<(), Fail> {
     let mut bytes = [0xee; 50];
-    vt_fields::put(&mut bytes, 0, &CLUMP);
-    vt_fields::put(&mut bytes, 30, b"\x01\x02\x03\x04\x65\x80\x00\x00");
+    vt_base::fields::put(&mut bytes, 0, &CLUMP);
+    vt_base::fields::put(&mut bytes, 30, b"\x01\x02\x03\x04\x65\x80\x00\x00");
     let found = told(unpack(rt.alloc(), &bytes, &Sha1Scorer)?, b"abc");
     let mut rows = Rows::new();
     rows.is(
@@ -157,7 +157,7 @@ fn refusals_come_in_their_order(rt: HostRuntime) -> Result<(), Fail> {
 #[test]
 fn a_clump_that_is_cut_or_empty_is_refused(rt: HostRuntime) -> Result<(), Fail> {
     let mut empty = CLUMP;
-    vt_fields::put(&mut empty, 5, &[0; 4]);
+    vt_base::fields::put(&mut empty, 5, &[0; 4]);
     let is_short = is_refused(rt.alloc(), &CLUMP[..37], ClumpBad::Short);
     let is_empty = is_refused(rt.alloc(), &empty, bad_size(1, 0));
     let mut rows = Rows::new();

@@ -5,8 +5,7 @@ use std::alloc::Global;
 use std::test::Fail;
 use vt_base::Text;
 use vt_disk::Disk;
-use vt_memparts::{Failing, MakesDisks, MemParts};
-use vt_parts::Parts;
+use vt_partitions::{Failing, MakesDisks, MemParts, Parts};
 use vt_rows::Rows;
 
 /// Whether the partition of this name isn't handed out.

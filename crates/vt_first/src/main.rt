@@ -7,10 +7,10 @@ ghost use Rattle.std.specs.Prelude.{◌≡◌, [], IsTrue};
 use std::alloc::Global;
 use std::process::ExitCode;
 use vt_alone::serve_store;
-use vt_answer::{Client, Streams};
 use vt_base::Sha1Scorer;
-use vt_conf::{block_room, entry_room};
-use vt_fresh::{Shape, fresh_store};
+use vt_conf::{cached_blocks, entry_room};
+use vt_empty::{Shape, fresh_store};
+use vt_handler::{Client, Streams};
 use vt_host::{StdClock, StdSink, StdSource};
 use vt_out::Clock;
 use vt_session::Ended;
@@ -48,7 +48,7 @@ fn serve<C: Client>(alloc: Global, now: u32, client: &mut C) -> Ended
         (C.sent client.old ≡ []) × (C.written client.old ≡ []) }
 {
     let sizes = Sizes {
-        lumps: block_room(MEM, SHAPE.sections),
+        lumps: cached_blocks(MEM, SHAPE.sections),
         clean: entry_room(MEM, SHAPE.sections),
     };
     match fresh_store(alloc, &SHAPE, sizes, 1, Sha1Scorer) {

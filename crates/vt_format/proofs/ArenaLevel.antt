@@ -15,12 +15,12 @@ use Rattle.vt_log.specs.Logs.{arena_count}
 use Rattle.vt_part.specs.declared.part.Part.{Part}
 use Rattle.vt_part.specs.Parts.{disk_of, table_of, tables_of}
 use Rattle.vt_part.specs.Table.{Table}
-use Rattle.vt_parts.specs.Parts.{Standing, there, StaysThere}
+use Rattle.vt_partitions.specs.Parts.{Standing, there, StaysThere}
 use Rattle.vt_format.specs.declared.index.Index.{Index}
-use Rattle.vt_format.specs.declared.index.IndexBad.{IndexBad}
-use Rattle.vt_format.specs.declared.index.IndexBad.TheVariants.{Fault, Refused, Stopped}
-use Rattle.vt_format.specs.Index.{AreLeft, ArePutToUse, Fails, FindsFault, IndexesArenas, IsLeft, IsQuiet, StopsIndex, LeavesThere, files_behind}
-use Rattle.vt_format.specs.Opening.{FindsArenas, IsOpenedAs, RefusesArenas, RefusesDisk}
+use Rattle.vt_format.specs.declared.index.IndexError.{IndexError}
+use Rattle.vt_format.specs.declared.index.IndexError.TheVariants.{Fault, Refused, Stopped}
+use Rattle.vt_format.specs.Index.{AreArenasLeft, ArePutToUse, IndexFails, FindsFault, IndexesArenas, IsPartLeft, HasNoFault, StopsIndex, LeavesThere, files_behind}
+use Rattle.vt_format.specs.Opening.{FindsArenas, IsOpenedAs, RefusesArenaPart, RefusesDisk}
 use Rattle.vt_format.proofs.ArenaLevels.{as_many, disks_more, finds_among, front_left, last_left, left_part, stays_part}
 use Rattle.vt_format.proofs.Failing.{failed_here, later}
 use Rattle.vt_format.proofs.Finding.{finds_arenas}
@@ -29,7 +29,7 @@ use Rattle.vt_format.proofs.Rounds.{Round, again, new_is, old_is, round}
 use Rattle.vt_format.proofs.SectionLevel.{all_stay, leaves_failed, read_leaves, read_stays, stays_same}
 
 -- disks that weren't called
-pub left_same : {D : Type 0} (disk : DiskOf D) (r : Result Index IndexBad) (ds : List D) → AreLeft disk r ds ds
+pub left_same : {D : Type 0} (disk : DiskOf D) (r : Result Index IndexError) (ds : List D) → AreArenasLeft disk r ds ds
 left_same {D = D} disk r ds = record {
   many = refl;
   each = λ i a b at_a at_b.
@@ -61,8 +61,8 @@ module _ {D : Type 0} (disk : DiskOf D) (told : Type 0) (conf : Conf) (file : Pa
 
   module _ (s1 s3 : List ℕ → Standing D) (f1 f3 : ℕ) (first : f1 ≡ f0) (last : f3 ≡ f1) (d e : D) (it : told → Round file.name s0 s1 s1 s3 d e) where
     -- it is refused
-    pub arenas_refused_here : (bad : IndexBad) → OnlyReads disk 1 d e
-        → RefusesDisk disk number (RefusesArenas disk number (arena_count (tables_of ps)) d) bad d e
+    pub arenas_refused_here : (bad : IndexError) → OnlyReads disk 1 d e
+        → RefusesDisk disk number (RefusesArenaPart disk number (arena_count (tables_of ps)) d) bad d e
         → IndexesArenas disk told conf (file ∷ rest) s0 s3 f0 f3 ps ps (Err bad)
     arenas_refused_here (Fault part) reads refused = record {
       used = tt;
@@ -71,7 +71,7 @@ module _ {D : Type 0} (disk : DiskOf D) (told : Type 0) (conf : Conf) (file : Pa
       sections = tt;
       found = λ yes tells. tt;
       differs = tt;
-      cause = inr (subst (λ (p : Option ℕ). Fails disk told (length ps) ((file ∷ rest) ++ files_behind conf) s0 s3 f0 f3 (Fault p))
+      cause = inr (subst (λ (p : Option ℕ). IndexFails disk told (length ps) ((file ∷ rest) ++ files_behind conf) s0 s3 f0 f3 (Fault p))
           (sym refused.0)
           (inr (
             last ∙ first,
@@ -91,7 +91,7 @@ module _ {D : Type 0} (disk : DiskOf D) (told : Type 0) (conf : Conf) (file : Pa
       found = λ yes tells. ⊎_elim (λ memory. inl memory) (λ why. inr (
         d,
         (it yes).was,
-        inl (bad, subst (λ (k : ℕ). RefusesArenas disk k (arena_count (tables_of ps)) d bad) (number_is ∙ tables_many) why, refl),
+        inl (bad, subst (λ (k : ℕ). RefusesArenaPart disk k (arena_count (tables_of ps)) d bad) (number_is ∙ tables_many) why, refl),
       )) (refused.2 tells);
       differs = refused.0;
       cause = inr (last ∙ first);
@@ -129,26 +129,26 @@ module _ {D : Type 0} (disk : DiskOf D) (told : Type 0) (conf : Conf) (file : Pa
   -- it is opened, and the others behind it
   module _ (s1 s2 s3 : List ℕ → Standing D) (f1 f2 f3 : ℕ) (first : f1 ≡ f0) (last : f3 ≡ f2) (d e : D) (it : told → Round file.name s0 s1 s2 s3 d e)
       (p q : Part D) (qs : List (Part D)) (opened : IsOpenedAs disk (arena_count (tables_of ps)) d p) (e_is : e ≡ disk_of q)
-      (r : Result Index IndexBad)
+      (r : Result Index IndexError)
       (inner : IndexesArenas disk told conf rest s1 s2 f1 f2 (ps ++ p ∷ []) (qs ++ q ∷ []) r) where
     many : length (ps ++ p ∷ []) ≡ length ps + 1
     many = length-append ps (p ∷ [])
 
-    lefts : AreLeft disk r (disks_of ps ++ disk_of p ∷ []) (disks_of qs ++ disk_of q ∷ [])
-    lefts = subst (λ (ds : List D). AreLeft disk r ds (disks_of qs ++ disk_of q ∷ [])) (disks_more ps p)
-        (subst (λ (ds : List D). AreLeft disk r (disks_of (ps ++ p ∷ [])) ds) (disks_more qs q) inner.left)
+    lefts : AreArenasLeft disk r (disks_of ps ++ disk_of p ∷ []) (disks_of qs ++ disk_of q ∷ [])
+    lefts = subst (λ (ds : List D). AreArenasLeft disk r ds (disks_of qs ++ disk_of q ∷ [])) (disks_more ps p)
+        (subst (λ (ds : List D). AreArenasLeft disk r (disks_of (ps ++ p ∷ [])) ds) (disks_more qs q) inner.left)
 
     as_many_parts : length (disks_of qs) ≡ length (disks_of ps)
     as_many_parts = as_many disk r (disks_of ps) (disks_of qs) (disk_of p) (disk_of q) lefts
 
-    own : StaysThere disk (there (disk_of p)) (there (disk_of q)) × (IsQuiet r → disk.faults (disk_of q) ≡ disk.faults (disk_of p))
+    own : StaysThere disk (there (disk_of p)) (there (disk_of q)) × (HasNoFault r → disk.faults (disk_of q) ≡ disk.faults (disk_of p))
     own = last_left disk r (disks_of ps) (disks_of qs) (disk_of p) (disk_of q) lefts
 
     stays_e : StaysThere disk (there d) (there e)
     stays_e = subst (λ (x : D). StaysThere disk (there d) (there x)) (sym e_is) (stays_part disk (arena_count (tables_of ps)) d p q opened own.0)
 
-    left_e : IsLeft disk r d e
-    left_e = subst (λ (x : D). IsLeft disk r d x) (sym e_is) (left_part disk (arena_count (tables_of ps)) d p q opened r own.0 own.1)
+    left_e : IsPartLeft disk r d e
+    left_e = subst (λ (x : D). IsPartLeft disk r d x) (sym e_is) (left_part disk (arena_count (tables_of ps)) d p q opened r own.0 own.1)
 
     is_there : told → s3 file.name ≡ there e
     is_there tells = again file.name s0 s1 s2 s3 d e (it tells) (LeavesThere disk r) (leaves_becomes disk r) (inner.back tells file.name)
@@ -175,13 +175,13 @@ module _ {D : Type 0} (disk : DiskOf D) (told : Type 0) (conf : Conf) (file : Pa
       left = front_left disk r (disks_of ps) (disks_of qs) (disk_of p) (disk_of q) lefts;
     }
       where
-        used : (r : Result Index IndexBad) → IfOk r (λ (it : Index). told → IsTrue disk.tells → ArePutToUse disk s1 s2 0 it.buckets conf.sections.items)
+        used : (r : Result Index IndexError) → IfOk r (λ (it : Index). told → IsTrue disk.tells → ArePutToUse disk s1 s2 0 it.buckets conf.sections.items)
             → IfOk r (λ (it : Index). told → IsTrue disk.tells → ArePutToUse disk s0 s3 0 it.buckets conf.sections.items)
         used (Err bad) behind = tt
         used (Ok index) behind = λ yes tells.
             put_rest disk s0 s1 s2 s3 (was_there yes) (becomes_there yes) 0 index.buckets conf.sections.items (behind yes tells)
 
-        stopped : (r : Result Index IndexBad) → IfErr r (λ bad. told → IsTrue disk.tells
+        stopped : (r : Result Index IndexError) → IfErr r (λ bad. told → IsTrue disk.tells
             → StopsIndex disk s1 s2 0 inner.total (length conf.arenas.items) conf.sections.items bad)
             → IfErr r (λ bad. told → IsTrue disk.tells → StopsIndex disk s0 s3 0 inner.total (length conf.arenas.items) conf.sections.items bad)
         stopped (Ok index) behind = tt
@@ -211,20 +211,20 @@ module _ {D : Type 0} (disk : DiskOf D) (told : Type 0) (conf : Conf) (file : Pa
           ),
         )
 
-        none : (r : Result Index IndexBad) → OnOk r (f2 ≡ f1) → OnOk r (f3 ≡ f0)
+        none : (r : Result Index IndexError) → OnOk r (f2 ≡ f1) → OnOk r (f3 ≡ f0)
         none (Ok index) same = last ∙ same ∙ first
         none (Err bad) same = tt
 
-        cause : (r : Result Index IndexBad)
+        cause : (r : Result Index IndexError)
             → IfErr r (λ bad. ((f2 ≡ f1) × FindsFault disk (disks_of (ps ++ p ∷ [])) (disks_of (qs ++ q ∷ [])) bad)
-            ⊎ Fails disk told (length (ps ++ p ∷ [])) (rest ++ files_behind conf) s1 s2 f1 f2 bad)
+            ⊎ IndexFails disk told (length (ps ++ p ∷ [])) (rest ++ files_behind conf) s1 s2 f1 f2 bad)
             → IfErr r (λ bad. ((f3 ≡ f0) × FindsFault disk (disks_of ps) (disks_of qs) bad)
-            ⊎ Fails disk told (length ps) ((file ∷ rest) ++ files_behind conf) s0 s3 f0 f3 bad)
+            ⊎ IndexFails disk told (length ps) ((file ∷ rest) ++ files_behind conf) s0 s3 f0 f3 bad)
         cause (Ok index) why = tt
         cause (Err bad) why = ⊎_elim
             (λ here. ⊎_elim
             (λ before. inl (last ∙ here.0 ∙ first, before))
-            (λ this. inr (subst (λ (b : IndexBad). Fails disk told (length ps) ((file ∷ rest) ++ files_behind conf) s0 s3 f0 f3 b) (sym this.0) (
+            (λ this. inr (subst (λ (b : IndexError). IndexFails disk told (length ps) ((file ∷ rest) ++ files_behind conf) s0 s3 f0 f3 b) (sym this.0) (
               last ∙ here.0 ∙ first,
               number,
               failed_here disk told (length ps) file (rest ++ files_behind conf) s0 s3 d (disk_of q)
@@ -236,5 +236,5 @@ module _ {D : Type 0} (disk : DiskOf D) (told : Type 0) (conf : Conf) (file : Pa
             (subst (λ (ds : List D). FindsFault disk ds (disks_of qs ++ disk_of q ∷ []) bad) (disks_more ps p)
             (subst (λ (ds : List D). FindsFault disk (disks_of (ps ++ p ∷ [])) ds bad) (disks_more qs q) here.1))))
             (λ behind. inr (later disk told (length ps) file (rest ++ files_behind conf) s0 s1 s2 s3 was_there becomes_there bad f0 f1 f2 f3 first last
-            (subst (λ (k : ℕ). Fails disk told k (rest ++ files_behind conf) s1 s2 f1 f2 bad) many behind)))
+            (subst (λ (k : ℕ). IndexFails disk told k (rest ++ files_behind conf) s1 s2 f1 f2 bad) many behind)))
             why

@@ -10,11 +10,11 @@ use Rattle.vt_log.specs.Log.{disks_of}
 use Rattle.vt_log.proofs.Lists.{slice_get_left}
 use Rattle.vt_part.specs.declared.part.Part.{Part}
 use Rattle.vt_part.specs.Parts.{disk_of}
-use Rattle.vt_parts.specs.Parts.{there, StaysThere}
+use Rattle.vt_partitions.specs.Parts.{there, StaysThere}
 use Rattle.vt_format.specs.declared.index.Index.{Index}
-use Rattle.vt_format.specs.declared.index.IndexBad.{IndexBad}
-use Rattle.vt_format.specs.declared.index.IndexBad.TheVariants.{Fault, Refused, Stopped}
-use Rattle.vt_format.specs.Index.{AreLeft, FindsFault, IsLeft, IsQuiet}
+use Rattle.vt_format.specs.declared.index.IndexError.{IndexError}
+use Rattle.vt_format.specs.declared.index.IndexError.TheVariants.{Fault, Refused, Stopped}
+use Rattle.vt_format.specs.Index.{AreArenasLeft, FindsFault, IsPartLeft, HasNoFault}
 use Rattle.vt_format.specs.Opening.{IsOpenedAs}
 use Rattle.vt_format.proofs.Levels.{stays_read}
 use Rattle.vt_format.proofs.Opened.{front_get, last_get, same_fronts}
@@ -27,25 +27,25 @@ pub stays_on : {D : Type 0} (disk : DiskOf D) (a b c : D) → StaysThere disk (t
     → StaysThere disk (there a) (there c)
 stays_on disk a b c first then_ = (then_.0 ∙ first.0, then_.1 ∙ first.1, λ file left. first.2 file (then_.2 file left))
 
-module _ {D : Type 0} (disk : DiskOf D) (r : Result Index IndexBad) (olds news : List D) (old new : D)
-    (it : AreLeft disk r (olds ++ old ∷ []) (news ++ new ∷ [])) where
+module _ {D : Type 0} (disk : DiskOf D) (r : Result Index IndexError) (olds news : List D) (old new : D)
+    (it : AreArenasLeft disk r (olds ++ old ∷ []) (news ++ new ∷ [])) where
   pub as_many : length news ≡ length olds
   as_many = same_fronts olds news old new it.many
 
   last_new : slice_get (news ++ new ∷ []) (length olds) ≡ Some new
   last_new = ap (slice_get (news ++ new ∷ [])) (sym as_many) ∙ last_get news new
 
-  pub front_left : AreLeft disk r olds news
+  pub front_left : AreArenasLeft disk r olds news
   front_left = record {
     many = as_many;
     each = λ i a b at_a at_b. it.each i a b (front_get olds old i a at_a) (front_get news new i b at_b);
   }
 
-  pub last_left : StaysThere disk (there old) (there new) × (IsQuiet r → disk.faults new ≡ disk.faults old)
+  pub last_left : StaysThere disk (there old) (there new) × (HasNoFault r → disk.faults new ≡ disk.faults old)
   last_left = it.each (length olds) old new (last_get olds old) last_new
 
 -- a fault by which the log is found: of one that was open before, or of this one
-pub finds_among : {D : Type 0} (disk : DiskOf D) (olds news : List D) (old new : D) → length news ≡ length olds → (bad : IndexBad)
+pub finds_among : {D : Type 0} (disk : DiskOf D) (olds news : List D) (old new : D) → length news ≡ length olds → (bad : IndexError)
     → FindsFault disk (olds ++ old ∷ []) (news ++ new ∷ []) bad
     → FindsFault disk olds news bad ⊎ ((bad ≡ Fault None) × HasRisen (disk.faults old) (disk.faults new))
 finds_among {D = D} disk olds news old new many (Fault None) it = ⊎_elim
@@ -73,8 +73,8 @@ module _ {D : Type 0} (disk : DiskOf D) (before : ℕ) (d : D) (p q : Part D) (o
   pub stays_part : StaysThere disk (there (disk_of p)) (there (disk_of q)) → StaysThere disk (there d) (there (disk_of q))
   stays_part stays = stays_on disk d (disk_of p) (disk_of q) (stays_read disk 1 d (disk_of p) opened.reads) stays
 
-  pub left_part : (r : Result Index IndexBad) → StaysThere disk (there (disk_of p)) (there (disk_of q))
-      → (IsQuiet r → disk.faults (disk_of q) ≡ disk.faults (disk_of p)) → IsLeft disk r d (disk_of q)
+  pub left_part : (r : Result Index IndexError) → StaysThere disk (there (disk_of p)) (there (disk_of q))
+      → (HasNoFault r → disk.faults (disk_of q) ≡ disk.faults (disk_of p)) → IsPartLeft disk r d (disk_of q)
   left_part r stays quiet = record {
     size = stays.0 ∙ opened.reads.size;
     unwritten = λ yes. stays_part stays;

@@ -8,7 +8,7 @@ use Rattle.vt_disk.specs.Calls.{MadeCalls}
 use Rattle.vt_disk.specs.Members.{DiskOf}
 use Rattle.vt_isect.specs.Filling.{with_buckets}
 use Rattle.vt_isect.specs.Section.{SectionState}
-use Rattle.vt_isect.specs.Sound.{DiskHolds, Known, nothing_known}
+use Rattle.vt_isect.specs.Sound.{DiskHolds, KnownBuckets, nothing_known}
 use Rattle.vt_format.specs.Usage.{cleared}
 use Rattle.vt_format.proofs.Heads.{Forgets}
 
@@ -38,15 +38,15 @@ more piece all =
 -- What was known of the disk still is, whatever is known of the buckets that are being cleared.
 pub still_sound : {D : Type 0} (disk : DiskOf D) (forget : Forgets disk) (piece first count : ℕ) (old u v : SectionState D)
     → HasCleared disk piece old u
-    → ((known : Known) → IsTrue disk.tells → DiskHolds disk u known → DiskHolds disk v (with_buckets first count None known))
+    → ((known : KnownBuckets) → IsTrue disk.tells → DiskHolds disk u known → DiskHolds disk v (with_buckets first count None known))
     → IsTrue disk.tells → DiskHolds disk old nothing_known → DiskHolds disk v nothing_known
 still_sound disk forget piece first count old u v it others told sound =
-    let known : Known = cleared old.head.first (up_to piece old.buckets) in
+    let known : KnownBuckets = cleared old.head.first (up_to piece old.buckets) in
     forget v (with_buckets first count None known) nothing_known (λ n entries is. absurd (cc)) (others known told (it.holds told sound))
 
 pub one_more : {D : Type 0} (disk : DiskOf D) (forget : Forgets disk) (piece : ℕ) (old u v : SectionState D)
     → HasCleared disk piece old u → v ≡ record u { disk = v.disk }
-    → ((known : Known) → IsTrue disk.tells → DiskHolds disk u known
+    → ((known : KnownBuckets) → IsTrue disk.tells → DiskHolds disk u known
     → DiskHolds disk v (with_buckets (old.head.first + up_to piece old.buckets) (up_to (piece + 1) old.buckets - up_to piece old.buckets) (Some []) known))
     → MadeCalls disk (2 * (up_to (piece + 1) old.buckets - up_to piece old.buckets) + 1) u.disk v.disk
     → disk.size v.disk ≡ disk.size u.disk → disk.faults v.disk ≡ disk.faults u.disk → HasCleared disk (piece + 1) old v

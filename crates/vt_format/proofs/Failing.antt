@@ -3,10 +3,10 @@ use Rattle.std.proofs.Common.{◌≡◌, inl, inr, ⊎_elim, ℕ, suc, ◌+◌, 
 use Rattle.vt_base.specs.Faults.{HasRisen}
 use Rattle.vt_conf.specs.declared.conf.PartFile.{PartFile}
 use Rattle.vt_disk.specs.Members.{DiskOf}
-use Rattle.vt_format.specs.declared.index.IndexBad.{IndexBad}
-use Rattle.vt_format.specs.declared.index.IndexBad.TheVariants.{Fault, Refused, Stopped}
-use Rattle.vt_format.specs.Index.{Fails, FailsAt}
-use Rattle.vt_parts.specs.Parts.{Standing, there}
+use Rattle.vt_format.specs.declared.index.IndexError.{IndexError}
+use Rattle.vt_format.specs.declared.index.IndexError.TheVariants.{Fault, Refused, Stopped}
+use Rattle.vt_format.specs.Index.{IndexFails, FailsAt}
+use Rattle.vt_partitions.specs.Parts.{Standing, there}
 
 module _ {D : Type 0} (disk : DiskOf D) (told : Type 0) (number : ℕ) (file : PartFile) (files : List PartFile) (s0 s1 s2 s3 : List ℕ → Standing D)
     (old_is : told → (n : List ℕ) (a : D) → s1 n ≡ there a → s0 n ≡ there a)
@@ -24,8 +24,8 @@ module _ {D : Type 0} (disk : DiskOf D) (told : Type 0) (number : ℕ) (file : P
     is = λ yes. new_is yes it.file.name it.before it.after (it.was yes) (it.is yes);
   }
 
-  pub later : (bad : IndexBad) (f0 f1 f2 f3 : ℕ) → f1 ≡ f0 → f3 ≡ f2 → Fails disk told (number + 1) files s1 s2 f1 f2 bad
-      → Fails disk told number (file ∷ files) s0 s3 f0 f3 bad
+  pub later : (bad : IndexError) (f0 f1 f2 f3 : ℕ) → f1 ≡ f0 → f3 ≡ f2 → IndexFails disk told (number + 1) files s1 s2 f1 f2 bad
+      → IndexFails disk told number (file ∷ files) s0 s3 f0 f3 bad
   later (Fault None) f0 f1 f2 f3 first last it = (last ∙ it.0 ∙ first, it.1, later_at it.1 it.2)
   later (Fault (Some part)) f0 f1 f2 f3 first last it = ⊎_elim
       (λ part_failed. inl (

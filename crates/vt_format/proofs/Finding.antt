@@ -6,7 +6,7 @@ use Rattle.vt_conf.specs.declared.conf.PartFile.{PartFile}
 use Rattle.vt_disk.specs.Members.{DiskOf}
 use Rattle.vt_isect.specs.Layout.{buckets_in}
 use Rattle.vt_part.specs.Table.{Table}
-use Rattle.vt_parts.specs.Parts.{Standing, there}
+use Rattle.vt_partitions.specs.Parts.{Standing, there}
 use Rattle.vt_format.specs.Opening.{FindsArenas, FindsFilter, FindsLog, FindsSections}
 
 module _ {D : Type 0} (disk : DiskOf D) (s s' : List ℕ → Standing D) (keep : (n : List ℕ) (d : D) → s n ≡ there d → s' n ≡ there d) where

@@ -7,21 +7,21 @@ use Rattle.vt_disk.specs.Disk.{ChangesAt}
 use Rattle.vt_disk.specs.Members.{DiskOf}
 use Rattle.vt_disk.specs.Region.{Inside}
 use Rattle.vt_disk.proofs.Calls.{changes_then}
-use Rattle.vt_isect.specs.declared.bad.ShardErr.{ShardErr}
-use Rattle.vt_isect.specs.declared.bad.ShardErr.TheVariants.{Fault, Damaged, Stopped}
+use Rattle.vt_isect.specs.declared.error.ShardErr.{ShardErr}
+use Rattle.vt_isect.specs.declared.error.ShardErr.TheVariants.{Fault, Damaged, Stopped}
 use Rattle.vt_isect.specs.declared.phase.Phase.{Phase}
 use Rattle.vt_isect.specs.declared.phase.Phase.TheVariants.{Rest, ReadFrame, SyncSelectors, ChangeHead}
 use Rattle.vt_isect.specs.Layout.{head_place}
 use Rattle.vt_isect.specs.Section.{SectionState}
-use Rattle.vt_isect.specs.Sound.{DiskHolds, Known, nothing_known}
-use Rattle.vt_isect.specs.Writeback.{Advances, EndsOrStops, IsRead, Keeps, MayWrite, NextPhase, Syncs, calls_left}
+use Rattle.vt_isect.specs.Sound.{DiskHolds, KnownBuckets, nothing_known}
+use Rattle.vt_isect.specs.Writeback.{SectionAdvances, EndsOrStops, NextCallReads, KeepsDiskSound, MayWrite, NextPhase, NextCallSyncs, calls_left}
 use Rattle.vt_twin.specs.declared.step.Step.{Step}
 use Rattle.vt_twin.specs.declared.step.Step.TheVariants.{More, Done}
 use Rattle.vt_format.specs.Usage.{StopsHead, head_in}
 
 -- what is known of a section may be less
 abbrev pub Forgets : {D : Type 0} → DiskOf D → Type 0
-Forgets {D} disk = (t : SectionState D) (known knows : Known)
+Forgets {D} disk = (t : SectionState D) (known knows : KnownBuckets)
     → ((n : ℕ) (entries : List Entry) → knows n ≡ Some entries → known n ≡ Some entries)
     → DiskHolds disk t known → DiskHolds disk t knows
 
@@ -33,11 +33,11 @@ pub record UnderWay {D : Type 0} (disk : DiskOf D) (begun now : SectionState D) 
   pub goes : now.stopped ≡ None
   pub phase : ((now.phase ≡ ChangeHead) × (now.head ≡ begun.head))
       ⊎ ((now.phase ≡ Rest) × (now.head ≡ begun.next) × IsSynced disk now.disk)
-  pub keeps : (known : Known) → IsTrue disk.tells → begun.next.first ≡ begun.head.first
+  pub keeps : (known : KnownBuckets) → IsTrue disk.tells → begun.next.first ≡ begun.head.first
       → DiskHolds disk begun known → DiskHolds disk now known
   pub holds : IsTrue disk.tells → DiskHolds disk begun nothing_known
       → DiskHolds disk now nothing_known
-  pub meanwhile : (known : Known) → IsTrue disk.tells → now.phase ≡ ChangeHead
+  pub meanwhile : (known : KnownBuckets) → IsTrue disk.tells → now.phase ≡ ChangeHead
       → DiskHolds disk begun known → DiskHolds disk now known
   pub images : ChangesAt (Inside head_place) (disk.images begun.disk) (disk.images now.disk)
   pub calls : IsTrue disk.tells → disk.calls now.disk + calls_left now ≤ disk.calls begun.disk + 4
@@ -47,7 +47,7 @@ pub record UnderWay {D : Type 0} (disk : DiskOf D) (begun now : SectionState D) 
 module _ {D : Type 0} (disk : DiskOf D) (forget : Forgets disk) (begun t u : SectionState D)
     (it : UnderWay disk begun t) (way : t.phase ≡ ChangeHead) (same_head : t.head ≡ begun.head) where
   -- what is known of a bucket stays
-  stays : (r : Result Step ShardErr) → Keeps disk r t u → (known : Known) → u.head.first ≡ t.head.first
+  stays : (r : Result Step ShardErr) → KeepsDiskSound disk r t u → (known : KnownBuckets) → u.head.first ≡ t.head.first
       → DiskHolds disk t known → DiskHolds disk u known
   stays r keeps known first sound =
       let kept = keeps known sound in
@@ -55,7 +55,7 @@ module _ {D : Type 0} (disk : DiskOf D) (forget : Forgets disk) (begun t u : Sec
       (λ n entries is. kept.1.kept n first (λ completes. let no : ChangeHead ≡ SyncSelectors = sym way ∙ completes.1 in absurd (cc)) ∙ is)
       kept.2
 
-  nothing : (step : Step) → Keeps disk (Ok step) t u → DiskHolds disk t nothing_known → DiskHolds disk u nothing_known
+  nothing : (step : Step) → KeepsDiskSound disk (Ok step) t u → DiskHolds disk t nothing_known → DiskHolds disk u nothing_known
   nothing step keeps sound =
       let kept = keeps nothing_known sound in
       forget u kept.0 nothing_known (λ n entries is. absurd (cc)) kept.2
@@ -71,8 +71,8 @@ module _ {D : Type 0} (disk : DiskOf D) (forget : Forgets disk) (begun t u : Sec
       → disk.calls u.disk + calls_left u ≤ disk.calls begun.disk + 4
   fewer made left told = omega (arith, made told, left, it.calls told)
 
-  pub one_step : (step : Step) → Advances (Ok step) t u → (IsTrue disk.tells → Keeps disk (Ok step) t u)
-      → (Syncs t.phase t → IsSynced disk u.disk) → calls_left u < calls_left t → MadeCalls disk 1 t.disk u.disk
+  pub one_step : (step : Step) → SectionAdvances (Ok step) t u → (IsTrue disk.tells → KeepsDiskSound disk (Ok step) t u)
+      → (NextCallSyncs t.phase t → IsSynced disk u.disk) → calls_left u < calls_left t → MadeCalls disk 1 t.disk u.disk
       → disk.size u.disk ≡ disk.size t.disk → disk.faults u.disk ≡ disk.faults t.disk
       → ChangesAt (MayWrite t.phase t) (disk.images t.disk) (disk.images u.disk) → UnderWay disk begun u
   one_step More moves keeps synced left made size faults writes =
@@ -101,7 +101,7 @@ module _ {D : Type 0} (disk : DiskOf D) (forget : Forgets disk) (begun t u : Sec
         phase = inr (
           ends.phase,
           ends.head_is ∙ it.next,
-          synced (subst (λ (p : Phase). Syncs p t) (sym way) (inr moves.1)),
+          synced (subst (λ (p : Phase). NextCallSyncs p t) (sym way) (inr moves.1)),
         );
         keeps = λ known told first sound. stays (Ok Done) (keeps told) known
             (ap (λ h. h.first) (ends.head_is ∙ it.next) ∙ first ∙ sym (ap (λ h. h.first) same_head))
@@ -116,12 +116,12 @@ module _ {D : Type 0} (disk : DiskOf D) (forget : Forgets disk) (begun t u : Sec
 
   -- a call of it failed
   module _ (old : SectionState D) (same : begun ≡ record old { next = begun.next; phase = begun.phase; head_twin = begun.head_twin })
-      (sound_begun : (known : Known) → IsTrue disk.tells → DiskHolds disk old known → DiskHolds disk begun known)
+      (sound_begun : (known : KnownBuckets) → IsTrue disk.tells → DiskHolds disk old known → DiskHolds disk begun known)
       (state first total : ℕ) (next : begun.next ≡ head_in state first old.buckets total)
       (writes : ChangesAt (MayWrite t.phase t) (disk.images t.disk) (disk.images u.disk)) where
-    ends : (IsTrue disk.tells → Keeps disk (Err Fault) t u) → EndsOrStops t u → StopsHead disk state first total old u
+    ends : (IsTrue disk.tells → KeepsDiskSound disk (Err Fault) t u) → EndsOrStops t u → StopsHead disk state first total old u
     ends keeps moves = ⊎_elim
-        (λ reads. absurd (subst (λ (p : Phase). IsRead p) way reads.0))
+        (λ reads. absurd (subst (λ (p : Phase). NextCallReads p) way reads.0))
         (λ stops. record {
           phase = stops.2 ∙ way;
           name = stops.1.section.name ∙ it.name ∙ ap (λ s. s.name) same;
@@ -134,7 +134,7 @@ module _ {D : Type 0} (disk : DiskOf D) (forget : Forgets disk) (begun t u : Sec
         })
         moves
 
-    pub head_stops : (bad : ShardErr) → (IsTrue disk.tells → Keeps disk (Err bad) t u) → Advances (Err bad) t u
+    pub head_stops : (bad : ShardErr) → (IsTrue disk.tells → KeepsDiskSound disk (Err bad) t u) → SectionAdvances (Err bad) t u
         → StopsHead disk state first total old u
     head_stops Fault keeps moves = ends keeps moves
     head_stops (Damaged bucket want found) keeps moves = let no : ChangeHead ≡ ReadFrame moves.0.0 = sym way ∙ moves.0.1 in absurd (cc)

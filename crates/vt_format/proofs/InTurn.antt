@@ -7,18 +7,18 @@ use Rattle.std.proofs.lemmas.List.Sums.{sum_by-take-le, sum_by_more}
 use Rattle.std.proofs.lemmas.Option.{get_or_from_slice_get, same_Some, slice_get_within}
 use Rattle.vt_base.specs.Faults.{CountsFault, HasRisen}
 use Rattle.vt_disk.specs.Members.{DiskOf}
-use Rattle.vt_isect.specs.declared.bad.ShardErr.{ShardErr}
-use Rattle.vt_isect.specs.declared.bad.ShardErr.TheVariants.{Fault as fault}
-use Rattle.vt_isect.specs.Faults.{is_fault}
+use Rattle.vt_isect.specs.declared.error.ShardErr.{ShardErr}
+use Rattle.vt_isect.specs.declared.error.ShardErr.TheVariants.{Fault as fault}
+use Rattle.vt_isect.specs.Faults.{is_section_fault}
 use Rattle.vt_isect.specs.Section.{SectionState}
 use Rattle.vt_log.proofs.Lists.{slice_get_set_other, slice_get_set_same}
-use Rattle.vt_format.specs.Usage.{AreUsed, IsMidway, IsUsed, StopsAt, buckets_of, first_of}
+use Rattle.vt_format.specs.Usage.{AreUsed, IsMidway, IsUsed, StopsAtSection, total_buckets, buckets_before}
 
 pub record AreUsedTo {D : Type 0} (disk : DiskOf D) (total number first : ℕ) (olds news : List (SectionState D)) : Type 0 where
   pub many : length news ≡ length olds
-  pub first_is : first ≡ first_of olds number
+  pub first_is : first ≡ buckets_before olds number
   pub used : (k : ℕ) (a b : SectionState D) → k < number → slice_get olds k ≡ Some a → slice_get news k ≡ Some b
-      → IsUsed disk (first_of olds k) total a b
+      → IsUsed disk (buckets_before olds k) total a b
   pub rest : (k : ℕ) → number ≤ k → slice_get news k ≡ slice_get olds k
 
 -- the first so many and one more
@@ -47,10 +47,10 @@ module _ {D : Type 0} (disk : DiskOf D) (total number first : ℕ) (olds mids : 
   same_old d = get_or_from_slice_get olds number old d old_at
 
   -- its buckets are among those of all
-  pub within_all : first + old.buckets ≤ buckets_of olds
+  pub within_all : first + old.buckets ≤ total_buckets olds
   within_all =
-      let next : first_of olds (number + 1) ≡ first_of olds number + old.buckets = sum_next (λ section. section.buckets) olds number old old_at in
-      let all : first_of olds (number + 1) ≤ buckets_of olds = sum_by-take-le (λ (section : SectionState D). section.buckets) olds (number + 1) in
+      let next : buckets_before olds (number + 1) ≡ buckets_before olds number + old.buckets = sum_next (λ section. section.buckets) olds number old old_at in
+      let all : buckets_before olds (number + 1) ≤ total_buckets olds = sum_by-take-le (λ (section : SectionState D). section.buckets) olds (number + 1) in
       omega (arith, next, all, it.first_is)
 
   pub used_more : IsUsed disk first total old new → AreUsedTo disk total (number + 1) (first + old.buckets) olds (set mids number new)
@@ -63,7 +63,7 @@ module _ {D : Type 0} (disk : DiskOf D) (total number first : ℕ) (olds mids : 
         (λ (behind : number ≤ k).
         let same : number ≡ k = omega (arith, below, behind) in
         let are = here a b (ap (slice_get olds) same ∙ at_a) (ap (slice_get (set mids number new)) same ∙ at_b) in
-        subst (λ (n : ℕ). IsUsed disk n total a b) (it.first_is ∙ ap (first_of olds) same)
+        subst (λ (n : ℕ). IsUsed disk n total a b) (it.first_is ∙ ap (buckets_before olds) same)
         (subst (λ (x : SectionState D). IsUsed disk first total x b) (sym are.0)
         (subst (λ (y : SectionState D). IsUsed disk first total old y) (sym are.1) used)))
         (cases_lt k number);
@@ -71,7 +71,7 @@ module _ {D : Type 0} (disk : DiskOf D) (total number first : ℕ) (olds mids : 
   }
 
   pub stops : HasRisen (disk.faults old.disk) (disk.faults new.disk) → disk.size new.disk ≡ disk.size old.disk
-      → (IsTrue disk.tells → IsMidway disk first total old new) → StopsAt disk number total olds (set mids number new)
+      → (IsTrue disk.tells → IsMidway disk first total old new) → StopsAtSection disk number total olds (set mids number new)
   stops rose size midway = record {
     many = length-set {A = SectionState D} mids number new ∙ it.many;
     each = λ k a b at_a at_b. ⊎_elim
@@ -106,7 +106,7 @@ module _ {D : Type 0} (disk : DiskOf D) (total number first : ℕ) (olds mids : 
               (subst (λ (x : SectionState D). HasRisen (disk.faults old.disk) (disk.faults x.disk)) (sym are.1) rose);
           others = λ other. absurd (other (sym same));
           before = λ is. absurd (omega (arith, least, is));
-          midway = λ is told. subst (λ (n : ℕ). IsMidway disk n total a b) (it.first_is ∙ ap (first_of olds) same)
+          midway = λ is told. subst (λ (n : ℕ). IsMidway disk n total a b) (it.first_is ∙ ap (buckets_before olds) same)
               (subst (λ (x : SectionState D). IsMidway disk first total x b) (sym are.0)
               (subst (λ (y : SectionState D). IsMidway disk first total old y) (sym are.1) (midway told)));
           behind = λ is. absurd (omega (arith, most, is));
@@ -116,8 +116,8 @@ module _ {D : Type 0} (disk : DiskOf D) (total number first : ℕ) (olds mids : 
   }
 
 -- no call of a section is refused but for a fault, which is told
-pub is_told : (bad : ShardErr) (old new : ℕ) → bad ≡ fault → CountsFault {T = Unit {0}} is_fault (Err bad) old new → HasRisen old new
-is_told bad old new same told = subst (λ (b : ShardErr). CountsFault {T = Unit {0}} is_fault (Err b) old new) same told
+pub is_told : (bad : ShardErr) (old new : ℕ) → bad ≡ fault → CountsFault {T = Unit {0}} is_section_fault (Err bad) old new → HasRisen old new
+is_told bad old new same told = subst (λ (b : ShardErr). CountsFault {T = Unit {0}} is_section_fault (Err b) old new) same told
 
 -- all are, behind the last
 pub all_used : {D : Type 0} (disk : DiskOf D) (total number first : ℕ) (olds news : List (SectionState D)) → AreUsedTo disk total number first olds news

@@ -8,13 +8,13 @@ use Rattle.vt_conf.specs.declared.conf.PartFile.{PartFile}
 use Rattle.vt_disk.specs.Calls.{OnlyReads}
 use Rattle.vt_disk.specs.Members.{DiskOf}
 use Rattle.vt_isect.specs.Section.{SectionState}
-use Rattle.vt_parts.specs.Parts.{Standing, nothing, lent, there, HandsOut, StaysThere}
+use Rattle.vt_partitions.specs.Parts.{Standing, nothing, lent, there, HandsOut, StaysThere}
 use Rattle.vt_format.specs.declared.index.Index.{Index}
-use Rattle.vt_format.specs.declared.index.IndexBad.{IndexBad}
-use Rattle.vt_format.specs.declared.index.IndexBad.TheVariants.{Fault, Refused, Stopped}
-use Rattle.vt_format.specs.Index.{AnswersFor, ArePutToUse, FailsAt, IsLeft, IsStoppedAmong, StopsSection, StopsSections, StopsIndex, LeavesThere, PutsToUse}
+use Rattle.vt_format.specs.declared.index.IndexError.{IndexError}
+use Rattle.vt_format.specs.declared.index.IndexError.TheVariants.{Fault, Refused, Stopped}
+use Rattle.vt_format.specs.Index.{AnswersFor, ArePutToUse, FailsAt, IsPartLeft, IsStoppedAmong, StopsSection, StopsSections, StopsIndex, LeavesThere, PutsSectionToUse}
 use Rattle.vt_format.specs.Opening.{IsOpenedSection}
-use Rattle.vt_format.specs.Usage.{IsUsed, buckets_of}
+use Rattle.vt_format.specs.Usage.{IsUsed, total_buckets}
 use Rattle.vt_format.proofs.Failing.{failed_here}
 use Rattle.vt_format.proofs.Opened.{LeavesOne}
 use Rattle.vt_format.proofs.Rounds.{Becomes}
@@ -35,11 +35,11 @@ stays_read disk most d e reads = (reads.size, reads.bytes, reads.images)
 pub stays_becomes : {D : Type 0} (disk : DiskOf D) → Becomes (StaysThere disk)
 stays_becomes disk = record { lent_stays = λ x is. is }
 
-pub leaves_becomes : {D : Type 0} (disk : DiskOf D) (r : Result Index IndexBad) → Becomes (LeavesThere disk r)
+pub leaves_becomes : {D : Type 0} (disk : DiskOf D) (r : Result Index IndexError) → Becomes (LeavesThere disk r)
 leaves_becomes disk r = record { lent_stays = λ x is. is }
 
 -- what is answered for less is answered for more
-pub answers : (P Q : Option MountBad → Type 0) → ((found : Option MountBad) → P found → Q found) → (r : Result Index IndexBad)
+pub answers : (P Q : Option MountBad → Type 0) → ((found : Option MountBad) → P found → Q found) → (r : Result Index IndexError)
     → AnswersFor P r → AnswersFor Q r
 answers P Q more (Ok it) found = more None found
 answers P Q more (Err (Fault part)) found = found
@@ -49,8 +49,8 @@ answers P Q more (Err (Stopped part)) found = more None found
 -- ---- sections
 
 module _ {D : Type 0} (disk : DiskOf D) (behind total : ℕ) (os : List (SectionState D)) (d : D) (o n : SectionState D)
-    (opened : IsOpenedSection disk (buckets_of os) d o) where
-  pub left_one : (r : Result Index IndexBad) → LeavesOne disk behind total r (length os) (buckets_of os) o n → IsLeft disk r d n.disk
+    (opened : IsOpenedSection disk (total_buckets os) d o) where
+  pub left_one : (r : Result Index IndexError) → LeavesOne disk behind total r (length os) (total_buckets os) o n → IsPartLeft disk r d n.disk
   left_one (Ok it) one = record {
     size = one.size ∙ opened.reads.size;
     unwritten = λ no. absurd no;
@@ -73,8 +73,8 @@ module _ {D : Type 0} (disk : DiskOf D) (behind total : ℕ) (os : List (Section
   }
 
   -- the section is in use
-  pub put : (all : ℕ) → IsTrue disk.tells → IsUsed disk (buckets_of os) all o n
-      → PutsToUse disk (buckets_of os) o.buckets all (there d) (there n.disk)
+  pub put : (all : ℕ) → IsTrue disk.tells → IsUsed disk (total_buckets os) all o n
+      → PutsSectionToUse disk (total_buckets os) o.buckets all (there d) (there n.disk)
   put all told one = record {
     before = d;
     after = n.disk;
@@ -90,8 +90,8 @@ module _ {D : Type 0} (disk : DiskOf D) (behind total : ℕ) (os : List (Section
   }
 
   -- a call of a section failed
-  pub leaves_section : (part : ℕ) → IsTrue disk.tells → LeavesOne disk behind total (Err (Stopped part)) (length os) (buckets_of os) o n
-      → StopsSection disk (buckets_of os) o.buckets total (behind + length os) part (there d) (there n.disk)
+  pub leaves_section : (part : ℕ) → IsTrue disk.tells → LeavesOne disk behind total (Err (Stopped part)) (length os) (total_buckets os) o n
+      → StopsSection disk (total_buckets os) o.buckets total (behind + length os) part (there d) (there n.disk)
   leaves_section part told one = record {
     before = d;
     after = n.disk;
@@ -112,7 +112,7 @@ module _ {D : Type 0} (disk : DiskOf D) (behind total : ℕ) (os : List (Section
 
   -- a call of it failed
   pub stopped_here : (part : ℕ) (told : Type 0) (file : PartFile) (files : List PartFile) (s0 s3 : List ℕ → Standing D)
-      → LeavesOne disk behind total (Err (Stopped part)) (length os) (buckets_of os) o n → part ≡ behind + length os
+      → LeavesOne disk behind total (Err (Stopped part)) (length os) (total_buckets os) o n → part ≡ behind + length os
       → (told → s0 file.name ≡ there d) → (told → s3 file.name ≡ there n.disk)
       → FailsAt disk told (behind + length os) (file ∷ files) s0 s3 part
   stopped_here part told file files s0 s3 one same was is =
@@ -163,7 +163,7 @@ stopped_rest {D = D} disk s0 s1 s2 s3 old_is new_is first total number part (fil
 pub stopped_still : {D : Type 0} (disk : DiskOf D) (s0 s1 s2 s3 : List ℕ → Standing D)
     → ((n : List ℕ) (a : D) → s1 n ≡ there a → s0 n ≡ there a)
     → ((n : List ℕ) (a b : D) → s1 n ≡ there a → s2 n ≡ there b → s3 n ≡ there b)
-    → (first total number : ℕ) (files : List PartFile) (bad : IndexBad) → StopsIndex disk s1 s2 first total number files bad
+    → (first total number : ℕ) (files : List PartFile) (bad : IndexError) → StopsIndex disk s1 s2 first total number files bad
     → StopsIndex disk s0 s3 first total number files bad
 stopped_still disk s0 s1 s2 s3 old_is new_is first total number files (Fault part) it = tt
 stopped_still disk s0 s1 s2 s3 old_is new_is first total number files (Refused bad) it = tt
@@ -171,7 +171,7 @@ stopped_still disk s0 s1 s2 s3 old_is new_is first total number files (Stopped p
     stopped_rest disk s0 s1 s2 s3 old_is new_is first total number part files it
 
 -- which partition is stopped: one that was opened before, this one, or one behind it
-pub stopped_among : (behind count : ℕ) (bad : IndexBad) → IsStoppedAmong behind (count + 1) bad
+pub stopped_among : (behind count : ℕ) (bad : IndexError) → IsStoppedAmong behind (count + 1) bad
     → IsStoppedAmong behind count bad ⊎ ((part : ℕ) × (bad ≡ Stopped part) × (part ≡ behind + count))
 stopped_among behind count (Fault part) it = absurd it
 stopped_among behind count (Refused bad) it = absurd it

@@ -7,30 +7,30 @@ use Rattle.vt_base.specs.Faults.{HasRisen}
 use Rattle.vt_base.specs.declared.mount.MountBad.{MountBad}
 use Rattle.vt_conf.specs.declared.conf.Conf.{Conf}
 use Rattle.vt_disk.specs.Members.{DiskOf}
-use Rattle.vt_log.specs.declared.bad.LogBad.{LogBad}
-use Rattle.vt_log.specs.declared.bad.LogBad.TheVariants as log_bad
+use Rattle.vt_log.specs.declared.error.LogBad.{LogBad}
+use Rattle.vt_log.specs.declared.error.LogBad.TheVariants as log_bad
 use Rattle.vt_log.specs.Answers.{HoldTheSame}
-use Rattle.vt_log.specs.Faults.{AreFields, OneHasRisen, RefusesMount, first_bad, is_fault}
+use Rattle.vt_log.specs.Faults.{AreFields, OneHasRisen, RefusesLogMount, first_bad_log, is_log_fault}
 use Rattle.vt_log.specs.Log.{disks_of}
 use Rattle.vt_log.proofs.Lists.{map_long, map_there}
 use Rattle.vt_log.proofs.Places.{slice_get_there}
-use Rattle.vt_arena.specs.declared.bad.ArenaBad.{ArenaBad}
-use Rattle.vt_arena.specs.declared.bad.ArenaBad.TheVariants as arena_bad
+use Rattle.vt_arena.specs.declared.error.ArenaBad.{ArenaBad}
+use Rattle.vt_arena.specs.declared.error.ArenaBad.TheVariants as arena_bad
 use Rattle.vt_isect.specs.Section.{SectionState}
-use Rattle.vt_part.specs.declared.bad.PartBad.TheVariants as part_bad
+use Rattle.vt_part.specs.declared.error.PartBad.TheVariants as part_bad
 use Rattle.vt_part.specs.declared.part.Part.{Part}
 use Rattle.vt_part.specs.Layout.{AreDistinct, layout_of}
 use Rattle.vt_part.specs.Parts.{names_of, table_of, tables_of}
 use Rattle.vt_part.specs.Table.{Table}
-use Rattle.vt_parts.specs.Parts.{Standing}
+use Rattle.vt_partitions.specs.Parts.{Standing}
 use Rattle.vt_format.specs.declared.index.Index.{Index}
-use Rattle.vt_format.specs.declared.index.IndexBad.{IndexBad}
-use Rattle.vt_format.specs.declared.index.IndexBad.TheVariants.{Fault, Refused, Stopped}
-use Rattle.vt_format.specs.Index.{AreLeft, Fails, FindsFault, IndexesArenas, IndexesSections, IsQuiet, IsStoppedAmong, StopsIndex, files_behind}
-use Rattle.vt_format.specs.Opening.{FindsLog, FindsSections, NamesTwo, told}
-use Rattle.vt_told.specs.Told.{of_log}
+use Rattle.vt_format.specs.declared.index.IndexError.{IndexError}
+use Rattle.vt_format.specs.declared.index.IndexError.TheVariants.{Fault, Refused, Stopped}
+use Rattle.vt_format.specs.Index.{AreArenasLeft, IndexFails, FindsFault, IndexesArenas, IndexesSections, HasNoFault, IsStoppedAmong, StopsIndex, files_behind}
+use Rattle.vt_format.specs.Opening.{FindsLog, FindsSections, IsRefusalByTest, index_error}
+use Rattle.vt_mount_errors.specs.MountErrors.{of_log}
 use Rattle.vt_format.proofs.Levels.{answers}
-use Rattle.vt_told.proofs.LogRefused.{NamesArena, log_differs}
+use Rattle.vt_mount_errors.proofs.LogRefused.{NamesArena, log_differs}
 use Rattle.vt_format.proofs.SectionLevel.{leaves_same, stays_same}
 
 names_are : {D : Type 0} (ps : List (Part D)) → names_of ps ≡ map (λ (t : Table). t.name) (tables_of ps)
@@ -38,8 +38,8 @@ names_are [] = refl
 names_are (p ∷ ps) = ap (λ (l : List (List ℕ)). (table_of p).name ∷ l) (names_are ps)
 
 -- what is held the same is left
-holds_left : {D : Type 0} (disk : DiskOf D) (r : Result Index IndexBad) (olds news : List D) → HoldTheSame disk olds news
-    → (IsQuiet r → map disk.faults news ≡ map disk.faults olds) → AreLeft disk r olds news
+holds_left : {D : Type 0} (disk : DiskOf D) (r : Result Index IndexError) (olds news : List D) → HoldTheSame disk olds news
+    → (HasNoFault r → map disk.faults news ≡ map disk.faults olds) → AreArenasLeft disk r olds news
 holds_left disk r olds news same quiet = record {
   many = map_long disk.size olds news same.sizes_are;
   each = λ i a b at_a at_b. (
@@ -75,10 +75,10 @@ one_rose {D = D} disk olds news it =
 module _ {D : Type 0} (disk : DiskOf D) (told_is : Type 0) (conf : Conf) (s0 : List ℕ → Standing D) (f0 : ℕ) (ps qs : List (Part D))
     (same : HoldTheSame disk (disks_of ps) (disks_of qs)) where
   -- the log is found, and the sections are indexed behind it
-  module _ (s1 : List ℕ → Standing D) (f1 : ℕ) (ns : List (SectionState D)) (r : Result Index IndexBad) (all : length ps ≡ length conf.arenas.items)
+  module _ (s1 : List ℕ → Standing D) (f1 : ℕ) (ns : List (SectionState D)) (r : Result Index IndexError) (all : length ps ≡ length conf.arenas.items)
       (quiet : map disk.faults (disks_of qs) ≡ map disk.faults (disks_of ps))
       (fields : List (List ℕ)) (are : IsTrue disk.tells → AreFields (layout_of (tables_of ps)) (map disk.bytes (disks_of ps)) fields)
-      (distinct : AreDistinct (names_of ps)) (passed : first_bad false 0 (layout_of (tables_of ps)) fields ≡ None)
+      (distinct : AreDistinct (names_of ps)) (passed : first_bad_log false 0 (layout_of (tables_of ps)) fields ≡ None)
       (inner : IndexesSections disk told_is conf conf.sections.items s0 s1 f0 f1 [] ns r) where
     number : length conf.arenas.items + 0 ≡ length ps
     number = omega (arith, all)
@@ -97,23 +97,23 @@ module _ {D : Type 0} (disk : DiskOf D) (told_is : Type 0) (conf : Conf) (s0 : L
       ),
     )
 
-    cause : (x : Result Index IndexBad)
+    cause : (x : Result Index IndexError)
         → IfErr x (λ bad. ((f1 ≡ f0) × IsStoppedAmong (length conf.arenas.items) 0 bad)
-        ⊎ Fails disk told_is (length conf.arenas.items + 0) (files_behind conf) s0 s1 f0 f1 bad)
+        ⊎ IndexFails disk told_is (length conf.arenas.items + 0) (files_behind conf) s0 s1 f0 f1 bad)
         → IfErr x (λ bad. ((f1 ≡ f0) × FindsFault disk (disks_of ps) (disks_of qs) bad)
-        ⊎ Fails disk told_is (length ps) (files_behind conf) s0 s1 f0 f1 bad)
+        ⊎ IndexFails disk told_is (length ps) (files_behind conf) s0 s1 f0 f1 bad)
     cause (Ok index) why = tt
     cause (Err bad) why = ⊎_elim
         (λ here. absurd (nobody bad here.1))
-        (λ behind. inr (subst (λ (k : ℕ). Fails disk told_is k (files_behind conf) s0 s1 f0 f1 bad) number behind))
+        (λ behind. inr (subst (λ (k : ℕ). IndexFails disk told_is k (files_behind conf) s0 s1 f0 f1 bad) number behind))
         why
       where
-        nobody : (b : IndexBad) → IsStoppedAmong (length conf.arenas.items) 0 b → ⊥
+        nobody : (b : IndexError) → IsStoppedAmong (length conf.arenas.items) 0 b → ⊥
         nobody (Fault part) it = it
         nobody (Refused b) it = it
         nobody (Stopped part) it = absurd (omega (arith, it.0, it.1))
 
-    stopped : (x : Result Index IndexBad) → IfErr x (λ bad. told_is → IsTrue disk.tells
+    stopped : (x : Result Index IndexError) → IfErr x (λ bad. told_is → IsTrue disk.tells
         → StopsIndex disk s0 s1 0 inner.total (length conf.arenas.items + 0) conf.sections.items bad)
         → IfErr x (λ bad. told_is → IsTrue disk.tells → StopsIndex disk s0 s1 0 inner.total (length conf.arenas.items) conf.sections.items bad)
     stopped (Ok index) behind = tt
@@ -139,8 +139,8 @@ module _ {D : Type 0} (disk : DiskOf D) (told_is : Type 0) (conf : Conf) (s0 : L
 
   -- it isn't
   module _ (fields : List (List ℕ)) (are : IsTrue disk.tells → AreFields (layout_of (tables_of ps)) (map disk.bytes (disks_of ps)) fields) where
-    refused_with : (why : LogBad) (bad : MountBad) → RefusesMount (names_of ps) (layout_of (tables_of ps)) fields why
-        → bad ≡ of_log (layout_of (tables_of ps)) why → NamesTwo bad → map disk.faults (disks_of qs) ≡ map disk.faults (disks_of ps)
+    refused_with : (why : LogBad) (bad : MountBad) → RefusesLogMount (names_of ps) (layout_of (tables_of ps)) fields why
+        → bad ≡ of_log (layout_of (tables_of ps)) why → IsRefusalByTest bad → map disk.faults (disks_of qs) ≡ map disk.faults (disks_of ps)
         → IndexesArenas disk told_is conf [] s0 s0 f0 f0 ps qs (Err (Refused bad))
     refused_with why bad refused is names quiet = record {
       used = tt;
@@ -150,7 +150,7 @@ module _ {D : Type 0} (disk : DiskOf D) (told_is : Type 0) (conf : Conf) (s0 : L
       found = λ yes tells. inr (
         fields,
         are tells,
-        inl (why, subst (λ (ns : List (List ℕ)). RefusesMount ns (layout_of (tables_of ps)) fields why) (names_are ps) refused, ap Some is),
+        inl (why, subst (λ (ns : List (List ℕ)). RefusesLogMount ns (layout_of (tables_of ps)) fields why) (names_are ps) refused, ap Some is),
       );
       differs = names;
       cause = inr refl;
@@ -160,19 +160,19 @@ module _ {D : Type 0} (disk : DiskOf D) (told_is : Type 0) (conf : Conf) (s0 : L
       left = holds_left disk (Err (Refused bad)) (disks_of ps) (disks_of qs) same (λ yes. quiet);
     }
 
-    arena_refused : (i : ℕ) (why : ArenaBad) → RefusesMount (names_of ps) (layout_of (tables_of ps)) fields (log_bad.Arena i why) → NamesArena why
+    arena_refused : (i : ℕ) (why : ArenaBad) → RefusesLogMount (names_of ps) (layout_of (tables_of ps)) fields (log_bad.Arena i why) → NamesArena why
         → map disk.faults (disks_of qs) ≡ map disk.faults (disks_of ps)
-        → IndexesArenas disk told_is conf [] s0 s0 f0 f0 ps qs (Err (told None (of_log (layout_of (tables_of ps)) (log_bad.Arena i why))))
+        → IndexesArenas disk told_is conf [] s0 s0 f0 f0 ps qs (Err (index_error None (of_log (layout_of (tables_of ps)) (log_bad.Arena i why))))
     arena_refused i arena_bad.Fault refused names quiet = absurd names
     arena_refused i arena_bad.NotFormatted refused names quiet = refused_with (log_bad.Arena i arena_bad.NotFormatted) _ refused refl tt quiet
     arena_refused i (arena_bad.Torn field found want) refused names quiet =
         refused_with (log_bad.Arena i (arena_bad.Torn field found want)) _ refused refl names quiet
     arena_refused i arena_bad.NoMemory refused names quiet = absurd names
 
-    pub log_refused : (why : LogBad) → RefusesMount (names_of ps) (layout_of (tables_of ps)) fields why
-        → MatchBool (is_fault why) (OneHasRisen (map disk.faults (disks_of ps)) (map disk.faults (disks_of qs)))
+    pub log_refused : (why : LogBad) → RefusesLogMount (names_of ps) (layout_of (tables_of ps)) fields why
+        → MatchBool (is_log_fault why) (OneHasRisen (map disk.faults (disks_of ps)) (map disk.faults (disks_of qs)))
         (map disk.faults (disks_of qs) ≡ map disk.faults (disks_of ps))
-        → IndexesArenas disk told_is conf [] s0 s0 f0 f0 ps qs (Err (told None (of_log (layout_of (tables_of ps)) why)))
+        → IndexesArenas disk told_is conf [] s0 s0 f0 f0 ps qs (Err (index_error None (of_log (layout_of (tables_of ps)) why)))
     log_refused (log_bad.Part (part_bad.DuplicateName i j)) refused quiet =
         refused_with (log_bad.Part (part_bad.DuplicateName i j)) _ refused refl refused.namesakes.order quiet
     log_refused (log_bad.Part part_bad.Fault) refused quiet = absurd refused

@@ -15,17 +15,17 @@ use Rattle.vt_disk.proofs.Calls.{changes_wider}
 use Rattle.vt_log.specs.Formatting.{InFirstHeads, WritesInHeads}
 use Rattle.vt_log.specs.Log.{disks_of}
 use Rattle.vt_log.specs.Logs.{IsLog}
-use Rattle.vt_log.specs.Sound.{AreImages}
-use Rattle.vt_part.specs.declared.bad.Field.TheVariants.{Version, ArenaSize, Count}
-use Rattle.vt_part.specs.declared.bad.PartBad.{PartBad}
-use Rattle.vt_part.specs.declared.bad.PartBad.TheVariants as part_bad
+use Rattle.vt_log.specs.Sound.{AreImagesOf}
+use Rattle.vt_part.specs.declared.error.Field.TheVariants.{Version, ArenaSize, Count}
+use Rattle.vt_part.specs.declared.error.PartBad.{PartBad}
+use Rattle.vt_part.specs.declared.error.PartBad.TheVariants as part_bad
 use Rattle.vt_part.specs.declared.part.Part.{Part}
-use Rattle.vt_part.specs.Faults.{NamesItsCause, is_fault}
+use Rattle.vt_part.specs.Faults.{NamesPartCause, is_part_fault}
 use Rattle.vt_part.specs.Layout.{layout_of}
 use Rattle.vt_part.specs.Parts.{disk_of, table_of, tables_of}
 use Rattle.vt_part.specs.Table.{Table, IsArenaSize, IsPartition, count_for, table_for}
-use Rattle.vt_format.specs.Arenas.{BecomesArenas, RefusesArenas, RefusesTable}
-use Rattle.vt_told.specs.Told.{of_part}
+use Rattle.vt_format.specs.Arenas.{BecomesArenas, RefusesArenaFormat, RefusesTable}
+use Rattle.vt_mount_errors.specs.MountErrors.{of_part}
 
 -- what is popped of one partition is all
 one_part : {D : Type 0} (ps rest : List (Part D)) (part popped : Part D) → tables_of ps ≡ tables_of (part ∷ [])
@@ -43,7 +43,7 @@ lent_back n ps xs same = ap (λ (k : ℕ). take k (ps ++ drop (length ps) xs)) s
 
 module _ {D : Type 0} (disk : DiskOf D) where
   -- an image of the one disk
-  one_image : (d : D) (c : List ℕ) → disk.images d c → AreImages disk (d ∷ []) (c ∷ [])
+  one_image : (d : D) (c : List ℕ) → disk.images d c → AreImagesOf disk (d ∷ []) (c ∷ [])
   one_image d c left = record {
     many = refl;
     each = each;
@@ -67,12 +67,12 @@ module _ {D : Type 0} (disk : DiskOf D) (old ps rest : List (Part D)) (part popp
   all : ps ≡ popped ∷ []
   all = one_part ps rest part popped (tables ∙ ap (λ (l : List (Part D)). tables_of l) old_is) popped_is
 
-  pub log_of : ((score_of : List ℕ → List ℕ) (files : List (List ℕ)) → IsTrue disk.tells → AreImages disk (disks_of ps) files
+  pub log_of : ((score_of : List ℕ → List ℕ) (files : List (List ℕ)) → IsTrue disk.tells → AreImagesOf disk (disks_of ps) files
       → IsLog score_of (layout_of (tables_of old)) files [] 0) → IsTrue disk.tells
       → (score_of : List ℕ → List ℕ) (c : List ℕ) → disk.images d c → IsLog score_of (layout_of (table_of part ∷ [])) (c ∷ []) [] 0
   log_of empty told score_of c left =
       subst (λ (l : List (Part D)). IsLog score_of (layout_of (tables_of l)) (c ∷ []) [] 0) old_is
-      (empty score_of (c ∷ []) told (subst (λ (l : List (Part D)). AreImages disk (disks_of l) (c ∷ [])) (sym all)
+      (empty score_of (c ∷ []) told (subst (λ (l : List (Part D)). AreImagesOf disk (disks_of l) (c ∷ [])) (sym all)
       (one_image disk (disk_of popped) c (subst (λ (x : D). disk.images x c) d_is left))))
 
   pub synced_of : All (IsSynced disk) (disks_of ps) → IsSynced disk d
@@ -113,7 +113,7 @@ module _ {D : Type 0} (disk : DiskOf D) (name : List ℕ) (arena_size : ℕ) (ol
 
 pub refuses : {D : Type 0} (disk : DiskOf D) (arena_size : ℕ) (old mid new : D) (r : Result ℕ MountBad) → disk.faults mid ≡ disk.faults old
     → IfErr r (λ bad. (bad ≡ NoMemory) ⊎ ((bad ≡ Fault) × HasRisen (disk.faults mid) (disk.faults new)))
-    → IfErr r (λ bad. RefusesArenas disk arena_size bad old new)
+    → IfErr r (λ bad. RefusesArenaFormat disk arena_size bad old new)
 refuses disk arena_size old mid new (Ok n) same refused = tt
 refuses disk arena_size old mid new (Err bad) same refused = ⊎_elim
     (λ memory. inr (inr (inl memory)))
@@ -123,13 +123,13 @@ refuses disk arena_size old mid new (Err bad) same refused = ⊎_elim
 -- a table is refused that was just written: a call failed, or the disk doesn't tell what it holds
 module _ {D : Type 0} (disk : DiskOf D) (arena_size : ℕ) (old mid new : D) (same : disk.faults mid ≡ disk.faults old) where
   abbrev Refused : PartBad → Type 0
-  Refused bad = RefusesArenas disk arena_size (of_part 0 bad) old new
+  Refused bad = RefusesArenaFormat disk arena_size (of_part 0 bad) old new
 
   misread : (bad : PartBad) → (IsTrue disk.tells → bad ≡ part_bad.Fault) → bad ≢ part_bad.Fault → RefusesTable (of_part 0 bad) → Refused bad
   misread bad told other refused = inr (inr (inr (λ tells. other (told tells), refused)))
 
-  pub refuses_table : (size : ℕ) (bad : PartBad) → (IsTrue disk.tells → bad ≡ part_bad.Fault) → NamesItsCause size bad
-      → MatchBool (is_fault bad) (HasRisen (disk.faults mid) (disk.faults new)) (disk.faults new ≡ disk.faults mid) → Refused bad
+  pub refuses_table : (size : ℕ) (bad : PartBad) → (IsTrue disk.tells → bad ≡ part_bad.Fault) → NamesPartCause size bad
+      → MatchBool (is_part_fault bad) (HasRisen (disk.faults mid) (disk.faults new)) (disk.faults new ≡ disk.faults mid) → Refused bad
   refuses_table size part_bad.Fault told names rose = inr (inl (refl, subst (λ (n : ℕ). HasRisen n (disk.faults new)) same rose))
   refuses_table size (part_bad.TooSmall len need) told names rose =
       misread (part_bad.TooSmall len need) told (λ is. cc) (refl, subst (λ (n : ℕ). n < need) (sym names.0) names.1)

@@ -8,10 +8,10 @@ use Rattle.vt_disk.specs.Members.{DiskOf}
 use Rattle.vt_isect.specs.Section.{SectionState}
 use Rattle.vt_log.proofs.Lists.{slice_get_left, slice_get_right}
 use Rattle.vt_format.specs.declared.index.Index.{Index}
-use Rattle.vt_format.specs.declared.index.IndexBad.{IndexBad}
-use Rattle.vt_format.specs.declared.index.IndexBad.TheVariants.{Fault, Refused, Stopped}
+use Rattle.vt_format.specs.declared.index.IndexError.{IndexError}
+use Rattle.vt_format.specs.declared.index.IndexError.TheVariants.{Fault, Refused, Stopped}
 use Rattle.vt_format.specs.Index.{LeavesOpened}
-use Rattle.vt_format.specs.Usage.{AreUsed, IsStopped, IsUsed, StopsAt, buckets_of, first_of}
+use Rattle.vt_format.specs.Usage.{AreUsed, IsStoppedSection, IsUsed, StopsAtSection, total_buckets, buckets_before}
 
 -- a list with one element more
 module _ {X : Type 0} (xs : List X) (x : X) where
@@ -37,25 +37,25 @@ last_of {X = X} xs ys x y same =
     ∙ ap (λ (l : List X). slice_get (xs ++ x ∷ []) (length l)) fronts ∙ last_get xs x)
 
 -- how one of the open sections is left
-abbrev pub LeavesOne : {D : Type 0} → DiskOf D → (number total : ℕ) → Result Index IndexBad → (i first : ℕ) → (old new : SectionState D) → Type 0
+abbrev pub LeavesOne : {D : Type 0} → DiskOf D → (number total : ℕ) → Result Index IndexError → (i first : ℕ) → (old new : SectionState D) → Type 0
 LeavesOne disk number total (Ok it) i first old new = IsUsed disk first it.buckets old new
 LeavesOne disk number total (Err (Fault part)) i first old new = new ≡ old
 LeavesOne disk number total (Err (Refused bad)) i first old new = new ≡ old
-LeavesOne disk number total (Err (Stopped part)) i first old new = (k : ℕ) × (part ≡ number + k) × IsStopped disk k i first total old new
+LeavesOne disk number total (Err (Stopped part)) i first old new = (k : ℕ) × (part ≡ number + k) × IsStoppedSection disk k i first total old new
 
 module _ {D : Type 0} (disk : DiskOf D) (olds news : List (SectionState D)) (old new : SectionState D) where
-  first_in_front : (i : ℕ) (x : SectionState D) → slice_get olds i ≡ Some x → first_of (olds ++ old ∷ []) i ≡ first_of olds i
+  first_in_front : (i : ℕ) (x : SectionState D) → slice_get olds i ≡ Some x → buckets_before (olds ++ old ∷ []) i ≡ buckets_before olds i
   first_in_front i x at =
-      ap (λ (l : List (SectionState D)). buckets_of l) (take-append-le i olds (old ∷ []) (let below = slice_get_within olds i x at in omega (arith, below)))
+      ap (λ (l : List (SectionState D)). total_buckets l) (take-append-le i olds (old ∷ []) (let below = slice_get_within olds i x at in omega (arith, below)))
 
-  first_of_last : first_of (olds ++ old ∷ []) (length olds) ≡ buckets_of olds
-  first_of_last = ap (λ (l : List (SectionState D)). buckets_of l) (take-append_seam olds (old ∷ []))
+  first_of_last : buckets_before (olds ++ old ∷ []) (length olds) ≡ total_buckets olds
+  first_of_last = ap (λ (l : List (SectionState D)). total_buckets l) (take-append_seam olds (old ∷ []))
 
   last_new : length news ≡ length olds → slice_get (news ++ new ∷ []) (length olds) ≡ Some new
   last_new many = ap (slice_get (news ++ new ∷ [])) (sym many) ∙ last_get news new
 
   used : (total : ℕ) → AreUsed disk total (olds ++ old ∷ []) (news ++ new ∷ [])
-      → AreUsed disk total olds news × IsUsed disk (buckets_of olds) total old new
+      → AreUsed disk total olds news × IsUsed disk (total_buckets olds) total old new
   used total it =
       let many : length news ≡ length olds = same_fronts olds news old new it.many in (
         record {
@@ -66,21 +66,21 @@ module _ {D : Type 0} (disk : DiskOf D) (olds news : List (SectionState D)) (old
         subst (λ (n : ℕ). IsUsed disk n total old new) first_of_last (it.each (length olds) old new (last_get olds old) (last_new many)),
       )
 
-  stopped : (k total : ℕ) → StopsAt disk k total (olds ++ old ∷ []) (news ++ new ∷ [])
-      → StopsAt disk k total olds news × IsStopped disk k (length olds) (buckets_of olds) total old new
+  stopped : (k total : ℕ) → StopsAtSection disk k total (olds ++ old ∷ []) (news ++ new ∷ [])
+      → StopsAtSection disk k total olds news × IsStoppedSection disk k (length olds) (total_buckets olds) total old new
   stopped k total it =
       let many : length news ≡ length olds = same_fronts olds news old new it.many in (
         record {
           many = many;
-          each = λ i a b at_a at_b. subst (λ (n : ℕ). IsStopped disk k i n total a b) (first_in_front i a at_a)
+          each = λ i a b at_a at_b. subst (λ (n : ℕ). IsStoppedSection disk k i n total a b) (first_in_front i a at_a)
               (it.each i a b (front_get olds old i a at_a) (front_get news new i b at_b));
         },
-        subst (λ (n : ℕ). IsStopped disk k (length olds) n total old new) first_of_last
+        subst (λ (n : ℕ). IsStoppedSection disk k (length olds) n total old new) first_of_last
             (it.each (length olds) old new (last_get olds old) (last_new many)),
       )
 
-  pub split : (number total : ℕ) (r : Result Index IndexBad) → LeavesOpened disk number total r (olds ++ old ∷ []) (news ++ new ∷ [])
-      → LeavesOpened disk number total r olds news × LeavesOne disk number total r (length olds) (buckets_of olds) old new
+  pub split : (number total : ℕ) (r : Result Index IndexError) → LeavesOpened disk number total r (olds ++ old ∷ []) (news ++ new ∷ [])
+      → LeavesOpened disk number total r olds news × LeavesOne disk number total r (length olds) (total_buckets olds) old new
   split number total (Ok it) left = used it.buckets left
   split number total (Err (Fault part)) left = (front_of olds news old new left, last_of olds news old new left)
   split number total (Err (Refused bad)) left = (front_of olds news old new left, last_of olds news old new left)

@@ -10,13 +10,13 @@ use Rattle.vt_conf.specs.declared.conf.PartFile.{PartFile}
 use Rattle.vt_disk.specs.Calls.{OnlyReads}
 use Rattle.vt_disk.specs.Members.{DiskOf}
 use Rattle.vt_isect.specs.Section.{SectionState}
-use Rattle.vt_parts.specs.Parts.{Standing, nothing, lent, there, StaysThere}
+use Rattle.vt_partitions.specs.Parts.{Standing, nothing, lent, there, StaysThere}
 use Rattle.vt_format.specs.declared.index.Index.{Index}
-use Rattle.vt_format.specs.declared.index.IndexBad.{IndexBad}
-use Rattle.vt_format.specs.declared.index.IndexBad.TheVariants.{Fault, Refused, Stopped}
-use Rattle.vt_format.specs.Index.{ArePutToUse, Fails, IndexesSections, IsLeft, IsQuiet, IsStoppedAmong, LeavesOpened, StopsSection, StopsSections, StopsIndex, LeavesThere, PutsToUse, listed}
+use Rattle.vt_format.specs.declared.index.IndexError.{IndexError}
+use Rattle.vt_format.specs.declared.index.IndexError.TheVariants.{Fault, Refused, Stopped}
+use Rattle.vt_format.specs.Index.{ArePutToUse, IndexFails, IndexesSections, IsPartLeft, HasNoFault, IsStoppedAmong, LeavesOpened, StopsSection, StopsSections, StopsIndex, LeavesThere, PutsSectionToUse, listed}
 use Rattle.vt_format.specs.Opening.{FindsSections, IsOpenedSection, RefusesDisk, RefusesSection}
-use Rattle.vt_format.specs.Usage.{buckets_of}
+use Rattle.vt_format.specs.Usage.{total_buckets}
 use Rattle.vt_format.proofs.Failing.{failed_here, later}
 use Rattle.vt_format.proofs.Finding.{finds_sections}
 use Rattle.vt_format.proofs.Levels.{answers, leaves_becomes, leaves_section, left_one, put, put_rest, stays_read, stopped_among, stopped_here, stopped_rest}
@@ -25,7 +25,7 @@ use Rattle.vt_format.proofs.Rounds.{Round, again, new_is, old_is, round, same_or
 
 -- ---- what isn't worked on
 
-pub leaves_same : {D : Type 0} (disk : DiskOf D) (r : Result Index IndexBad) (x : Standing D) → LeavesThere disk r x x
+pub leaves_same : {D : Type 0} (disk : DiskOf D) (r : Result Index IndexError) (x : Standing D) → LeavesThere disk r x x
 leaves_same disk r nothing = refl
 leaves_same disk r lent = refl
 leaves_same disk r (there a) = record {
@@ -69,9 +69,9 @@ module _ {D : Type 0} (disk : DiskOf D) (f : List ℕ) (s0 s1 s3 : List ℕ → 
   pub read_stays : (n : List ℕ) → StaysThere disk (s0 n) (s3 n)
   read_stays n = round f s0 s1 s1 s3 d e it (StaysThere disk) is_again stays n (λ no. stays_same disk (s1 n))
 
-  pub read_leaves : (r : Result Index IndexBad) → (IsQuiet r → disk.faults e ≡ disk.faults d) → (n : List ℕ) → LeavesThere disk r (s0 n) (s3 n)
+  pub read_leaves : (r : Result Index IndexError) → (HasNoFault r → disk.faults e ≡ disk.faults d) → (n : List ℕ) → LeavesThere disk r (s0 n) (s3 n)
   read_leaves r quiet n =
-      let left : IsLeft disk r d e = record { size = stays.0; unwritten = λ yes. stays; quiet = quiet } in
+      let left : IsPartLeft disk r d e = record { size = stays.0; unwritten = λ yes. stays; quiet = quiet } in
       round f s0 s1 s1 s3 d e it (LeavesThere disk r) is_again left n (λ no. leaves_same disk r (s1 n))
 
 -- ---- sections
@@ -98,8 +98,8 @@ module _ {D : Type 0} (disk : DiskOf D) (told : Type 0) (conf : Conf) (file : Pa
 
   module _ (s1 s3 : List ℕ → Standing D) (f1 f3 : ℕ) (first : f1 ≡ f0) (last : f3 ≡ f1) (d e : D) (it : told → Round file.name s0 s1 s1 s3 d e) where
     -- it is refused
-    pub section_refused_here : (bad : IndexBad) → OnlyReads disk 3 d e
-        → RefusesDisk disk number (RefusesSection disk number (buckets_of os) d) bad d e
+    pub section_refused_here : (bad : IndexError) → OnlyReads disk 3 d e
+        → RefusesDisk disk number (RefusesSection disk number (total_buckets os) d) bad d e
         → IndexesSections disk told conf (file ∷ rest) s0 s3 f0 f3 os os (Err bad)
     section_refused_here (Fault part) reads refused = record {
       used = tt;
@@ -108,7 +108,7 @@ module _ {D : Type 0} (disk : DiskOf D) (told : Type 0) (conf : Conf) (file : Pa
       sections = tt;
       found = λ yes tells. tt;
       differs = tt;
-      cause = inr (subst (λ (p : Option ℕ). Fails disk told (length conf.arenas.items + length os) ((file ∷ rest) ++ listed conf.filter) s0 s3 f0 f3 (Fault p))
+      cause = inr (subst (λ (p : Option ℕ). IndexFails disk told (length conf.arenas.items + length os) ((file ∷ rest) ++ listed conf.filter) s0 s3 f0 f3 (Fault p))
           (sym refused.0)
           (inr (
             last ∙ first,
@@ -128,7 +128,7 @@ module _ {D : Type 0} (disk : DiskOf D) (told : Type 0) (conf : Conf) (file : Pa
       found = λ yes tells. ⊎_elim (λ memory. inl memory) (λ why. inr (
         d,
         (it yes).was,
-        inl (bad, subst (λ (k : ℕ). RefusesSection disk k (buckets_of os) d bad) number_is why, refl),
+        inl (bad, subst (λ (k : ℕ). RefusesSection disk k (total_buckets os) d bad) number_is why, refl),
       )) (refused.2 tells);
       differs = refused.0;
       cause = inr (last ∙ first);
@@ -140,7 +140,7 @@ module _ {D : Type 0} (disk : DiskOf D) (told : Type 0) (conf : Conf) (file : Pa
     section_refused_here (Stopped part) reads refused = absurd refused
 
     -- there is no memory for it
-    pub section_left_out : (o : SectionState D) → IsOpenedSection disk (buckets_of os) d o → e ≡ o.disk
+    pub section_left_out : (o : SectionState D) → IsOpenedSection disk (total_buckets os) d o → e ≡ o.disk
         → IndexesSections disk told conf (file ∷ rest) s0 s3 f0 f3 os os (Err (Refused NoMemory))
     section_left_out o opened same = record {
       used = tt;
@@ -162,21 +162,21 @@ module _ {D : Type 0} (disk : DiskOf D) (told : Type 0) (conf : Conf) (file : Pa
 
   -- it is opened, and the others behind it
   module _ (s1 s2 s3 : List ℕ → Standing D) (f1 f2 f3 : ℕ) (first : f1 ≡ f0) (last : f3 ≡ f2) (d e : D) (it : told → Round file.name s0 s1 s2 s3 d e)
-      (o n : SectionState D) (ns : List (SectionState D)) (opened : IsOpenedSection disk (buckets_of os) d o) (e_is : e ≡ n.disk)
-      (r : Result Index IndexBad)
+      (o n : SectionState D) (ns : List (SectionState D)) (opened : IsOpenedSection disk (total_buckets os) d o) (e_is : e ≡ n.disk)
+      (r : Result Index IndexError)
       (inner : IndexesSections disk told conf rest s1 s2 f1 f2 (os ++ o ∷ []) (ns ++ n ∷ []) r) where
     many : length conf.arenas.items + length (os ++ o ∷ []) ≡ length conf.arenas.items + length os + 1
     many = omega (arith, length-append os (o ∷ []))
 
-    buckets : buckets_of (os ++ o ∷ []) ≡ buckets_of os + o.buckets
+    buckets : total_buckets (os ++ o ∷ []) ≡ total_buckets os + o.buckets
     buckets = omega (arith, sum_by-append (λ (section : SectionState D). section.buckets) os (o ∷ []))
 
     parts : LeavesOpened disk (length conf.arenas.items) inner.total r os ns
-        × LeavesOne disk (length conf.arenas.items) inner.total r (length os) (buckets_of os) o n
+        × LeavesOne disk (length conf.arenas.items) inner.total r (length os) (total_buckets os) o n
     parts = split disk os ns o n (length conf.arenas.items) inner.total r inner.left
 
-    left_e : IsLeft disk r d e
-    left_e = subst (λ (x : D). IsLeft disk r d x) (sym e_is) (left_one disk (length conf.arenas.items) inner.total os d o n opened r parts.1)
+    left_e : IsPartLeft disk r d e
+    left_e = subst (λ (x : D). IsPartLeft disk r d x) (sym e_is) (left_one disk (length conf.arenas.items) inner.total os d o n opened r parts.1)
 
     is_there : told → s3 file.name ≡ there e
     is_there tells = again file.name s0 s1 s2 s3 d e (it tells) (LeavesThere disk r) (leaves_becomes disk r) (inner.back tells file.name)
@@ -193,8 +193,8 @@ module _ {D : Type 0} (disk : DiskOf D) (told : Type 0) (conf : Conf) (file : Pa
       total = inner.total;
       stopped = stopped r inner.stopped parts.1;
       sections = inner.sections;
-      found = λ yes tells. answers (FindsSections disk s1 conf.filter (length conf.arenas.items + length (os ++ o ∷ [])) (buckets_of (os ++ o ∷ [])) rest)
-          (FindsSections disk s0 conf.filter (length conf.arenas.items + length os) (buckets_of os) (file ∷ rest)) (finds yes tells) r (inner.found yes tells);
+      found = λ yes tells. answers (FindsSections disk s1 conf.filter (length conf.arenas.items + length (os ++ o ∷ [])) (total_buckets (os ++ o ∷ [])) rest)
+          (FindsSections disk s0 conf.filter (length conf.arenas.items + length os) (total_buckets os) (file ∷ rest)) (finds yes tells) r (inner.found yes tells);
       differs = inner.differs;
       cause = cause r inner.cause parts.1;
       none = none r inner.none;
@@ -206,45 +206,45 @@ module _ {D : Type 0} (disk : DiskOf D) (told : Type 0) (conf : Conf) (file : Pa
       left = parts.0;
     }
       where
-        used : (r : Result Index IndexBad)
-            → IfOk r (λ (it : Index). told → IsTrue disk.tells → ArePutToUse disk s1 s2 (buckets_of (os ++ o ∷ [])) it.buckets rest)
-            → LeavesOne disk (length conf.arenas.items) inner.total r (length os) (buckets_of os) o n
-            → IfOk r (λ (it : Index). told → IsTrue disk.tells → ArePutToUse disk s0 s3 (buckets_of os) it.buckets (file ∷ rest))
+        used : (r : Result Index IndexError)
+            → IfOk r (λ (it : Index). told → IsTrue disk.tells → ArePutToUse disk s1 s2 (total_buckets (os ++ o ∷ [])) it.buckets rest)
+            → LeavesOne disk (length conf.arenas.items) inner.total r (length os) (total_buckets os) o n
+            → IfOk r (λ (it : Index). told → IsTrue disk.tells → ArePutToUse disk s0 s3 (total_buckets os) it.buckets (file ∷ rest))
         used (Err bad) behind one = tt
         used (Ok index) behind one = λ yes tells. (
           o.buckets,
-          subst (λ (x : Standing D). PutsToUse disk (buckets_of os) o.buckets index.buckets x (s3 file.name)) (sym (it yes).was)
-              (subst (λ (x : Standing D). PutsToUse disk (buckets_of os) o.buckets index.buckets (there d) x) (ap there (sym e_is) ∙ sym (is_there yes))
+          subst (λ (x : Standing D). PutsSectionToUse disk (total_buckets os) o.buckets index.buckets x (s3 file.name)) (sym (it yes).was)
+              (subst (λ (x : Standing D). PutsSectionToUse disk (total_buckets os) o.buckets index.buckets (there d) x) (ap there (sym e_is) ∙ sym (is_there yes))
               (put disk (length conf.arenas.items) inner.total os d o n opened index.buckets tells one)),
           subst (λ (k : ℕ). ArePutToUse disk s0 s3 k index.buckets rest) buckets
-              (put_rest disk s0 s1 s2 s3 (was_there yes) (becomes_there yes) (buckets_of (os ++ o ∷ [])) index.buckets rest (behind yes tells)),
+              (put_rest disk s0 s1 s2 s3 (was_there yes) (becomes_there yes) (total_buckets (os ++ o ∷ [])) index.buckets rest (behind yes tells)),
         )
 
-        stopped : (r : Result Index IndexBad)
-            → IfErr r (λ bad. told → IsTrue disk.tells → StopsIndex disk s1 s2 (buckets_of (os ++ o ∷ [])) inner.total
+        stopped : (r : Result Index IndexError)
+            → IfErr r (λ bad. told → IsTrue disk.tells → StopsIndex disk s1 s2 (total_buckets (os ++ o ∷ [])) inner.total
             (length conf.arenas.items + length (os ++ o ∷ [])) rest bad)
-            → LeavesOne disk (length conf.arenas.items) inner.total r (length os) (buckets_of os) o n
-            → IfErr r (λ bad. told → IsTrue disk.tells → StopsIndex disk s0 s3 (buckets_of os) inner.total
+            → LeavesOne disk (length conf.arenas.items) inner.total r (length os) (total_buckets os) o n
+            → IfErr r (λ bad. told → IsTrue disk.tells → StopsIndex disk s0 s3 (total_buckets os) inner.total
             (length conf.arenas.items + length os) (file ∷ rest) bad)
         stopped (Ok index) behind one = tt
         stopped (Err (Fault part)) behind one = λ yes tells. tt
         stopped (Err (Refused bad)) behind one = λ yes tells. tt
         stopped (Err (Stopped part)) behind one = λ yes tells. (
           o.buckets,
-          subst (λ (x : Standing D). StopsSection disk (buckets_of os) o.buckets inner.total (length conf.arenas.items + length os) part x (s3 file.name))
+          subst (λ (x : Standing D). StopsSection disk (total_buckets os) o.buckets inner.total (length conf.arenas.items + length os) part x (s3 file.name))
               (sym (it yes).was)
-              (subst (λ (x : Standing D). StopsSection disk (buckets_of os) o.buckets inner.total (length conf.arenas.items + length os) part (there d) x)
+              (subst (λ (x : Standing D). StopsSection disk (total_buckets os) o.buckets inner.total (length conf.arenas.items + length os) part (there d) x)
               (ap there (sym e_is) ∙ sym (is_there yes))
               (leaves_section disk (length conf.arenas.items) inner.total os d o n opened part tells one)),
-          stopped_rest disk s0 s1 s2 s3 (was_there yes) (becomes_there yes) (buckets_of os + o.buckets) inner.total (length conf.arenas.items + length os + 1) part
+          stopped_rest disk s0 s1 s2 s3 (was_there yes) (becomes_there yes) (total_buckets os + o.buckets) inner.total (length conf.arenas.items + length os + 1) part
               rest
               (subst (λ (k : ℕ). StopsSections disk s1 s2 k inner.total (length conf.arenas.items + length os + 1) part rest) buckets
-              (subst (λ (k : ℕ). StopsSections disk s1 s2 (buckets_of (os ++ o ∷ [])) inner.total k part rest) many (behind yes tells))),
+              (subst (λ (k : ℕ). StopsSections disk s1 s2 (total_buckets (os ++ o ∷ [])) inner.total k part rest) many (behind yes tells))),
         )
 
         finds : told → IsTrue disk.tells → (found : Option MountBad)
-            → FindsSections disk s1 conf.filter (length conf.arenas.items + length (os ++ o ∷ [])) (buckets_of (os ++ o ∷ [])) rest found
-            → FindsSections disk s0 conf.filter (length conf.arenas.items + length os) (buckets_of os) (file ∷ rest) found
+            → FindsSections disk s1 conf.filter (length conf.arenas.items + length (os ++ o ∷ [])) (total_buckets (os ++ o ∷ [])) rest found
+            → FindsSections disk s0 conf.filter (length conf.arenas.items + length os) (total_buckets os) (file ∷ rest) found
         finds known tells found behind = (
           d,
           (it known).was,
@@ -252,36 +252,36 @@ module _ {D : Type 0} (disk : DiskOf D) (told : Type 0) (conf : Conf) (file : Pa
             opened.accepted tells,
             omega (arith, opened.few, opened.buckets),
             subst (λ (k : ℕ). FindsSections disk s0 conf.filter (length conf.arenas.items + length os + 1) k rest found)
-                (buckets ∙ ap (λ (k : ℕ). buckets_of os + k) opened.buckets)
-                (subst (λ (k : ℕ). FindsSections disk s0 conf.filter k (buckets_of (os ++ o ∷ [])) rest found) many
-                (finds_sections disk s1 s0 (was_there known) conf.filter (length conf.arenas.items + length (os ++ o ∷ [])) (buckets_of (os ++ o ∷ [])) rest found behind)),
+                (buckets ∙ ap (λ (k : ℕ). total_buckets os + k) opened.buckets)
+                (subst (λ (k : ℕ). FindsSections disk s0 conf.filter k (total_buckets (os ++ o ∷ [])) rest found) many
+                (finds_sections disk s1 s0 (was_there known) conf.filter (length conf.arenas.items + length (os ++ o ∷ [])) (total_buckets (os ++ o ∷ [])) rest found behind)),
           ),
         )
 
-        none : (r : Result Index IndexBad) → OnOk r (f2 ≡ f1) → OnOk r (f3 ≡ f0)
+        none : (r : Result Index IndexError) → OnOk r (f2 ≡ f1) → OnOk r (f3 ≡ f0)
         none (Ok index) same = last ∙ same ∙ first
         none (Err bad) same = tt
 
-        cause : (r : Result Index IndexBad)
+        cause : (r : Result Index IndexError)
             → IfErr r (λ bad. ((f2 ≡ f1) × IsStoppedAmong (length conf.arenas.items) (length (os ++ o ∷ [])) bad)
-            ⊎ Fails disk told (length conf.arenas.items + length (os ++ o ∷ [])) (rest ++ listed conf.filter) s1 s2 f1 f2 bad)
-            → LeavesOne disk (length conf.arenas.items) inner.total r (length os) (buckets_of os) o n
+            ⊎ IndexFails disk told (length conf.arenas.items + length (os ++ o ∷ [])) (rest ++ listed conf.filter) s1 s2 f1 f2 bad)
+            → LeavesOne disk (length conf.arenas.items) inner.total r (length os) (total_buckets os) o n
             → IfErr r (λ bad. ((f3 ≡ f0) × IsStoppedAmong (length conf.arenas.items) (length os) bad)
-            ⊎ Fails disk told (length conf.arenas.items + length os) ((file ∷ rest) ++ listed conf.filter) s0 s3 f0 f3 bad)
+            ⊎ IndexFails disk told (length conf.arenas.items + length os) ((file ∷ rest) ++ listed conf.filter) s0 s3 f0 f3 bad)
         cause (Ok index) why one = tt
         cause (Err bad) why one = ⊎_elim
             (λ here. ⊎_elim
             (λ before. inl (last ∙ here.0 ∙ first, before))
-            (λ this. inr (subst (λ (b : IndexBad). Fails disk told (length conf.arenas.items + length os) ((file ∷ rest) ++ listed conf.filter) s0 s3 f0 f3 b)
+            (λ this. inr (subst (λ (b : IndexError). IndexFails disk told (length conf.arenas.items + length os) ((file ∷ rest) ++ listed conf.filter) s0 s3 f0 f3 b)
             (sym this.1) (
               last ∙ here.0 ∙ first,
               stopped_here disk (length conf.arenas.items) inner.total os d o n opened this.0 told file (rest ++ listed conf.filter) s0 s3
-                  (subst (λ (b : IndexBad). LeavesOne disk (length conf.arenas.items) inner.total (Err b) (length os) (buckets_of os) o n) this.1 one) this.2
+                  (subst (λ (b : IndexError). LeavesOne disk (length conf.arenas.items) inner.total (Err b) (length os) (total_buckets os) o n) this.1 one) this.2
                   (λ yes. (it yes).was) (λ yes. is_there yes ∙ ap there e_is),
             )))
             (stopped_among (length conf.arenas.items) (length os) bad
             (subst (λ (k : ℕ). IsStoppedAmong (length conf.arenas.items) k bad) (length-append os (o ∷ [])) here.1)))
             (λ behind. inr (later disk told (length conf.arenas.items + length os) file (rest ++ listed conf.filter) s0 s1 s2 s3
             was_there becomes_there bad f0 f1 f2 f3 first last
-            (subst (λ (k : ℕ). Fails disk told k (rest ++ listed conf.filter) s1 s2 f1 f2 bad) many behind)))
+            (subst (λ (k : ℕ). IndexFails disk told k (rest ++ listed conf.filter) s1 s2 f1 f2 bad) many behind)))
             why

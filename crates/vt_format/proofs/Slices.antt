@@ -12,10 +12,10 @@ use Rattle.vt_part.specs.declared.part.Part.{Part}
 use Rattle.vt_part.specs.Parts.{table_of, tables_of}
 use Rattle.vt_part.specs.Table.{Table}
 use Rattle.vt_format.specs.declared.index.Index.{Index}
-use Rattle.vt_format.specs.declared.index.IndexBad.{IndexBad}
-use Rattle.vt_format.specs.declared.index.IndexBad.TheVariants.{Fault, Refused, Stopped}
+use Rattle.vt_format.specs.declared.index.IndexError.{IndexError}
+use Rattle.vt_format.specs.declared.index.IndexError.TheVariants.{Fault, Refused, Stopped}
 use Rattle.vt_format.specs.Index.{LeavesOpened}
-use Rattle.vt_format.specs.Usage.{buckets_of}
+use Rattle.vt_format.specs.Usage.{total_buckets}
 
 pub first_and_rest : {X : Type 0} (xs : List X) (x d : X) → 0 < length xs → x ≡ get_or xs 0 d
     → xs ≡ x ∷ take (length xs - 1) (drop 1 xs)
@@ -49,7 +49,7 @@ all_more {X = X} P xs x all here = All-append P xs (x ∷ []) all one
     one zero d within = here
     one (suc k) d within = absurd (omega (arith, within))
 
-pub buckets_more : {D : Type 0} (os : List (SectionState D)) (o : SectionState D) → buckets_of (os ++ o ∷ []) ≡ buckets_of os + o.buckets
+pub buckets_more : {D : Type 0} (os : List (SectionState D)) (o : SectionState D) → total_buckets (os ++ o ∷ []) ≡ total_buckets os + o.buckets
 buckets_more {D = D} os o = omega (arith, sum_by-append (λ (section : SectionState D). section.buckets) os (o ∷ []))
 
 pub arenas_more : {D : Type 0} (ps : List (Part D)) (p : Part D)
@@ -60,7 +60,7 @@ arenas_more {D = D} ps p =
     ∙ (let e = sum_by-append (λ (t : Table). t.count) (tables_of ps) (table_of p ∷ []) in omega (arith, e))
 
 -- as many sections are left as were opened
-pub as_many_left : {D : Type 0} (disk : DiskOf D) (number total : ℕ) (r : Result Index IndexBad) (olds news : List (SectionState D))
+pub as_many_left : {D : Type 0} (disk : DiskOf D) (number total : ℕ) (r : Result Index IndexError) (olds news : List (SectionState D))
     → LeavesOpened disk number total r olds news → length news ≡ length olds
 as_many_left disk number total (Ok it) olds news left = left.many
 as_many_left disk number total (Err (Fault part)) olds news left = ap length left

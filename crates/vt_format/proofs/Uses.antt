@@ -4,16 +4,16 @@ use Rattle.std.proofs.Common.{◌≡◌, ◌≢◌, inl, inr, ⊎_elim, ℕ, ◌
 use Rattle.std.specs.Prelude.{IsSome, IsTrue, OnOk}
 use Rattle.std.proofs.lemmas.Bool.Decides.{nat_tests}
 use Rattle.vt_base.specs.declared.place.Entry.{Entry}
-use Rattle.vt_bucket.specs.Frame.{IsFrame}
+use Rattle.vt_bucket.specs.Frame.{IsBucketFrame}
 use Rattle.vt_disk.specs.Members.{DiskOf}
-use Rattle.vt_isect.specs.declared.bad.ShardErr.{ShardErr}
+use Rattle.vt_isect.specs.declared.error.ShardErr.{ShardErr}
 use Rattle.vt_isect.specs.declared.head.Head.{Head}
 use Rattle.vt_isect.specs.declared.phase.Phase.TheVariants.{Rest, ChangeHead}
 use Rattle.vt_isect.specs.declared.TheConstants.{FRAME_LEN}
 use Rattle.vt_isect.specs.Head.{IsHeadFrame}
 use Rattle.vt_isect.specs.Layout.{InRange, IsSection, head_place}
 use Rattle.vt_isect.specs.Section.{SectionState, PutsEntries}
-use Rattle.vt_isect.specs.Sound.{DiskHolds, IsWhole, Known, LeavesHead, LeavesSection, nothing_known}
+use Rattle.vt_isect.specs.Sound.{DiskHolds, KnowsEachBucket, KnownBuckets, LeavesHead, LeavesSection, nothing_known}
 use Rattle.vt_twin.specs.Frames.{current_frame}
 use Rattle.vt_format.specs.Usage.{ChangesHead, IsInUse, IsMidway, StopsHead, cleared, head_in}
 
@@ -25,15 +25,15 @@ some_is : {A : Type 0} (o : Option A) (x : A) → o ≡ Some x → IsSome o
 some_is {A = A} o x is = subst (λ (p : Option A). IsSome p) (sym is) refl
 
 module _ {D : Type 0} (disk : DiskOf D)
-    (crash : (t : SectionState D) (known : Known) → DiskHolds disk t known → IsWhole t known → t.next.first ≡ t.head.first
+    (crash : (t : SectionState D) (known : KnownBuckets) → DiskHolds disk t known → KnowsEachBucket t known → t.next.first ≡ t.head.first
     → (file : List ℕ) → disk.images t.disk file → LeavesSection t known file)
     (t : SectionState D) (phase : ¬ PutsEntries t.phase) (first : t.next.first ≡ t.head.first) where
   -- what a crash leaves of a section that is known to have no entries
   leaves_empty : DiskHolds disk t (cleared t.head.first t.buckets) → (c : List ℕ) → disk.images t.disk c
       → (head : Head) × LeavesHead t head × IsSection t.name head t.buckets (λ n. []) c
   leaves_empty sound c left =
-      let known : Known = cleared t.head.first t.buckets in
-      let whole : IsWhole t known = λ n within. some_is (known n) [] (known_there t.head.first t.buckets n within.0 within.1) in
+      let known : KnownBuckets = cleared t.head.first t.buckets in
+      let whole : KnowsEachBucket t known = λ n within. some_is (known n) [] (known_there t.head.first t.buckets n within.0 within.1) in
       let it = crash t known sound whole first c left in
       let same : it.0.first ≡ t.head.first = ⊎_elim (λ is. ap (λ h. h.first) is) (λ way. ap (λ h. h.first) way.2 ∙ first) it.3 in (
         it.0,
@@ -46,7 +46,7 @@ module _ {D : Type 0} (disk : DiskOf D)
               (subst (λ (k : ℕ). k ≤ n) same within.0, subst (λ (k : ℕ). n < k + t.buckets) same within.1) in
               let none : it.1 n ≡ [] = ⊎_elim (λ is. is) (λ way. absurd (phase way.0.1.0))
               (it.4 n [] here (known_there t.head.first t.buckets n here.0 here.1)) in
-              (bucket.0, bucket.1, subst (λ (entries : List Entry). IsFrame n entries (current_frame bucket.0 FRAME_LEN c)) none bucket.2);
+              (bucket.0, bucket.1, subst (λ (entries : List Entry). IsBucketFrame n entries (current_frame bucket.0 FRAME_LEN c)) none bucket.2);
         },
       )
 
@@ -55,7 +55,7 @@ head_at_rest : {D : Type 0} (t : SectionState D) → t.phase ≡ Rest → (head 
 head_at_rest t rest head it = ⊎_elim (λ is. is) (λ way. let no : Rest ≡ ChangeHead = sym rest ∙ way.0 in absurd (cc)) it
 
 module _ {D : Type 0} (disk : DiskOf D)
-    (crash : (t : SectionState D) (known : Known) → DiskHolds disk t known → IsWhole t known → t.next.first ≡ t.head.first
+    (crash : (t : SectionState D) (known : KnownBuckets) → DiskHolds disk t known → KnowsEachBucket t known → t.next.first ≡ t.head.first
     → (file : List ℕ) → disk.images t.disk file → LeavesSection t known file)
     (t : SectionState D) (rest : t.phase ≡ Rest) (next : t.next ≡ t.head) where
   empty : DiskHolds disk t (cleared t.head.first t.buckets) → (c : List ℕ) → disk.images t.disk c
@@ -66,7 +66,7 @@ module _ {D : Type 0} (disk : DiskOf D)
       subst (λ (h : Head). IsSection t.name h t.buckets (λ n. []) c) (head_at_rest t rest it.0 it.1) it.2
 
 pub in_use : {D : Type 0} (disk : DiskOf D)
-    (crash : (t : SectionState D) (known : Known) → DiskHolds disk t known → IsWhole t known → t.next.first ≡ t.head.first
+    (crash : (t : SectionState D) (known : KnownBuckets) → DiskHolds disk t known → KnowsEachBucket t known → t.next.first ≡ t.head.first
     → (file : List ℕ) → disk.images t.disk file → LeavesSection t known file)
     (first total : ℕ) (old a b new : SectionState D) (r : Result (Unit {0}) ShardErr) → ChangesHead disk 2 first total old a
     → b ≡ record a { disk = b.disk }
@@ -104,7 +104,7 @@ in_use {D = D} disk crash first total old a b new (Ok done) one same clears two 
 
 -- the head that a crash leaves
 abbrev pub HasHeads : {D : Type 0} → DiskOf D → Type 0
-HasHeads {D} disk = (t : SectionState D) (known : Known) → DiskHolds disk t known → (file : List ℕ) → disk.images t.disk file
+HasHeads {D} disk = (t : SectionState D) (known : KnownBuckets) → DiskHolds disk t known → (file : List ℕ) → disk.images t.disk file
     → (head : Head) × LeavesHead t head × IsHeadFrame t.name head (current_frame head_place FRAME_LEN file)
 
 -- of the first change of the head: that is the old one, or the one that says that it is being built
@@ -140,7 +140,7 @@ module _ {D : Type 0} (disk : DiskOf D) (first total : ℕ) (old a b : SectionSt
       (subst (λ (n : List ℕ). IsHeadFrame n left_head.0 (current_frame head_place FRAME_LEN c)) name_b left_head.2)))
 
   -- of the second change of the head: it is being built, or in use
-  pub last_midway : ((t : SectionState D) (known : Known) → DiskHolds disk t known → IsWhole t known → t.next.first ≡ t.head.first
+  pub last_midway : ((t : SectionState D) (known : KnownBuckets) → DiskHolds disk t known → KnowsEachBucket t known → t.next.first ≡ t.head.first
       → (file : List ℕ) → disk.images t.disk file → LeavesSection t known file)
       → (new : SectionState D) → StopsHead disk 1 first total b new → IsTrue disk.tells
       → DiskHolds disk b (cleared a.head.first a.buckets) → IsMidway disk first total old new

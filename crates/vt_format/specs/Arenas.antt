@@ -35,9 +35,10 @@ RefusesTable bad = ⊥
 -- It is refused where it has no room for an arena, and is as it was; or one of its calls failed, or
 -- memory ran out. A disk that doesn't tell what it holds may also give back another table than was
 -- written, which is then refused.
-abbrev pub RefusesArenas : {D : Type 0} → DiskOf D → (arena_size : ℕ) → MountBad → (old new : D)
+abbrev pub RefusesArenaFormat : {D : Type 0} → DiskOf D → (arena_size : ℕ) → MountBad
+    → (old new : D)
     → Type 0
-RefusesArenas disk arena_size bad old new =
+RefusesArenaFormat disk arena_size bad old new =
     ((disk.size old < BLOCK_LEN + arena_size)
     × (bad ≡ TooSmall 0 (disk.size old) (BLOCK_LEN + arena_size)) × (new ≡ old))
     ⊎ ((bad ≡ Fault) × HasRisen (disk.faults old) (disk.faults new))
@@ -51,4 +52,4 @@ pub record FormatsArenas {D : Type 0} (disk : DiskOf D) (name : List ℕ) (arena
   pub calls : IsTrue disk.tells → disk.calls new
       ≤ disk.calls old + (3 + 3 * count_for (disk.size old) arena_size)
   pub formatted : IfOk result (λ count. BecomesArenas disk name arena_size count old new)
-  pub refused : IfErr result (λ bad. RefusesArenas disk arena_size bad old new)
+  pub refused : IfErr result (λ bad. RefusesArenaFormat disk arena_size bad old new)

@@ -5,7 +5,7 @@ use Rattle.vt_base.specs.declared.mount.MountBad.{MountBad}
 use Rattle.vt_base.specs.declared.mount.MountBad.TheVariants.{Fault, Disagree, NoMemory}
 use Rattle.vt_base.specs.declared.mount.MountField.TheVariants.{M}
 use Rattle.vt_bloom.specs.Frame.{HasSaved, empty_of}
-use Rattle.vt_bloom.specs.Size.{IsLargest, region_of}
+use Rattle.vt_bloom.specs.Size.{IsLargest, filter_region}
 use Rattle.vt_disk.specs.Calls.{IsSynced, WritesWithin}
 use Rattle.vt_disk.specs.Members.{DiskOf}
 
@@ -28,6 +28,6 @@ RefusesFilter disk m bad old new =
 -- Nothing is written but the filter, by three calls at most.
 pub record FormatsFilter {D : Type 0} (disk : DiskOf D) (m k : ℕ)
     (result : Result (Unit {0}) MountBad) (old new : D) : Type 0 where
-  pub writes : WritesWithin disk (region_of m) 3 old new
+  pub writes : WritesWithin disk (filter_region m) 3 old new
   pub formatted : OnOk result (BecomesFilter disk m k old new)
   pub refused : IfErr result (λ bad. RefusesFilter disk m bad old new)

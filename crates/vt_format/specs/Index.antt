@@ -9,10 +9,10 @@ use Rattle.vt_conf.specs.declared.conf.PartFile.{PartFile}
 use Rattle.vt_disk.specs.Disk.{Only}
 use Rattle.vt_disk.specs.Members.{DiskOf}
 use Rattle.vt_format.specs.declared.index.Index.{Index}
-use Rattle.vt_format.specs.declared.index.IndexBad.{IndexBad}
-use Rattle.vt_format.specs.declared.index.IndexBad.TheVariants.{Fault, Refused, Stopped}
+use Rattle.vt_format.specs.declared.index.IndexError.{IndexError}
+use Rattle.vt_format.specs.declared.index.IndexError.TheVariants.{Fault, Refused, Stopped}
 use Rattle.vt_format.specs.Opening.{FindsArenas, FindsSections, NamesCause}
-use Rattle.vt_format.specs.Usage.{AreUsed, LeavesMidway, StopsAt, buckets_of, head_in}
+use Rattle.vt_format.specs.Usage.{AreUsed, LeavesMidway, StopsAtSection, total_buckets, head_in}
 use Rattle.vt_isect.specs.declared.head.Head.{Head}
 use Rattle.vt_isect.specs.declared.TheConstants.{FRAME_LEN}
 use Rattle.vt_isect.specs.Head.{IsHeadFrame}
@@ -21,7 +21,7 @@ use Rattle.vt_isect.specs.Section.{SectionState}
 use Rattle.vt_log.specs.Log.{disks_of}
 use Rattle.vt_part.specs.declared.part.Part.{Part}
 use Rattle.vt_part.specs.Parts.{tables_of}
-use Rattle.vt_parts.specs.Parts.{Standing, there, StaysThere}
+use Rattle.vt_partitions.specs.Parts.{Standing, there, StaysThere}
 use Rattle.vt_twin.specs.Frames.{current_frame}
 
 -- ---- the files that a configuration names, in the order of their partitions
@@ -33,44 +33,46 @@ listed (Some file) = file ∷ []
 abbrev pub files_behind : Conf → List PartFile
 files_behind conf = conf.sections.items ++ listed conf.filter
 
-abbrev pub files_of : Conf → List PartFile
-files_of conf = conf.arenas.items ++ files_behind conf
+abbrev pub files_in_order : Conf → List PartFile
+files_in_order conf = conf.arenas.items ++ files_behind conf
 
 -- ---- how a partition is left
 
 -- nothing is written before all is mounted: neither where something is refused, nor where a call
 -- fails by which that is found
-abbrev pub IsUnwritten : Result Index IndexBad → Type 0
-IsUnwritten (Ok it) = ⊥
-IsUnwritten (Err (Fault part)) = ⊤
-IsUnwritten (Err (Refused bad)) = ⊤
-IsUnwritten (Err (Stopped part)) = ⊥
+abbrev pub LeavesUnwritten : Result Index IndexError → Type 0
+LeavesUnwritten (Ok it) = ⊥
+LeavesUnwritten (Err (Fault part)) = ⊤
+LeavesUnwritten (Err (Refused bad)) = ⊤
+LeavesUnwritten (Err (Stopped part)) = ⊥
 
 -- no call has failed
-abbrev pub IsQuiet : Result Index IndexBad → Type 0
-IsQuiet (Ok it) = ⊤
-IsQuiet (Err (Fault part)) = ⊥
-IsQuiet (Err (Refused bad)) = ⊤
-IsQuiet (Err (Stopped part)) = ⊥
+abbrev pub HasNoFault : Result Index IndexError → Type 0
+HasNoFault (Ok it) = ⊤
+HasNoFault (Err (Fault part)) = ⊥
+HasNoFault (Err (Refused bad)) = ⊤
+HasNoFault (Err (Stopped part)) = ⊥
 
 -- It is as long as it was, and where nothing is written it has its bytes and its images. A fault of
 -- it is told.
-pub record IsLeft {D : Type 0} (disk : DiskOf D) (result : Result Index IndexBad) (old new : D)
+pub record IsPartLeft {D : Type 0} (disk : DiskOf D) (result : Result Index IndexError)
+    (old new : D)
     : Type 0 where
   pub size : disk.size new ≡ disk.size old
-  pub unwritten : IsUnwritten result → StaysThere disk (there old) (there new)
-  pub quiet : IsQuiet result → disk.faults new ≡ disk.faults old
+  pub unwritten : LeavesUnwritten result → StaysThere disk (there old) (there new)
+  pub quiet : HasNoFault result → disk.faults new ≡ disk.faults old
 
 -- what stood under a name stands there again
-abbrev pub LeavesThere : {D : Type 0} → DiskOf D → Result Index IndexBad → (old new : Standing D)
+abbrev pub LeavesThere : {D : Type 0} → DiskOf D → Result Index IndexError → (old new : Standing D)
     → Type 0
-LeavesThere disk result (there old) (there new) = IsLeft disk result old new
+LeavesThere disk result (there old) (there new) = IsPartLeft disk result old new
 LeavesThere disk result old new = new ≡ old
 
 -- The section that stood there is in use: it has its name, and its buckets, which are so many, from
 -- this number on, of so many in all, have no entries, whatever a crash leaves. That takes two calls
 -- for each bucket, and 27 more at most.
-pub record PutsToUse {D : Type 0} (disk : DiskOf D) (first count total : ℕ) (old new : Standing D)
+pub record PutsSectionToUse {D : Type 0} (disk : DiskOf D) (first count total : ℕ)
+    (old new : Standing D)
     : Type 0 where
   pub before : D
   pub after : D
@@ -90,7 +92,7 @@ abbrev pub ArePutToUse : {D : Type 0} → DiskOf D → (old new : List ℕ → S
     → (first total : ℕ) → List PartFile → Type 0
 ArePutToUse disk old new first total [] = total ≡ first
 ArePutToUse disk old new first total (file ∷ files) =
-    (count : ℕ) × PutsToUse disk first count total (old file.name) (new file.name)
+    (count : ℕ) × PutsSectionToUse disk first count total (old file.name) (new file.name)
     × ArePutToUse disk old new (first + count) total files
 
 -- Where a call failed of the section with number `part`, this became of one of them, the section with
@@ -106,7 +108,7 @@ pub record StopsSection {D : Type 0} (disk : DiskOf D) (first count total number
   pub name : List ℕ
   pub head : Head
   pub named : IsHeadFrame name head (current_frame head_place FRAME_LEN (disk.bytes before))
-  pub used : number < part → PutsToUse disk first count total old new
+  pub used : number < part → PutsSectionToUse disk first count total old new
   pub midway : number ≡ part → (file : List ℕ) → disk.images after file
       → LeavesMidway name head first count total (disk.images before) file
   pub stays : part < number → StaysThere disk old new
@@ -121,7 +123,7 @@ StopsSections disk old new first total number part (file ∷ files) =
     × StopsSections disk old new (first + count) total (number + 1) part files
 
 abbrev pub StopsIndex : {D : Type 0} → DiskOf D → (old new : List ℕ → Standing D)
-    → (first total number : ℕ) → List PartFile → IndexBad → Type 0
+    → (first total number : ℕ) → List PartFile → IndexError → Type 0
 StopsIndex disk old new first total number files (Fault part) = ⊤
 StopsIndex disk old new first total number files (Refused bad) = ⊤
 StopsIndex disk old new first total number files (Stopped part) =
@@ -130,7 +132,7 @@ StopsIndex disk old new first total number files (Stopped part) =
 -- ---- why it isn't done
 
 -- it is done, or stopped, only where nothing is refused, and refused for the first cause
-abbrev pub AnswersFor : (found : Option MountBad → Type 0) → Result Index IndexBad → Type 0
+abbrev pub AnswersFor : (found : Option MountBad → Type 0) → Result Index IndexError → Type 0
 AnswersFor found (Ok it) = found None
 AnswersFor found (Err (Fault part)) = ⊤
 AnswersFor found (Err (Refused bad)) = (bad ≡ NoMemory) ⊎ found (Some bad)
@@ -152,45 +154,45 @@ pub record FailsAt {D : Type 0} (disk : DiskOf D) (told : Type 0) (number : ℕ)
 
 -- What failed: the partition with this number wasn't handed out, and the count of that rose, or a
 -- call of it did.
-abbrev pub Fails : {D : Type 0} → DiskOf D → (told : Type 0) → (number : ℕ) → List PartFile
-    → (old new : List ℕ → Standing D) → (faults faults' : ℕ) → IndexBad → Type 0
-Fails disk told number files old new faults faults' (Fault None) =
+abbrev pub IndexFails : {D : Type 0} → DiskOf D → (told : Type 0) → (number : ℕ) → List PartFile
+    → (old new : List ℕ → Standing D) → (faults faults' : ℕ) → IndexError → Type 0
+IndexFails disk told number files old new faults faults' (Fault None) =
     (faults' ≡ faults) × (part : ℕ) × FailsAt disk told number files old new part
-Fails disk told number files old new faults faults' (Fault (Some part)) =
+IndexFails disk told number files old new faults faults' (Fault (Some part)) =
     (HasRisen faults faults' × (number ≤ part) × (part < number + length files))
     ⊎ ((faults' ≡ faults) × FailsAt disk told number files old new part)
-Fails disk told number files old new faults faults' (Refused bad) = faults' ≡ faults
-Fails disk told number files old new faults faults' (Stopped part) =
+IndexFails disk told number files old new faults faults' (Refused bad) = faults' ≡ faults
+IndexFails disk told number files old new faults faults' (Stopped part) =
     (faults' ≡ faults) × FailsAt disk told number files old new part
 
 -- ---- what is opened meanwhile
 
 -- These sections were opened, from the partition with this number on, and have so many buckets with
 -- those behind them: all are in use, or one of them isn't, or nothing became of them.
-abbrev pub LeavesOpened : {D : Type 0} → DiskOf D → (number total : ℕ) → Result Index IndexBad
+abbrev pub LeavesOpened : {D : Type 0} → DiskOf D → (number total : ℕ) → Result Index IndexError
     → (olds news : List (SectionState D)) → Type 0
 LeavesOpened disk number total (Ok it) olds news = AreUsed disk it.buckets olds news
 LeavesOpened disk number total (Err (Fault part)) olds news = news ≡ olds
 LeavesOpened disk number total (Err (Refused bad)) olds news = news ≡ olds
 LeavesOpened disk number total (Err (Stopped part)) olds news =
-    (i : ℕ) × (part ≡ number + i) × StopsAt disk i total olds news
+    (i : ℕ) × (part ≡ number + i) × StopsAtSection disk i total olds news
 
 -- one of so many opened ones is the one that is stopped
-abbrev pub IsStoppedAmong : (number count : ℕ) → IndexBad → Type 0
+abbrev pub IsStoppedAmong : (number count : ℕ) → IndexError → Type 0
 IsStoppedAmong number count (Fault part) = ⊥
 IsStoppedAmong number count (Refused bad) = ⊥
 IsStoppedAmong number count (Stopped part) = (number ≤ part) × (part < number + count)
 
 -- These disks of partitions of arenas are as they were, but for calls that failed.
-pub record AreLeft {D : Type 0} (disk : DiskOf D) (result : Result Index IndexBad)
+pub record AreArenasLeft {D : Type 0} (disk : DiskOf D) (result : Result Index IndexError)
     (olds news : List D) : Type 0 where
   pub many : length news ≡ length olds
   pub each : (i : ℕ) (old new : D) → slice_get olds i ≡ Some old → slice_get news i ≡ Some new
       → StaysThere disk (there old) (there new)
-      × (IsQuiet result → disk.faults new ≡ disk.faults old)
+      × (HasNoFault result → disk.faults new ≡ disk.faults old)
 
 -- a call of one of them failed, by which the log is found
-abbrev pub FindsFault : {D : Type 0} → DiskOf D → (olds news : List D) → IndexBad → Type 0
+abbrev pub FindsFault : {D : Type 0} → DiskOf D → (olds news : List D) → IndexError → Type 0
 FindsFault {D} disk olds news (Fault None) = (i : ℕ) × (old : D) × (new : D)
     × (slice_get olds i ≡ Some old) × (slice_get news i ≡ Some new)
     × HasRisen (disk.faults old) (disk.faults new)
@@ -204,20 +206,20 @@ FindsFault disk olds news (Stopped part) = ⊥
 -- are put to use.
 pub record IndexesSections {D : Type 0} (disk : DiskOf D) (told : Type 0) (conf : Conf)
     (files : List PartFile) (old new : List ℕ → Standing D) (faults faults' : ℕ)
-    (olds news : List (SectionState D)) (result : Result Index IndexBad) : Type 0 where
+    (olds news : List (SectionState D)) (result : Result Index IndexError) : Type 0 where
   pub used : IfOk result (λ it. told → IsTrue disk.tells
-      → ArePutToUse disk old new (buckets_of olds) it.buckets files)
+      → ArePutToUse disk old new (total_buckets olds) it.buckets files)
   pub total : ℕ
   pub stopped : IfErr result (λ bad. told → IsTrue disk.tells
-      → StopsIndex disk old new (buckets_of olds) total
+      → StopsIndex disk old new (total_buckets olds) total
       (length conf.arenas.items + length olds) files bad)
   pub sections : IfOk result (λ it. it.sections ≡ length conf.sections.items)
   pub found : told → IsTrue disk.tells → AnswersFor (FindsSections disk old conf.filter
-      (length conf.arenas.items + length olds) (buckets_of olds) files) result
+      (length conf.arenas.items + length olds) (total_buckets olds) files) result
   pub differs : IfErr result NamesCause
   pub cause : IfErr result (λ bad.
       ((faults' ≡ faults) × IsStoppedAmong (length conf.arenas.items) (length olds) bad)
-      ⊎ Fails disk told (length conf.arenas.items + length olds) (files ++ listed conf.filter)
+      ⊎ IndexFails disk told (length conf.arenas.items + length olds) (files ++ listed conf.filter)
       old new faults faults' bad)
   pub none : OnOk result (faults' ≡ faults)
   pub back : told → (name : List ℕ) → LeavesThere disk result (old name) (new name)
@@ -229,7 +231,7 @@ pub record IndexesSections {D : Type 0} (disk : DiskOf D) (told : Type 0) (conf 
 -- found, and the same is done of all sections.
 pub record IndexesArenas {D : Type 0} (disk : DiskOf D) (told : Type 0) (conf : Conf)
     (files : List PartFile) (old new : List ℕ → Standing D) (faults faults' : ℕ)
-    (olds news : List (Part D)) (result : Result Index IndexBad) : Type 0 where
+    (olds news : List (Part D)) (result : Result Index IndexError) : Type 0 where
   pub used : IfOk result (λ it. told → IsTrue disk.tells
       → ArePutToUse disk old new 0 it.buckets conf.sections.items)
   pub total : ℕ
@@ -241,10 +243,10 @@ pub record IndexesArenas {D : Type 0} (disk : DiskOf D) (told : Type 0) (conf : 
   pub differs : IfErr result NamesCause
   pub cause : IfErr result (λ bad.
       ((faults' ≡ faults) × FindsFault disk (disks_of olds) (disks_of news) bad)
-      ⊎ Fails disk told (length olds) (files ++ files_behind conf) old new faults faults' bad)
+      ⊎ IndexFails disk told (length olds) (files ++ files_behind conf) old new faults faults' bad)
   pub none : OnOk result (faults' ≡ faults)
   pub back : told → (name : List ℕ) → LeavesThere disk result (old name) (new name)
   pub stays : told → (name : List ℕ)
       → ¬ Contains (map (λ file. file.name) conf.sections.items) name
       → StaysThere disk (old name) (new name)
-  pub left : AreLeft disk result (disks_of olds) (disks_of news)
+  pub left : AreArenasLeft disk result (disks_of olds) (disks_of news)

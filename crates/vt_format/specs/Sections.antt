@@ -6,7 +6,7 @@ use Rattle.vt_base.specs.declared.mount.MountBad.TheVariants.{Fault, TooSmall}
 use Rattle.vt_disk.specs.Calls.{IsSynced, WritesWithin}
 use Rattle.vt_disk.specs.Members.{DiskOf}
 use Rattle.vt_disk.specs.declared.TheConstants.{NAME_LEN}
-use Rattle.vt_fields.specs.Filled.{filled}
+use Rattle.vt_base.specs.Filled.{filled}
 use Rattle.vt_isect.specs.declared.TheConstants.{FRAME_LEN, LEAST_LEN}
 use Rattle.vt_isect.specs.Head.{IsHeadFrame}
 use Rattle.vt_isect.specs.Layout.{buckets_in, formatted, head_place}

@@ -12,7 +12,7 @@ use Rattle.vt_isect.specs.Filling.{with_buckets}
 use Rattle.vt_isect.specs.Head.{IsHeadFrame}
 use Rattle.vt_isect.specs.Layout.{IsSection, head_place}
 use Rattle.vt_isect.specs.Section.{IsAtRest, SectionState}
-use Rattle.vt_isect.specs.Sound.{DiskHolds, Known, nothing_known}
+use Rattle.vt_isect.specs.Sound.{DiskHolds, KnownBuckets, nothing_known}
 use Rattle.vt_twin.specs.Frames.{current_frame}
 
 -- a head with mark 0 of a section with this place among the others
@@ -21,7 +21,7 @@ head_in state first count total =
     record { state = state; first = first; count = count; total = total; mark = 0 }
 
 -- so many of its buckets, from the first on, are known to have no entries
-abbrev pub cleared : (first count : ℕ) → Known
+abbrev pub cleared : (first count : ℕ) → KnownBuckets
 cleared first count = with_buckets first count (Some []) nothing_known
 
 -- What a crash leaves of a section while it is put to use, which had this name and head and these
@@ -71,7 +71,7 @@ pub record ChangesHead {D : Type 0} (disk : DiskOf D) (state first total : ℕ)
   pub settled : IsSynced disk new.disk
   pub holds : IsTrue disk.tells → DiskHolds disk old nothing_known
       → DiskHolds disk new nothing_known
-  pub keeps : (known : Known) → IsTrue disk.tells → first ≡ old.head.first
+  pub keeps : (known : KnownBuckets) → IsTrue disk.tells → first ≡ old.head.first
       → DiskHolds disk old known → DiskHolds disk new known
 
 -- The change of its head to this one has stopped, and what was known of its buckets still is.
@@ -83,7 +83,7 @@ pub record StopsHead {D : Type 0} (disk : DiskOf D) (state first total : ℕ)
   pub head : new.head ≡ old.head
   pub next : new.next ≡ head_in state first old.buckets total
   pub images : ChangesAt (Inside head_place) (disk.images old.disk) (disk.images new.disk)
-  pub keeps : (known : Known) → IsTrue disk.tells → DiskHolds disk old known
+  pub keeps : (known : KnownBuckets) → IsTrue disk.tells → DiskHolds disk old known
       → DiskHolds disk new known
 
 -- a section as it is mounted: at rest, and its disk holds its head
@@ -93,11 +93,11 @@ pub record IsOpened {D : Type 0} (disk : DiskOf D) (t : SectionState D) : Type 0
 
 -- how many buckets sections have, and the number of the first one of one of them, where they stand
 -- one behind the other
-abbrev pub buckets_of : {D : Type 0} → List (SectionState D) → ℕ
-buckets_of sections = sum_by (λ section. section.buckets) sections
+abbrev pub total_buckets : {D : Type 0} → List (SectionState D) → ℕ
+total_buckets sections = sum_by (λ section. section.buckets) sections
 
-abbrev pub first_of : {D : Type 0} → List (SectionState D) → (i : ℕ) → ℕ
-first_of sections i = buckets_of (take i sections)
+abbrev pub buckets_before : {D : Type 0} → List (SectionState D) → (i : ℕ) → ℕ
+buckets_before sections i = total_buckets (take i sections)
 
 -- one of them was put to use
 pub record IsUsed {D : Type 0} (disk : DiskOf D) (first total : ℕ) (old new : SectionState D)
@@ -112,11 +112,11 @@ pub record AreUsed {D : Type 0} (disk : DiskOf D) (total : ℕ) (olds news : Lis
     : Type 0 where
   pub many : length news ≡ length olds
   pub each : (i : ℕ) (old new : SectionState D) → slice_get olds i ≡ Some old
-      → slice_get news i ≡ Some new → IsUsed disk (first_of olds i) total old new
+      → slice_get news i ≡ Some new → IsUsed disk (buckets_before olds i) total old new
 
 -- A call of the one with this number failed: those before it are in use, and those behind it as they
 -- were.
-pub record IsStopped {D : Type 0} (disk : DiskOf D) (number i first total : ℕ)
+pub record IsStoppedSection {D : Type 0} (disk : DiskOf D) (number i first total : ℕ)
     (old new : SectionState D) : Type 0 where
   pub size : disk.size new.disk ≡ disk.size old.disk
   pub rose : i ≡ number → HasRisen (disk.faults old.disk) (disk.faults new.disk)
@@ -125,8 +125,9 @@ pub record IsStopped {D : Type 0} (disk : DiskOf D) (number i first total : ℕ)
   pub midway : i ≡ number → IsTrue disk.tells → IsMidway disk first total old new
   pub behind : number < i → new ≡ old
 
-pub record StopsAt {D : Type 0} (disk : DiskOf D) (number total : ℕ)
+pub record StopsAtSection {D : Type 0} (disk : DiskOf D) (number total : ℕ)
     (olds news : List (SectionState D)) : Type 0 where
   pub many : length news ≡ length olds
   pub each : (i : ℕ) (old new : SectionState D) → slice_get olds i ≡ Some old
-      → slice_get news i ≡ Some new → IsStopped disk number i (first_of olds i) total old new
+      → slice_get news i ≡ Some new
+      → IsStoppedSection disk number i (buckets_before olds i) total old new

@@ -4,7 +4,7 @@ use Rattle.vt_base.specs.Faults.{HasRisen}
 use Rattle.vt_base.specs.declared.mount.MountBad.{MountBad}
 use Rattle.vt_base.specs.declared.mount.MountBad.TheVariants.{Fault}
 use Rattle.vt_disk.specs.Members.{DiskOf}
-use Rattle.vt_parts.specs.Parts.{Standing, there, HandsOut, StaysThere}
+use Rattle.vt_partitions.specs.Parts.{Standing, there, HandsOut, StaysThere}
 
 -- The partition was handed out, with this length at least, was worked on, and is there again: so
 -- far as the partitions tell what stands under their names, `told`.

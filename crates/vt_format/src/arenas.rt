@@ -10,14 +10,14 @@ ghost use Rattle.vt_log.specs.Formatting.{WritesInHeads};
 ghost use Rattle.vt_log.specs.Logs.{IsLog};
 ghost use Rattle.vt_part.specs.Layout.{layout_of};
 ghost use Rattle.vt_part.specs.Parts.{disk_of, table_of};
-ghost use Rattle.vt_part.specs.Table.{IsArenaSize, IsName, end_of};
+ghost use Rattle.vt_part.specs.Table.{IsArenaSize, IsPartName, arenas_end};
 
 use std::alloc::Global;
 use vt_base::{Failed, MountBad, Text};
 use vt_disk::Disk;
+use vt_mount_errors::of_part;
 use vt_part::{Part, partitions_stay_on_disks};
-use vt_parts::Parts;
-use vt_told::of_part;
+use vt_partitions::Parts;
 
 /// Makes the partition of this file one of arenas of one size, which have no blocks, with a name of
 /// its own, and gives their count. It is made where it isn't there, and grown to this length where
@@ -34,7 +34,7 @@ pub fn format_arenas<P: Parts>(
     len: u64,
     arena_size: u64,
 ) -> Result<u32, MountBad>
-    requires name { IsName name.now }
+    requires name { IsPartName name.now }
     requires arena_size { IsArenaSize arena_size }
     ensures worked { WorksOn P.Disk.Disk P.tells len (FormatsArenas P.Disk.Disk name.now arena_size)
         (P.faults parts.old) (P.faults parts.new) (P.standing parts.old file.now)
@@ -58,7 +58,7 @@ pub fn make_arenas<D: Disk + Drop>(
     name: &Text,
     arena_size: u64,
 ) -> (D, Result<u32, MountBad>)
-    requires name { IsName name.now }
+    requires name { IsPartName name.now }
     requires arena_size { IsArenaSize arena_size }
     ensures { FormatsArenas D.Disk name.now arena_size result.1 disk result.0 }
 {
@@ -79,7 +79,7 @@ fn empty_arenas<D: Disk + Drop>(
     part: Part<D>,
     count: u32,
 ) -> (D, Result<u32, MountBad>)
-    requires room { end_of (table_of part) ≤ D.size (disk_of part) }
+    requires room { arenas_end (table_of part) ≤ D.size (disk_of part) }
     ensures count { IfOk result.1 (λ n. n ≡ count) }
     ensures log { OnOk result.1 (IsTrue D.tells → (score_of : List ℕ → List ℕ) (c : List ℕ)
         → D.images result.0 c

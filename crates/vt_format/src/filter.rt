@@ -1,7 +1,7 @@
 //! Making a partition a Bloom filter.
 
 ghost use Rattle.std.specs.Prelude.{◌≡◌, ◌≢◌, ◌≤◌, ℕ, List, IsTrue};
-ghost use Rattle.vt_bloom.specs.Size.{IsSize, filter_len};
+ghost use Rattle.vt_bloom.specs.Size.{IsFilterSize, filter_len};
 ghost use Rattle.vt_format.specs.Filters.{FormatsFilter};
 ghost use Rattle.vt_format.specs.Worked.{WorksOn};
 
@@ -9,8 +9,8 @@ use crate::MOST_POSITIONS;
 use std::alloc::Global;
 use vt_base::{MountBad, Text};
 use vt_disk::{BLOCK_LEN, Disk};
-use vt_parts::Parts;
-use vt_told::of_filter;
+use vt_mount_errors::of_filter;
+use vt_partitions::Parts;
 
 /// Makes the partition of this file a Bloom filter of this many bytes, of which each score has so
 /// many bits, none of them set. It is made where it isn't there, and grown to the length of such a
@@ -25,10 +25,10 @@ pub fn format_filter<P: Parts>(
     size: u64,
     positions: u8,
 ) -> Result<(), MountBad>
-    requires size { (m : ℕ) × IsSize m size }
+    requires size { (m : ℕ) × IsFilterSize m size }
     requires some { 1 ≤ positions }
     requires most { positions ≤ MOST_POSITIONS }
-    ensures worked { (m : ℕ) → IsSize m size
+    ensures worked { (m : ℕ) → IsFilterSize m size
         → WorksOn P.Disk.Disk P.tells (filter_len m) (FormatsFilter P.Disk.Disk m positions)
         (P.faults parts.old) (P.faults parts.new) (P.standing parts.old file.now)
         (P.standing parts.new file.now) result }
@@ -52,11 +52,11 @@ pub fn make_filter<D: Disk>(
     size: u64,
     positions: u8,
 ) -> Result<(), MountBad>
-    requires size { (m : ℕ) × IsSize m size }
+    requires size { (m : ℕ) × IsFilterSize m size }
     requires some { 1 ≤ positions }
     requires most { positions ≤ MOST_POSITIONS }
-    requires room { (m : ℕ) → IsSize m size → filter_len m ≤ D.size disk.old }
-    ensures { (m : ℕ) → IsSize m size
+    requires room { (m : ℕ) → IsFilterSize m size → filter_len m ≤ D.size disk.old }
+    ensures { (m : ℕ) → IsFilterSize m size
         → FormatsFilter D.Disk m positions result disk.old disk.new }
 {
     match vt_bloom::format(alloc, disk, size, positions) {

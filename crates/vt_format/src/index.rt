@@ -2,15 +2,15 @@
 
 ghost use Rattle.std.specs.Prelude.{◌≡◌, ◌+◌, ◌^◌, ◌<◌, ◌≤◌, ℕ, List, [], All, IsTrue, IfErr, IfOk, OnOk, length, map};
 ghost use Rattle.std.specs.List.{Contains};
-ghost use Rattle.vt_format.specs.Index.{AnswersFor, ArePutToUse, Fails, IndexesArenas, IndexesSections, IsStoppedAmong, LeavesOpened, StopsIndex, LeavesThere, files_of};
+ghost use Rattle.vt_format.specs.Index.{AnswersFor, ArePutToUse, IndexFails, IndexesArenas, IndexesSections, IsStoppedAmong, LeavesOpened, StopsIndex, LeavesThere, files_in_order};
 ghost use Rattle.vt_format.specs.Opening.{FindsArenas, NamesCause};
-ghost use Rattle.vt_format.specs.Usage.{IsOpened, buckets_of};
+ghost use Rattle.vt_format.specs.Usage.{IsOpened, total_buckets};
 ghost use Rattle.vt_log.specs.Logs.{arena_count};
 ghost use Rattle.vt_part.specs.Parts.{disk_of, table_of, tables_of};
-ghost use Rattle.vt_part.specs.Table.{end_of};
-ghost use Rattle.vt_parts.specs.Parts.{StaysThere};
+ghost use Rattle.vt_part.specs.Table.{arenas_end};
+ghost use Rattle.vt_partitions.specs.Parts.{StaysThere};
 
-use crate::opening::{open_arenas, open_filter, open_section, told};
+use crate::opening::{index_error, open_arenas, open_filter, open_section};
 use crate::usage::{buckets_in, put_all_to_use};
 use crate::{MAX_ARENAS, MAX_BUCKETS};
 use std::alloc::Global;
@@ -18,10 +18,10 @@ use vt_base::{MountBad, Scorer};
 use vt_conf::{Conf, PartFile};
 use vt_disk::Disk;
 use vt_isect::Section;
+use vt_mount_errors::of_log;
 use vt_out::Progress;
 use vt_part::Part;
-use vt_parts::Parts;
-use vt_told::of_log;
+use vt_partitions::Parts;
 
 /// How many buckets an index has, over how many sections.
 #[derive(Clone, Copy, Debug, PartialEq, Eq)]
@@ -33,7 +33,7 @@ pub struct Index {
 /// Why an index isn't formatted. Partitions are counted from 0 in the order of the configuration:
 /// first those of arenas, then the index sections, then the Bloom filter.
 #[derive(Clone, Copy, Debug, PartialEq, Eq)]
-pub enum IndexBad {
+pub enum IndexError {
     /// A partition isn't handed out, or a call of it fails, before anything is written: the one
     /// with this number or, where a call fails by which the log is found, one of those of arenas.
     Fault { part: Option<u32> },
@@ -57,8 +57,8 @@ pub fn format_index<P: Parts, S: Scorer + Drop, G: Progress>(
     scorer: S,
     progress: &mut G,
     conf: &Conf,
-) -> Result<Index, IndexBad>
-    requires many { length (files_of conf.now) < 2 ^ 32 }
+) -> Result<Index, IndexError>
+    requires many { length (files_in_order conf.now) < 2 ^ 32 }
     // The sections have all buckets, one section behind the other.
     ensures used { IfOk result (λ it. IsTrue P.tells → IsTrue P.Disk.tells
         → ArePutToUse P.Disk.Disk (P.standing parts.old) (P.standing parts.new)
@@ -77,7 +77,8 @@ pub fn format_index<P: Parts, S: Scorer + Drop, G: Progress>(
         (FindsArenas P.Disk.Disk (P.standing parts.old) conf.now [] [] conf.now.arenas.items)
         result }
     ensures differs { IfErr result NamesCause }
-    ensures cause { IfErr result (Fails P.Disk.Disk (IsTrue P.tells) 0 (files_of conf.now)
+    ensures cause { IfErr result
+        (IndexFails P.Disk.Disk (IsTrue P.tells) 0 (files_in_order conf.now)
         (P.standing parts.old) (P.standing parts.new) (P.faults parts.old) (P.faults parts.new)) }
     ensures faults { OnOk result (P.faults parts.new ≡ P.faults parts.old) }
 
@@ -104,11 +105,11 @@ fn index_arenas<P: Parts, S: Scorer + Drop, G: Progress>(
     conf: &Conf,
     files: &[PartFile],
     opened: Vec<Part<P::Disk>>,
-) -> (Vec<Part<P::Disk>>, Result<Index, IndexBad>)
+) -> (Vec<Part<P::Disk>>, Result<Index, IndexError>)
     requires many { length opened.items + length files.now ≡ length conf.now.arenas.items }
-    requires all { length (files_of conf.now) < 2 ^ 32 }
+    requires all { length (files_in_order conf.now) < 2 ^ 32 }
     requires few { arena_count (tables_of opened.items) ≤ MAX_ARENAS }
-    requires rooms { All (λ part. end_of (table_of part) ≤ P.Disk.size (disk_of part))
+    requires rooms { All (λ part. arenas_end (table_of part) ≤ P.Disk.size (disk_of part))
         opened.items }
     ensures { IndexesArenas P.Disk.Disk (IsTrue P.tells) conf.now files.now
         (P.standing parts.old) (P.standing parts.new) (P.faults parts.old) (P.faults parts.new)
@@ -119,7 +120,7 @@ fn index_arenas<P: Parts, S: Scorer + Drop, G: Progress>(
     };
     let number = opened.len() as u32;
     let Ok(disk) = parts.part(alloc, &file.name, None) else {
-        return (opened, Err(IndexBad::Fault { part: Some(number) }));
+        return (opened, Err(IndexError::Fault { part: Some(number) }));
     };
     let part = match open_arenas(disk, number, arenas_in(&opened)) {
         Ok(part) => part,
@@ -131,7 +132,7 @@ fn index_arenas<P: Parts, S: Scorer + Drop, G: Progress>(
     let mut opened = opened;
     if let Err(full) = opened.push(part) {
         parts.done(&file.name, full.value.into_devices());
-        return (opened, Err(IndexBad::Refused(MountBad::NoMemory)));
+        return (opened, Err(IndexError::Refused(MountBad::NoMemory)));
     }
     let (mut opened, done) = index_arenas(alloc, parts, scorer, progress, conf, rest, opened);
     let Some(part) = opened.pop() else {
@@ -161,11 +162,11 @@ fn index_log<P: Parts, S: Scorer + Drop, G: Progress>(
     progress: &mut G,
     conf: &Conf,
     opened: Vec<Part<P::Disk>>,
-) -> (Vec<Part<P::Disk>>, Result<Index, IndexBad>)
+) -> (Vec<Part<P::Disk>>, Result<Index, IndexError>)
     requires many { length opened.items ≡ length conf.now.arenas.items }
-    requires all { length (files_of conf.now) < 2 ^ 32 }
+    requires all { length (files_in_order conf.now) < 2 ^ 32 }
     requires few { arena_count (tables_of opened.items) ≤ MAX_ARENAS }
-    requires rooms { All (λ part. end_of (table_of part) ≤ P.Disk.size (disk_of part))
+    requires rooms { All (λ part. arenas_end (table_of part) ≤ P.Disk.size (disk_of part))
         opened.items }
     ensures { IndexesArenas P.Disk.Disk (IsTrue P.tells) conf.now []
         (P.standing parts.old) (P.standing parts.new) (P.faults parts.old) (P.faults parts.new)
@@ -178,7 +179,7 @@ fn index_log<P: Parts, S: Scorer + Drop, G: Progress>(
             (log.into_devices(), done)
         }
         Err((bad, opened)) => {
-            let bad = told(None, of_log(&opened, bad));
+            let bad = index_error(None, of_log(&opened, bad));
             (opened, Err(bad))
         }
     }
@@ -192,11 +193,11 @@ fn index_sections<P: Parts, G: Progress>(
     conf: &Conf,
     files: &[PartFile],
     opened: &mut Vec<Section<P::Disk>>,
-) -> Result<Index, IndexBad>
+) -> Result<Index, IndexError>
     requires many { length opened.old.items + length files.now ≡ length conf.now.sections.items }
-    requires all { length (files_of conf.now) < 2 ^ 32 }
+    requires all { length (files_in_order conf.now) < 2 ^ 32 }
     requires opened { All (IsOpened P.Disk.Disk) opened.old.items }
-    requires few { buckets_of opened.old.items ≤ MAX_BUCKETS }
+    requires few { total_buckets opened.old.items ≤ MAX_BUCKETS }
     ensures { IndexesSections P.Disk.Disk (IsTrue P.tells) conf.now files.now
         (P.standing parts.old) (P.standing parts.new) (P.faults parts.old) (P.faults parts.new)
         opened.old.items opened.new.items result }
@@ -206,7 +207,7 @@ fn index_sections<P: Parts, G: Progress>(
     };
     let number = (conf.arenas.len() + opened.len()) as u32;
     let Ok(disk) = parts.part(alloc, &file.name, None) else {
-        return Err(IndexBad::Fault { part: Some(number) });
+        return Err(IndexError::Fault { part: Some(number) });
     };
     let section = match open_section(alloc, disk, number, buckets_in(opened)) {
         Ok(section) => section,
@@ -217,7 +218,7 @@ fn index_sections<P: Parts, G: Progress>(
     };
     if let Err(full) = opened.push(section) {
         parts.done(&file.name, full.value.into_devices());
-        return Err(IndexBad::Refused(MountBad::NoMemory));
+        return Err(IndexError::Refused(MountBad::NoMemory));
     }
     let done = index_sections(alloc, parts, progress, conf, rest, opened);
     let Some(section) = opened.pop() else {
@@ -234,11 +235,11 @@ fn index_filter<P: Parts, G: Progress>(
     progress: &mut G,
     conf: &Conf,
     opened: &mut [Section<P::Disk>],
-) -> Result<Index, IndexBad>
+) -> Result<Index, IndexError>
     requires many { length opened.old ≡ length conf.now.sections.items }
-    requires all { length (files_of conf.now) < 2 ^ 32 }
+    requires all { length (files_in_order conf.now) < 2 ^ 32 }
     requires opened { All (IsOpened P.Disk.Disk) opened.old }
-    requires few { buckets_of opened.old ≤ MAX_BUCKETS }
+    requires few { total_buckets opened.old ≤ MAX_BUCKETS }
     ensures { IndexesSections P.Disk.Disk (IsTrue P.tells) conf.now []
         (P.standing parts.old) (P.standing parts.new) (P.faults parts.old) (P.faults parts.new)
         opened.old opened.new result }
@@ -249,7 +250,7 @@ fn index_filter<P: Parts, G: Progress>(
     };
     let number = behind + opened.len() as u32;
     let Ok(disk) = parts.part(alloc, &file.name, None) else {
-        return Err(IndexBad::Fault { part: Some(number) });
+        return Err(IndexError::Fault { part: Some(number) });
     };
     match open_filter(alloc, disk, number) {
         Ok(filter) => {
@@ -269,21 +270,21 @@ fn index_opened<D: Disk, G: Progress>(
     behind: u32,
     opened: &mut [Section<D>],
     progress: &mut G,
-) -> Result<Index, IndexBad>
+) -> Result<Index, IndexError>
     requires many { behind + length opened.old < 2 ^ 32 }
     requires opened { All (IsOpened D.Disk) opened.old }
-    requires few { buckets_of opened.old ≤ MAX_BUCKETS }
+    requires few { total_buckets opened.old ≤ MAX_BUCKETS }
     ensures total { IfOk result (λ it. it.buckets
-        ≡ buckets_of opened.old) }
+        ≡ total_buckets opened.old) }
     ensures sections { IfOk result (λ it. it.sections ≡ length opened.old) }
     ensures stopped { IfErr result (IsStoppedAmong behind (length opened.old)) }
-    ensures left { LeavesOpened D.Disk behind (buckets_of opened.old) result
+    ensures left { LeavesOpened D.Disk behind (total_buckets opened.old) result
         opened.old opened.new }
 {
     let sections = opened.len() as u32;
     match put_all_to_use(opened, progress) {
         Ok(buckets) => Ok(Index { buckets, sections }),
-        Err(number) => Err(IndexBad::Stopped {
+        Err(number) => Err(IndexError::Stopped {
             part: behind + number as u32,
         }),
     }

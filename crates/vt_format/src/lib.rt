@@ -14,11 +14,11 @@ mod words;
 
 pub use arenas::{format_arenas, make_arenas};
 pub use filter::{format_filter, make_filter};
-pub use index::{Index, IndexBad, format_index};
+pub use index::{Index, IndexError, format_index};
 pub use section::{format_section, make_section};
 pub use usage::put_all_to_use;
 pub use words::{
-    BadName, parse_arena_size, parse_filter_size, parse_len, parse_name, parse_positions,
+    NameError, parse_arena_size, parse_filter_size, parse_len, parse_name, parse_positions,
 };
 
 /// The most bytes that a device has, 1 TiB.

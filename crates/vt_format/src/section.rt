@@ -3,13 +3,13 @@
 ghost use Rattle.std.specs.Prelude.{◌≡◌, ◌≢◌, ℕ, List, IsTrue};
 ghost use Rattle.vt_format.specs.Sections.{FormatsSection};
 ghost use Rattle.vt_format.specs.Worked.{WorksOn};
-ghost use Rattle.vt_part.specs.Table.{IsName};
+ghost use Rattle.vt_part.specs.Table.{IsPartName};
 
 use std::alloc::Global;
 use vt_base::{MountBad, Text};
 use vt_disk::Disk;
-use vt_parts::Parts;
-use vt_told::of_section;
+use vt_mount_errors::of_section;
+use vt_partitions::Parts;
 
 /// Makes the partition of this file an index section that isn't in use yet, with a name of its own,
 /// and gives the count of its buckets. It is made where it isn't there, and grown to this length
@@ -25,7 +25,7 @@ pub fn format_section<P: Parts>(
     name: &Text,
     len: u64,
 ) -> Result<u32, MountBad>
-    requires name { IsName name.now }
+    requires name { IsPartName name.now }
     ensures worked { WorksOn P.Disk.Disk P.tells len (FormatsSection P.Disk.Disk name.now)
         (P.faults parts.old) (P.faults parts.new) (P.standing parts.old file.now)
         (P.standing parts.new file.now) result }
@@ -43,7 +43,7 @@ pub fn format_section<P: Parts>(
 /// Makes a disk a section that isn't in use yet, with a name of its own, and gives the count of its
 /// buckets.
 pub fn make_section<D: Disk>(disk: &mut D, name: &Text) -> Result<u32, MountBad>
-    requires name { IsName name.now }
+    requires name { IsPartName name.now }
     ensures { FormatsSection D.Disk name.now result disk.old disk.new }
 {
     match vt_isect::format(disk, name) {

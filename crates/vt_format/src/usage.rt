@@ -2,8 +2,8 @@
 
 ghost use Rattle.std.specs.Prelude.{◌≡◌, ◌+◌, ◌*◌, ◌^◌, ◌<◌, ◌≤◌, ℕ, List, All, IsTrue, IfErr, IfOk, OnOk, OnErr, Ok, Err, length};
 ghost use Rattle.vt_base.specs.Faults.{CountsFault};
-ghost use Rattle.vt_format.specs.Usage.{AreUsed, CallsForBuckets, ChangesHead, IsInUse, IsMidway, IsOpened, StopsAt, StopsHead, buckets_of, cleared};
-ghost use Rattle.vt_isect.specs.Faults.{is_fault};
+ghost use Rattle.vt_format.specs.Usage.{AreUsed, CallsForBuckets, ChangesHead, IsInUse, IsMidway, IsOpened, StopsAtSection, StopsHead, total_buckets, cleared};
+ghost use Rattle.vt_isect.specs.Faults.{is_section_fault};
 ghost use Rattle.vt_isect.specs.Section.{IsAtRest};
 ghost use Rattle.vt_isect.specs.Sound.{DiskHolds, nothing_known};
 
@@ -23,11 +23,12 @@ pub fn put_all_to_use<D: Disk, G: Progress>(
     progress: &mut G,
 ) -> Result<u32, usize>
     requires opened { All (IsOpened D.Disk) sections.old }
-    requires few { buckets_of sections.old ≤ MAX_BUCKETS }
+    requires few { total_buckets sections.old ≤ MAX_BUCKETS }
     ensures used { IfOk result (λ total. AreUsed D.Disk total sections.old sections.new) }
-    ensures total { IfOk result (λ total. total ≡ buckets_of sections.old) }
+    ensures total { IfOk result (λ total. total ≡ total_buckets sections.old) }
     ensures among { IfErr result (λ number. number < length sections.old) }
-    ensures stops { IfErr result (λ number. StopsAt D.Disk number (buckets_of sections.old)
+    ensures stops { IfErr result
+        (λ number. StopsAtSection D.Disk number (total_buckets sections.old)
         sections.old sections.new) }
 {
     let total = buckets_in(sections);
@@ -44,8 +45,8 @@ pub fn put_all_to_use<D: Disk, G: Progress>(
 
 /// How many buckets these sections have.
 pub(crate) fn buckets_in<D: Disk>(sections: &[Section<D>]) -> u32
-    requires { buckets_of sections.now ≤ MAX_BUCKETS }
-    ensures { result ≡ buckets_of sections.now }
+    requires { total_buckets sections.now ≤ MAX_BUCKETS }
+    ensures { result ≡ total_buckets sections.now }
 {
     let mut buckets = 0;
     for section in sections {
@@ -74,7 +75,7 @@ fn put_to_use<D: Disk, G: Progress>(
     ensures size { D.size section.new.disk ≡ D.size section.old.disk }
     ensures calls { CallsForBuckets D.Disk 24 section.old section.new }
     ensures refused { IfErr result (λ bad. bad ≡ ShardErr.Fault) }
-    ensures faults { CountsFault is_fault result
+    ensures faults { CountsFault is_section_fault result
         (D.faults section.old.disk) (D.faults section.new.disk) }
 {
     images_agree::<D>();
@@ -99,7 +100,7 @@ fn change_head<D: Disk>(
     ensures calls { IsTrue D.tells
         → D.calls section.new.disk ≤ D.calls section.old.disk + 4 }
     ensures refused { IfErr result (λ bad. bad ≡ ShardErr.Fault) }
-    ensures faults { CountsFault is_fault result
+    ensures faults { CountsFault is_section_fault result
         (D.faults section.old.disk) (D.faults section.new.disk) }
 {
     soundness_is_kept::<D>();
@@ -128,7 +129,7 @@ fn clear_buckets<D: Disk, G: Progress>(
     ensures size { D.size section.new.disk ≡ D.size section.old.disk }
     ensures calls { CallsForBuckets D.Disk 16 section.old section.new }
     ensures refused { IfErr result (λ bad. bad ≡ ShardErr.Fault) }
-    ensures faults { CountsFault is_fault result
+    ensures faults { CountsFault is_section_fault result
         (D.faults section.old.disk) (D.faults section.new.disk) }
 {
     soundness_is_kept::<D>();

@@ -2,20 +2,20 @@
 
 ghost use Rattle.std.specs.Prelude.{◌≡◌, ◌≤◌, ℕ, Ok, decimal, length, IfErr, IfOk, OnOk};
 ghost use Rattle.std.specs.List.{prefix_len};
-ghost use Rattle.vt_bloom.specs.Size.{IsSize};
+ghost use Rattle.vt_bloom.specs.Size.{IsFilterSize};
 ghost use Rattle.vt_conf.specs.Numbers.{wrong_digit};
 ghost use Rattle.vt_format.specs.Words.{wrong_name};
-ghost use Rattle.vt_part.specs.Table.{IsName, IsArenaSize, is_name_byte};
+ghost use Rattle.vt_part.specs.Table.{IsPartName, IsArenaSize, is_name_byte};
 
 use crate::{LEAST_FILTER, MAX_LEN, MOST_FILTER, MOST_POSITIONS};
 use vt_bloom::exponent;
-use vt_conf::{BadNumber, parse_number};
+use vt_conf::{NumberError, parse_number};
 use vt_disk::{LEAST_ARENA, MOST_ARENA, NAME_LEN};
 use vt_part::{is_arena_size, is_name};
 
 /// A word is no name of a partition.
 #[derive(Clone, Copy, Debug, PartialEq, Eq)]
-pub struct BadName {
+pub struct NameError {
     /// The place of the first byte that can't stand in a name, 64 where the name is too long, or 0
     /// where it is empty.
     pub at: usize,
@@ -23,22 +23,22 @@ pub struct BadName {
 
 /// Whether a partition may have this name: 1 to 64 bytes, each a letter or a digit of ASCII, a dot,
 /// a dash or an underscore.
-pub fn parse_name(text: &[u8]) -> Result<(), BadName>
-    ensures ok { OnOk result (IsName text.now) }
-    ensures only { IsName text.now → result ≡ Ok tt }
+pub fn parse_name(text: &[u8]) -> Result<(), NameError>
+    ensures ok { OnOk result (IsPartName text.now) }
+    ensures only { IsPartName text.now → result ≡ Ok tt }
     ensures bad { IfErr result (λ bad. bad.at ≡ wrong_name text.now) }
 {
     if is_name(text) {
         Ok(())
     } else {
-        Err(BadName {
+        Err(NameError {
             at: wrong_name(text),
         })
     }
 }
 
 /// The length that a device is to have, up to 1 TiB.
-pub fn parse_len(text: &[u8]) -> Result<u64, BadNumber>
+pub fn parse_len(text: &[u8]) -> Result<u64, NumberError>
     ensures ok { IfOk result (λ n. text.now ≡ decimal n) }
     ensures most { IfOk result (λ n. n ≤ MAX_LEN) }
     ensures only { (n : ℕ) → text.now ≡ decimal n → n ≤ MAX_LEN → result ≡ Ok n }
@@ -49,7 +49,7 @@ pub fn parse_len(text: &[u8]) -> Result<u64, BadNumber>
 
 /// The size of a partition's arenas: whole blocks, from 32 KiB to 1 GiB. A number that is no such
 /// size is bad at 0.
-pub fn parse_arena_size(text: &[u8]) -> Result<u64, BadNumber>
+pub fn parse_arena_size(text: &[u8]) -> Result<u64, NumberError>
     ensures ok { IfOk result (λ n. text.now ≡ decimal n) }
     ensures size { IfOk result IsArenaSize }
     ensures only { (n : ℕ) → text.now ≡ decimal n → IsArenaSize n → result ≡ Ok n }
@@ -59,27 +59,27 @@ pub fn parse_arena_size(text: &[u8]) -> Result<u64, BadNumber>
     if is_arena_size(size) {
         Ok(size)
     } else {
-        Err(BadNumber { at: 0 })
+        Err(NumberError { at: 0 })
     }
 }
 
 /// The size of a Bloom filter in bytes: a power of two from 8,192 to 1,048,576. A number that is no
 /// such size is bad at 0.
-pub fn parse_filter_size(text: &[u8]) -> Result<u64, BadNumber>
+pub fn parse_filter_size(text: &[u8]) -> Result<u64, NumberError>
     ensures ok { IfOk result (λ n. text.now ≡ decimal n) }
-    ensures size { IfOk result (λ n. (m : ℕ) × IsSize m n) }
-    ensures only { (n m : ℕ) → text.now ≡ decimal n → IsSize m n → result ≡ Ok n }
+    ensures size { IfOk result (λ n. (m : ℕ) × IsFilterSize m n) }
+    ensures only { (n m : ℕ) → text.now ≡ decimal n → IsFilterSize m n → result ≡ Ok n }
     ensures bad { IfErr result (λ bad. bad.at ≡ wrong_digit text.now) }
 {
     let size = parse_number(text, LEAST_FILTER, MOST_FILTER)?;
     match exponent(size) {
         Some(_) => Ok(size),
-        None => Err(BadNumber { at: 0 }),
+        None => Err(NumberError { at: 0 }),
     }
 }
 
 /// How many bits of a Bloom filter each score has, from 1 to 32.
-pub fn parse_positions(text: &[u8]) -> Result<u8, BadNumber>
+pub fn parse_positions(text: &[u8]) -> Result<u8, NumberError>
     ensures ok { IfOk result (λ n. text.now ≡ decimal n) }
     ensures some { IfOk result (λ n. 1 ≤ n) }
     ensures most { IfOk result (λ n. n ≤ MOST_POSITIONS) }

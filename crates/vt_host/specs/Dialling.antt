@@ -13,15 +13,15 @@ abbrev pub dialer_faults : {N : Type 0} → StdDialer N → ℕ
 dialer_faults dialer = dialer.faults.count
 
 -- the address has one host, which is this text
-abbrev pub Names : Address → (host : List ℕ) → Type 0
-Names address host = (address.host ≡ Some host) × IsUtf8 host
+abbrev pub NamesHost : Address → (host : List ℕ) → Type 0
+NamesHost address host = (address.host ≡ Some host) × IsUtf8 host
 
 -- A connection to the host of an address, at its port, was to be made, and to nobody else; none
 -- was, where the address is that of every host, or its host's name isn't UTF-8.
 abbrev pub Connects : {T E : Type 0} → Address → Result T E → (old new : List Connecting) → Type 0
 Connects address result old new = MatchResult result
-    (λ _. (host : List ℕ) × Names address host
+    (λ _. (host : List ℕ) × NamesHost address host
     × (new ≡ old ++ record { host = host; port = address.port; ok = true } ∷ []))
-    (λ _. (((host : List ℕ) → ¬ Names address host) × (new ≡ old))
-    ⊎ ((host : List ℕ) × Names address host
+    (λ _. (((host : List ℕ) → ¬ NamesHost address host) × (new ≡ old))
+    ⊎ ((host : List ℕ) × NamesHost address host
     × (new ≡ old ++ record { host = host; port = address.port; ok = false } ∷ [])))

@@ -19,8 +19,8 @@ wanted_length grow_to = unwrap_or grow_to 0
 
 -- Then it is measured and, where it is shorter than wanted, filled up: these are the calls, and
 -- this is the length that it then has, or none where a call failed.
-abbrev pub Grows : (wanted : ℕ) (calls : List FileCall) (len : Option ℕ) → Type 0
-Grows wanted calls len =
+abbrev pub GrowsFile : (wanted : ℕ) (calls : List FileCall) (len : Option ℕ) → Type 0
+GrowsFile wanted calls len =
     ((calls ≡ measured None ∷ []) × (len ≡ None))
     ⊎ ((found : ℕ) × (wanted ≤ found) × (calls ≡ measured (Some found) ∷ []) × (len ≡ Some found))
     ⊎ ((found : ℕ) × (ok : Bool) × (found < wanted)
@@ -38,13 +38,13 @@ abbrev pub read_options : OpenOptions
 read_options = with_read new_options true
 
 -- the folder of a name without one is the working folder, and that of the top is the top
-abbrev pub folder_in : Option (List ℕ) → List ℕ
-folder_in None = codes "."
-folder_in (Some []) = codes "."
-folder_in (Some (b ∷ folder)) = b ∷ folder
+abbrev pub folder_or_working : Option (List ℕ) → List ℕ
+folder_or_working None = codes "."
+folder_or_working (Some []) = codes "."
+folder_or_working (Some (b ∷ folder)) = b ∷ folder
 
 abbrev pub folder_of : (name : List ℕ) → List ℕ
-folder_of name = folder_in (path_parent name)
+folder_of name = folder_or_working (path_parent name)
 
 abbrev pub folder_opening : (name : List ℕ) (ok : Bool) → Opening
 folder_opening name ok = record { how = read_options; name = folder_of name; ok = ok }
@@ -57,15 +57,15 @@ openings name (Some len) = opening name (Some len) true ∷ folder_opening name 
 -- the calls of a file that became a disk of this length
 abbrev pub BecomesDisk : (grow_to : Option ℕ) (calls : List FileCall) (len : ℕ) → Type 0
 BecomesDisk grow_to calls len = (grown : List FileCall)
-    × Grows (wanted_length grow_to) grown (Some len)
+    × GrowsFile (wanted_length grow_to) grown (Some len)
     × (calls ≡ locked true ∷ (grown ++ syncs_of grow_to))
 
 -- the calls of one of which the last failed
 abbrev pub StopsShort : (grow_to : Option ℕ) (calls : List FileCall) → Type 0
 StopsShort grow_to calls = (calls ≡ locked false ∷ [])
-    ⊎ ((grown : List FileCall) × Grows (wanted_length grow_to) grown None
+    ⊎ ((grown : List FileCall) × GrowsFile (wanted_length grow_to) grown None
     × (calls ≡ locked true ∷ grown))
-    ⊎ ((grown : List FileCall) × (len : ℕ) × Grows (wanted_length grow_to) grown (Some len)
+    ⊎ ((grown : List FileCall) × (len : ℕ) × GrowsFile (wanted_length grow_to) grown (Some len)
     × (calls ≡ locked true ∷ (grown ++ synced false ∷ [])))
 
 -- What was opened where no disk came of it: the last opening failed, or a call of what was opened

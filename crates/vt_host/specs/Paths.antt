@@ -2,7 +2,7 @@
 use Rattle.std.specs.Prelude.{◌≡◌, ◌⊎◌, ℕ, ◌++◌, Bool, List, [], ◌∷◌, Option, Some, Result, Ok}
 use Rattle.std.specs.List.{flat_map}
 use Rattle.std.specs.declared.io.Error.{Error}
-use Rattle.vt_folder.specs.declared.item.ItemKind.TheVariants.{File}
+use Rattle.vt_out.specs.declared.folder_item.ItemKind.TheVariants.{File}
 use Rattle.vt_host.specs.declared.paths.Look.{Look}
 
 -- A call that looks what stands at a path, one that lists the names in it, or one that opens it.
@@ -29,8 +29,8 @@ OpensFile path calls = (calls ≡ [])
     × (calls ≡ looked path (Some look) ∷ opened path ok ∷ []))
 
 -- such calls were added
-abbrev pub Adds : (Are : List FolderCall → Type 0) → (old new : List FolderCall) → Type 0
-Adds Are old new = (calls : List FolderCall) × (new ≡ old ++ calls) × Are calls
+abbrev pub AddsCalls : (Are : List FolderCall → Type 0) → (old new : List FolderCall) → Type 0
+AddsCalls Are old new = (calls : List FolderCall) × (new ≡ old ++ calls) × Are calls
 
 -- the last read of a file was this, with this answer
 abbrev pub ReadsLast : (start n : ℕ) (buf : List ℕ) (made : List PieceCall) → Type 0

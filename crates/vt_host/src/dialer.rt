@@ -1,7 +1,7 @@
 //! Connections over TCP.
 
 ghost use Rattle.std.specs.Prelude.{◌≡◌, ℕ, List, IfSome, IsSomeAnd};
-ghost use Rattle.vt_host.specs.Dialling.{Names};
+ghost use Rattle.vt_host.specs.Dialling.{NamesHost};
 
 use crate::faults::Faults;
 use crate::link::StdLink;
@@ -37,8 +37,8 @@ impl<N: Connector> StdDialer<N> {
 
 /// The name of an address's host, if it is that of one, and UTF-8.
 fn name_in(address: &Address) -> Option<&str>
-    ensures name { IfSome result (λ name. Names address.now name.now) }
-    ensures only { (name : List ℕ) → Names address.now name
+    ensures name { IfSome result (λ name. NamesHost address.now name.now) }
+    ensures only { (name : List ℕ) → NamesHost address.now name
         → IsSomeAnd result (λ found. found.now ≡ name) }
 {
     str::from_utf8(address.host.as_ref()?.as_slice()).ok()
@@ -51,7 +51,7 @@ where
 {
     ghost use Rattle.std.specs.Prelude.{◌≡◌, [], false, IsTrue, IsSome, IfOk, OnOk};
     ghost use Rattle.vt_base.specs.Faults.{HasCause};
-    ghost use Rattle.vt_dial.specs.Dialled.{IsFresh, nobody};
+    ghost use Rattle.vt_dial.specs.Dialled.{IsFreshLink, nobody};
     ghost use Rattle.vt_host.specs.Dialling.{Connects, dialer_faults, dialer_net};
     ghost use Rattle.vt_host.specs.Streams.{link_sink, link_source, sink_output, source_input};
 
@@ -68,7 +68,7 @@ where
     /// One connection is made at most.
     fn dial(&mut self, address: &Address) -> Result<StdLink<N::Input, N::Output>, Failed>
         ensures host { OnOk result (IsSome address.now.host) }
-        ensures fresh { IfOk result (IsFresh ⟦<StdLink<N::Input, N::Output> as Link>⟧) }
+        ensures fresh { IfOk result (IsFreshLink ⟦<StdLink<N::Input, N::Output> as Link>⟧) }
         ensures unread { IfOk result (λ link. IsTrue N.Input.tells
             → N.Input.made (source_input (link_source link)) ≡ []) }
         ensures unwritten { IfOk result (λ link. IsTrue N.Output.tells

@@ -5,7 +5,7 @@ ghost use Rattle.std.specs.Prelude.{IsTrue, IfOk, IfSome, OnOk, OnErr};
 ghost use Rattle.std.specs.Result.{result_ok};
 ghost use Rattle.vt_host.specs.Calls.{FileCall, synced};
 ghost use Rattle.vt_host.specs.Opening.{disk_options, read_options, folder_of, folder_opening};
-ghost use Rattle.vt_host.specs.Opening.{Grows, BecomesDisk, StopsShort};
+ghost use Rattle.vt_host.specs.Opening.{GrowsFile, BecomesDisk, StopsShort};
 
 use crate::faults::Faults;
 use crate::system::{FileCalls, Opener};
@@ -55,7 +55,7 @@ fn folder_of(name: &str) -> &str
 /// Fills the file up to this length where it is shorter, and says how many bytes it then has.
 fn grow<F: FileCalls>(file: &mut F, wanted: u64) -> io::Result<u64>
     ensures calls { IsTrue F.tells → (calls : List FileCall)
-        × (F.made file.new ≡ F.made file.old ++ calls) × Grows wanted calls (result_ok result) }
+        × (F.made file.new ≡ F.made file.old ++ calls) × GrowsFile wanted calls (result_ok result) }
     ensures grown { IfOk result (λ len. wanted ≤ len) }
 {
     let found = file.measure()?;

@@ -10,8 +10,7 @@ use std::alloc::{AllocError, Global};
 use std::io::ErrorKind;
 use std::{io, str};
 use vt_base::{Failed, Text};
-use vt_folder::{Folder, Item, ItemKind, Listing};
-use vt_out::OutErr;
+use vt_out::{Folder, Item, ItemKind, Listing, OutErr};
 
 /// The file that was opened last.
 #[derive(Drop)]
@@ -86,7 +85,7 @@ where
 {
     ghost use Rattle.std.specs.Prelude.{◌≡◌, ◌≤◌, IfOk, IsTrue, length, string_bytes};
     ghost use Rattle.vt_host.specs.Folders.{folder_base, folder_calls, folder_faults};
-    ghost use Rattle.vt_host.specs.Paths.{Adds, OpensFile, ReadsLast, path_in};
+    ghost use Rattle.vt_host.specs.Paths.{AddsCalls, OpensFile, ReadsLast, path_in};
 
     /// The folder of this name, whose users and groups have these names.
     pub(crate) fn open(
@@ -168,7 +167,7 @@ where
 
     /// Opens the file at this path, if it is a regular file.
     fn reopen(&mut self, path: String) -> Result<(), Failed>
-        ensures opens { IsTrue C.tells → Adds (OpensFile (string_bytes path))
+        ensures opens { IsTrue C.tells → AddsCalls (OpensFile (string_bytes path))
             (C.made (folder_calls self.old)) (C.made (folder_calls self.new)) }
         ensures quiet { folder_faults self.new ≡ folder_faults self.old }
     {
@@ -187,7 +186,7 @@ where
     fn piece(&mut self, path: &[Text], at: u64, buf: &mut [u8]) -> Result<usize, Failed>
         ensures fits { IfOk result (λ n. n ≤ length buf.old) }
         ensures opens { IsTrue C.tells
-            → Adds (OpensFile (path_in (folder_base self.old) path.now))
+            → AddsCalls (OpensFile (path_in (folder_base self.old) path.now))
             (C.made (folder_calls self.old)) (C.made (folder_calls self.new)) }
         ensures reads { IfOk result (λ n. IsTrue C.File.tells
             → (file : C.File) × ReadsLast at n buf.new (C.File.made file)) }
@@ -218,9 +217,9 @@ where
 {
     ghost use Rattle.std.specs.Prelude.{◌≡◌, ◌≤◌, false, IfOk, IsTrue, length};
     ghost use Rattle.vt_base.specs.Faults.{HasCause};
-    ghost use Rattle.vt_folder.specs.Items.{none};
     ghost use Rattle.vt_host.specs.Folders.{folder_base, folder_calls, folder_faults};
-    ghost use Rattle.vt_host.specs.Paths.{Adds, OpensFile, ReadsLast, path_in};
+    ghost use Rattle.vt_host.specs.Paths.{AddsCalls, OpensFile, ReadsLast, path_in};
+    ghost use Rattle.vt_out.specs.FolderItems.{none};
 
     ghost tells = { false };
 
@@ -244,7 +243,7 @@ where
     fn read(&mut self, path: &[Text], at: u64, buf: &mut [u8]) -> Result<usize, Failed>
         ensures fits { IfOk result (λ n. n ≤ length buf.old) }
         ensures opens { IsTrue C.tells
-            → Adds (OpensFile (path_in (folder_base self.old) path.now))
+            → AddsCalls (OpensFile (path_in (folder_base self.old) path.now))
             (C.made (folder_calls self.old)) (C.made (folder_calls self.new)) }
         ensures reads { IfOk result (λ n. IsTrue C.File.tells
             → (file : C.File) × ReadsLast at n buf.new (C.File.made file)) }

@@ -8,8 +8,7 @@ use crate::paths::FolderCalls;
 use crate::system::Opener;
 use std::alloc::Global;
 use vt_base::{Bytes, Text};
-use vt_folders::Folders;
-use vt_out::{Files, OutErr};
+use vt_out::{Files, Folders, OutErr};
 
 /// The files that name the users and the groups (passwd(5), group(5)).
 const USERS: &[u8] = b"/etc/passwd";
@@ -76,8 +75,8 @@ where
     O::File: Drop,
 {
     ghost use Rattle.std.specs.Prelude.{◌≡◌, false};
-    ghost use Rattle.vt_folders.specs.Standing.{nothing};
     ghost use Rattle.vt_host.specs.Folders.{folders_faults};
+    ghost use Rattle.vt_out.specs.FolderStanding.{nothing};
 
     type Folder = StdFolder<C, C::File>;
 

@@ -8,7 +8,7 @@ use crate::system::Opener;
 use std::alloc::Global;
 use std::str;
 use vt_base::{Failed, Text};
-use vt_parts::Parts;
+use vt_partitions::Parts;
 
 /// Files of the system as partitions, each with its exclusive lock. Names are taken as they are,
 /// from the working folder.
@@ -42,7 +42,7 @@ where
     ghost use Rattle.vt_host.specs.Disks.{disk_file, disk_size};
     ghost use Rattle.vt_host.specs.Named.{parts_files, parts_faults};
     ghost use Rattle.vt_host.specs.Opening.{openings, BecomesDisk, StopsOpening};
-    ghost use Rattle.vt_parts.specs.Parts.{nothing};
+    ghost use Rattle.vt_partitions.specs.Parts.{nothing};
 
     type Disk = FileDisk<O::File>;
 

@@ -13,7 +13,7 @@ use std::fs::{File, Files, Metadata, OpenOptions};
 use std::io;
 use std::io::{BufReader, Read};
 use std::os::unix::fs::{FileExt, MetadataExt};
-use vt_folder::ItemKind;
+use vt_out::ItemKind;
 
 /// What stands at a path (stat(2)).
 #[derive(Clone, Copy)]

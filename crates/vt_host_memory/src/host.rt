@@ -4,14 +4,14 @@ use crate::ran::Ran;
 use run_base::Outside;
 use std::alloc::{AllocError, Global};
 use std::thread::Threads;
-use vt_answer::Streams;
 use vt_base::{Bytes, Scorer, Text};
 use vt_commands::run_with;
 use vt_dial::MemDialer;
-use vt_folder::{MemFolder, MemItem};
-use vt_folders::MemFolders;
-use vt_out::{MemClock, MemFiles, MemLink, MemSink, MemSource, Sink, Source};
-use vt_parts::Parts;
+use vt_handler::Streams;
+use vt_out::{
+    MemClock, MemFiles, MemFolder, MemFolders, MemItem, MemLink, MemSink, MemSource, Sink, Source,
+};
+use vt_partitions::Parts;
 
 /// What a test hands to the program.
 pub trait Runtime: Threads + Sync + AllocGlobal {}

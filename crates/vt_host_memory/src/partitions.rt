@@ -5,8 +5,7 @@ use std::mem;
 use vt_base::Text;
 use vt_disk::Disk;
 use vt_memdisk::{CrashMode, Listed, MemDisk};
-use vt_memparts::{Failing, MemParts};
-use vt_parts::Parts;
+use vt_partitions::{Failing, MemParts, Parts};
 
 /// The partitions that tests run on.
 pub(crate) type InMemory = MemParts<MemDisk<Listed>, Failing<Global>>;

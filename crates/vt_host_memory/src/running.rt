@@ -7,8 +7,7 @@ use crate::ran::Ran;
 use std::alloc::{AllocError, Global};
 use vt_base::{Scorer, Sha1Scorer};
 use vt_dial::MemDialer;
-use vt_folders::MemFolders;
-use vt_out::{MemFiles, MemSink};
+use vt_out::{MemFiles, MemFolders, MemSink};
 
 /// What a run is given beside partitions and folders.
 #[derive(Clone, Copy)]

@@ -9,10 +9,10 @@ use std::io::ErrorKind;
 use std::process::Abort;
 use std::time::Duration;
 use vt_base::{Bytes, Text};
-use vt_folder::ItemKind;
 use vt_host::{
     ClockCalls, Connector, FileCalls, FolderCalls, Look, Opener, PieceCalls, ReadCalls, WriteCalls,
 };
+use vt_out::ItemKind;
 
 /// Calls that were made, numbered from 0. The one with a stated number fails.
 #[derive(Drop)]

@@ -5,10 +5,8 @@ use std::os::unix::fs::symlink;
 use std::test::Fail;
 use std::{env, fs, process};
 use vt_base::{Failed, Text};
-use vt_folder::{Folder, Item, ItemKind};
-use vt_folders::Folders;
 use vt_host::StdFolders;
-use vt_out::OutErr;
+use vt_out::{Folder, Folders, Item, ItemKind, OutErr};
 use vt_rows::Rows;
 
 /// How many items the folder at a path lists, and what the one of this name is.

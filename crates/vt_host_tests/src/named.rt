@@ -7,7 +7,7 @@ use vt_base::Text;
 use vt_disk::Disk;
 use vt_host::{FileParts, StdFiles};
 use vt_out::{Files, OutErr};
-use vt_parts::Parts;
+use vt_partitions::Parts;
 use vt_rows::Rows;
 
 /// A partition of this name is handed out and taken back; then its opening fails.

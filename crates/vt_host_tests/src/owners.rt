@@ -4,9 +4,8 @@ use crate::fakes::{FakeFolder, Lines};
 use std::alloc::Global;
 use std::test::Fail;
 use vt_base::Text;
-use vt_folder::{Folder, Item};
-use vt_folders::Folders;
 use vt_host::StdFolders;
+use vt_out::{Folder, Folders, Item};
 use vt_rows::Rows;
 
 /// The one item of a folder, if it is listed.

@@ -12,7 +12,7 @@ use Rattle.vt_base.specs.declared.place.Info.{Info}
 use Rattle.vt_icache.specs.Keeping.{IsWell, dirty_infos, clean_entries}
 use Rattle.vt_icache.specs.View.{state_of}
 use Rattle.vt_icache.specs.declared.cache.IndexCache.TheInside.{Inside}
-use Rattle.vt_icache.specs.Index.{IndexState, IsKept, entry_of, entry_in, is_info_of, is_entry_of, dirty_info, clean_entry}
+use Rattle.vt_icache.specs.Index.{IndexState, IsCached, entry_of, cached_entry, is_info_of, is_entry_of, dirty_info, clean_entry}
 use Rattle.vt_icache.proofs.Pairs.{AreKeyed, values, same_as_itself}
 
 module _ {X : Type 0} where
@@ -59,15 +59,15 @@ pub kind_bounds : (n : ℕ) → IsKind n → (0 < n) × (n < 14)
 kind_bounds n is = (grind (arith, nat_tests), grind (arith, nat_tests))
 
 -- an entry that is found is kept
-pub found_is_kept : (key : Key) (s : IndexState) (entry : Entry) → entry_in key s ≡ Some entry → IsKept s entry
+pub found_is_kept : (key : Key) (s : IndexState) (entry : Entry) → cached_entry key s ≡ Some entry → IsCached s entry
 found_is_kept key s entry is = by (dirty_info key s) refl is
   where
-    by : (o : Option Info) → dirty_info key s ≡ o → option_or (option_map entry_of o) (clean_entry key s) ≡ Some entry → IsKept s entry
+    by : (o : Option Info) → dirty_info key s ≡ o → option_or (option_map entry_of o) (clean_entry key s) ≡ Some entry → IsCached s entry
     by (Some info) at e = inl (info, find_some (is_info_of key) s.dirty info at, (let same : entry_of info ≡ entry = cc in same))
     by None at e = inr (find_some (is_entry_of key) s.clean entry e)
 
 -- and each that is kept is found
-pub kept_is_found : (key : Key) (s : IndexState) (entry : Entry) → entry.key ≡ key → IsKept s entry → entry_in key s ≡ None → ⊥
+pub kept_is_found : (key : Key) (s : IndexState) (entry : Entry) → entry.key ≡ key → IsCached s entry → cached_entry key s ≡ None → ⊥
 kept_is_found key s entry own kept is = by (dirty_info key s) refl is
   where
     same : same_key key entry.key ≡ true
@@ -86,7 +86,7 @@ kept_is_found key s entry own kept is = by (dirty_info key s) refl is
 
 -- each entry that is kept has one of the types of blocks
 pub kept_kind : (s : Inside) → IsWell s.room s.infos s.dirty s.blank s.clean → (entry : Entry)
-    → IsKept (state_of s) entry → IsKind entry.key.kind
+    → IsCached (state_of s) entry → IsKind entry.key.kind
 kept_kind s was entry kept = ⊎_elim
     (λ (it : (info : Info) × Contains (dirty_infos s.infos s.dirty) info × (entry_of info ≡ entry)).
     subst (λ (x : Entry). IsKind x.key.kind) it.2
@@ -98,7 +98,7 @@ kept_kind s was entry kept = ⊎_elim
     kept
 
 -- where nothing is kept for a key, nothing is dirty
-pub none_dirty : (key : Key) (s : IndexState) → entry_in key s ≡ None → dirty_info key s ≡ None
+pub none_dirty : (key : Key) (s : IndexState) → cached_entry key s ≡ None → dirty_info key s ≡ None
 none_dirty key s none = by (dirty_info key s) refl none
   where
     by : (o : Option Info) → dirty_info key s ≡ o → option_or (option_map entry_of o) (clean_entry key s) ≡ None → dirty_info key s ≡ None

@@ -17,7 +17,7 @@ use Rattle.lru.specs.LruCache.{promoted}
 use Rattle.vt_base.specs.Key.{same_key}
 use Rattle.vt_base.specs.declared.key.Key.{Key}
 use Rattle.vt_base.specs.declared.place.Entry.{Entry}
-use Rattle.vt_icache.specs.Index.{without, recent, with_clean, is_entry_of}
+use Rattle.vt_icache.specs.Index.{without_first, recent, with_clean, is_entry_of}
 
 module _ {K X : Type 0} (key : X → K) where
   abbrev pub AreKeyed : List (K × X) → Type 0
@@ -64,10 +64,10 @@ module _ {K X : Type 0} (key : X → K) where
         ]) refl
 
     pub removed : (es : List (K × X)) → AreKeyed es
-        → values (remove_entry test es) ≡ without own (values es)
+        → values (remove_entry test es) ≡ without_first own (values es)
     removed [] keyed = refl
     removed (e ∷ es) keyed = (elim (test e.0) as (λ (y : Bool). test e.0 ≡ y
-        → values (cond y es (e ∷ remove_entry test es)) ≡ without own (values (e ∷ es))) [
+        → values (cond y es (e ∷ remove_entry test es)) ≡ without_first own (values (e ∷ es))) [
           | true ↦ λ t. rw (keyed.0, t)
           | false ↦ λ t. rw (keyed.0, t) (ap (λ (l : List X). e.1 ∷ l) (removed es keyed.1))
         ]) refl

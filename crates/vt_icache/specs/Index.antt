@@ -34,22 +34,22 @@ abbrev pub clean_entry : Key → IndexState → Option Entry
 clean_entry key s = find (is_entry_of key) s.clean
 
 -- the entry of a key: the dirty one or, where there is none, the clean one
-abbrev pub entry_in : Key → IndexState → Option Entry
-entry_in key s = option_or (option_map entry_of (dirty_info key s)) (clean_entry key s)
+abbrev pub cached_entry : Key → IndexState → Option Entry
+cached_entry key s = option_or (option_map entry_of (dirty_info key s)) (clean_entry key s)
 
 -- the entry is kept, as a dirty or a clean one
-abbrev pub IsKept : IndexState → Entry → Type 0
-IsKept s entry =
+abbrev pub IsCached : IndexState → Entry → Type 0
+IsCached s entry =
     ((info : Info) × Contains s.dirty info × (entry_of info ≡ entry)) ⊎ Contains s.clean entry
 
 -- without the first that passes
-abbrev pub without : {X : Type 0} → (X → Bool) → List X → List X
-without test [] = []
-without test (x ∷ xs) = cond (test x) xs (x ∷ without test xs)
+abbrev pub without_first : {X : Type 0} → (X → Bool) → List X → List X
+without_first test [] = []
+without_first test (x ∷ xs) = cond (test x) xs (x ∷ without_first test xs)
 
 -- the first that passes goes to the front
 abbrev pub recent : {X : Type 0} → (X → Bool) → List X → List X
-recent test xs = option_map_or (λ x. x ∷ without test xs) (find test xs) xs
+recent test xs = option_map_or (λ x. x ∷ without_first test xs) (find test xs) xs
 
 -- the entry of a key was looked up: where it is a clean one, it was used
 abbrev pub after_look_up : Key → IndexState → IndexState
@@ -70,12 +70,13 @@ entries_below below dirty = map entry_of (filter (is_below below) dirty)
 -- An entry becomes clean: it goes first, in place of one of its key or, where there is none and no
 -- room, of the last.
 abbrev pub with_clean : Entry → (room : ℕ) → List Entry → List Entry
-with_clean entry room clean = option_map_or (λ _. entry ∷ without (is_entry_of entry.key) clean)
+with_clean entry room clean =
+    option_map_or (λ _. entry ∷ without_first (is_entry_of entry.key) clean)
     (find (is_entry_of entry.key) clean) (entry ∷ take (room - 1) clean)
 
 -- A dirty entry was written back. It becomes clean, or is dropped where there is no memory for it;
 -- the others stay dirty, in any order.
-pub record Settles (info : Info) (old new : IndexState) : Type 0 where
+pub record SettlesEntry (info : Info) (old new : IndexState) : Type 0 where
   pub dirty : IsPermutation old.dirty (info ∷ new.dirty)
   pub gone : dirty_info info.key new ≡ None
   pub clean : (new.clean ≡ with_clean (entry_of info) old.clean_room old.clean)

@@ -9,7 +9,7 @@ ghost use Rattle.vt_base.specs.Kind.{IsKind};
 ghost use Rattle.std.specs.List.{AllPairs};
 ghost use Rattle.vt_base.specs.declared.place.Entry.{Entry};
 ghost use Rattle.vt_base.specs.declared.place.Info.{Info};
-ghost use Rattle.vt_icache.specs.Index.{IndexState, IsKept, Settles, dirty_info, entry_of, entry_in, after_look_up};
+ghost use Rattle.vt_icache.specs.Index.{IndexState, IsCached, SettlesEntry, dirty_info, entry_of, cached_entry, after_look_up};
 
 use indexmap::IndexMap;
 use lru::LruCache;
@@ -73,7 +73,7 @@ impl IndexCache {
     /// The entry of a key: the dirty one or, where there is none, the clean one, which becomes the
     /// most recently used. None comes exactly where neither is kept.
     pub fn find(&mut self, key: &Key) -> Option<Entry>
-        ensures found { result ≡ entry_in key.now self.old }
+        ensures found { result ≡ cached_entry key.now self.old }
         ensures used { self.new ≡ after_look_up key.now self.old }
         ensures key { IfSome result (λ entry. entry.key ≡ key.now) }
     {
@@ -90,8 +90,8 @@ impl IndexCache {
     /// An entry of a score under any type. None comes exactly where none is kept.
     pub fn find_score(&self, score: &Score) -> Option<Entry>
         ensures found { IfSome result (λ entry.
-            IsKept self.now entry × (entry.key.score.0 ≡ score.now.0)) }
-        ensures none { IfNone result ((entry : Entry) → IsKept self.now entry
+            IsCached self.now entry × (entry.key.score.0 ≡ score.now.0)) }
+        ensures none { IfNone result ((entry : Entry) → IsCached self.now entry
             → entry.key.score.0 ≢ score.now.0) }
     {
         // The check looks into the cache here, in which each entry has a type that there is: these
@@ -113,7 +113,7 @@ impl IndexCache {
 
     /// The entry of a key, whose use leaves the order.
     fn get(&self, key: &Key) -> Option<Entry>
-        ensures found { result ≡ entry_in key.now self.now }
+        ensures found { result ≡ cached_entry key.now self.now }
         ensures key { IfSome result (λ entry. entry.key ≡ key.now) }
     {
         match self.dirty_at(key) {
@@ -182,7 +182,7 @@ impl IndexCache {
     /// there is no room. One for which there is no memory is dropped.
     pub fn settle(&mut self, key: &Key, below: u64) -> bool
         ensures settled { (info : Info) → result ≡ true → dirty_info key.now self.old ≡ Some info
-            → (info.number < below) × Settles info self.old self.new }
+            → (info.number < below) × SettlesEntry info self.old self.new }
         ensures found { IsTrue result ↔ ((info : Info)
             × (dirty_info key.now self.old ≡ Some info) × (info.number < below)) }
         ensures same { result ≡ false → self.new ≡ self.old }

@@ -11,13 +11,12 @@ use std::alloc::{AllocError, Global};
 use std::marker::Brand;
 use std::sync::ledger::{Blank, Ledger};
 use std::test::Fail;
-use vt_base::{Entry, FieldValue, Key, Kind, Place, Score, Text};
+use vt_base::{Entry, FieldValue, Key, Kind, Place, Score, Steps, Text};
 use vt_bucket::Bucket;
 use vt_disk::Disk;
 use vt_isect::{Entries, Field, SectBad, Section, ShardErr, bucket_number, format, mount};
 use vt_memdisk::{CrashMode, Listed, MemDisk};
 use vt_rows::Rows;
-use vt_steps::Steps;
 use vt_twin::Step;
 
 /// A head and two buckets.

@@ -10,14 +10,13 @@ use std::alloc::Global;
 use std::marker::Brand;
 use std::sync::ledger::{Blank, Ledger};
 use std::test::Fail;
-use vt_base::{Bytes, Entry, Info, Key, Kind, Place, Score};
+use vt_base::{Bytes, Entry, Info, Key, Kind, Place, Score, Steps};
 use vt_disk::Disk;
 use vt_icache::entry_of;
 use vt_isect::ShardErr;
 use vt_memdisk::{CrashMode, Listed, MemDisk};
 use vt_rows::Rows;
 use vt_shard::{ROOM, Shard, Sizes, mount};
-use vt_steps::Steps;
 use vt_twin::Step;
 
 /// A head and one bucket, a head and two, and a head and eight.

@@ -8,15 +8,15 @@ use Rattle.vt_base.specs.declared.key.Key.{Key}
 use Rattle.vt_model.specs.History.{History, Accepted}
 use Rattle.vt_model.specs.Legal.{HasOtherKey}
 use Rattle.vt_model.specs.Places.{Setup, bucket_of, bucket_count}
-use Rattle.vt_twin.specs.Sound.{HasBegunSelector}
+use Rattle.vt_twin.specs.Sound.{TwinHasBegunSelector}
 use Rattle.vt_isect.specs.declared.head.Head.{Head}
 use Rattle.vt_isect.specs.declared.phase.Phase.{Phase}
 use Rattle.vt_isect.specs.declared.phase.Phase.TheVariants.{ChangeHead}
-use Rattle.vt_isect.specs.Agreement.{IsEntryOf, IsOfBlock, HasBlock, IsInBucket, AgreesWith, IsCovered, NoOthers, KnownAgrees}
+use Rattle.vt_isect.specs.Agreement.{IsEntryOf, IsEntryOfBlock, HasBlock, IsInBucket, AgreesWith, IsMarkCovered, NoOthers, KnownAgrees}
 use Rattle.vt_isect.specs.Layout.{InRange}
 use Rattle.vt_isect.specs.Merging.{Merges}
 use Rattle.vt_isect.specs.Section.{SectionState, PutsEntries, IsChanging, IsOfGroup, IsTodo, entries_of}
-use Rattle.vt_isect.specs.Sound.{Known, LeavesSection}
+use Rattle.vt_isect.specs.Sound.{KnownBuckets, LeavesSection}
 use Rattle.vt_isect.proofs.AreNext.{of_group}
 
 pub get_at : (h : History) (i : ℕ) (b : Accepted) → slice_get h i ≡ Some b → (d : Accepted) → get_or h i d ≡ b
@@ -51,10 +51,10 @@ same_block score c h keys i k e f one two key =
     rest)
     (cases_order i k)
 
-module _ {D : Type 0} (score : List ℕ → List ℕ) (c : Setup) (h : History) (t : SectionState D) (known : Known) (agrees : KnownAgrees score c h t known) where
+module _ {D : Type 0} (score : List ℕ → List ℕ) (c : Setup) (h : History) (t : SectionState D) (known : KnownBuckets) (agrees : KnownAgrees score c h t known) where
   -- the entries of the group are of their buckets
   group_blocks : PutsEntries t.phase → (n : ℕ) → (entry : Entry) → IsOfGroup t n entry
-      → IsOfBlock score c h entry × (bucket_of (bucket_count c) entry.key.score.0 ≡ n)
+      → IsEntryOfBlock score c h entry × (bucket_of (bucket_count c) entry.key.score.0 ≡ n)
   group_blocks phase n entry of = (
     agrees.todo entry (phase, of_group t.written t.framed (entries_of t) entry of.0),
     sym (ap (λ (k : ℕ). bucket_of k entry.key.score.0) agrees.total) ∙ of.1,
@@ -62,7 +62,7 @@ module _ {D : Type 0} (score : List ℕ → List ℕ) (c : Setup) (h : History) 
 
   -- a merged bucket has blocks of the history
   pub merged_blocks : PutsEntries t.phase → (n : ℕ) → InRange t.head t.buckets n → (old new : List Entry) → known n ≡ Some old → Merges old (IsOfGroup t n) new
-      → (entry : Entry) → Contains new entry → IsOfBlock score c h entry × (bucket_of (bucket_count c) entry.key.score.0 ≡ n)
+      → (entry : Entry) → Contains new entry → IsEntryOfBlock score c h entry × (bucket_of (bucket_count c) entry.key.score.0 ≡ n)
   merged_blocks phase n within old new is merges entry has = ⊎_elim
       (λ (of : IsOfGroup t n entry). group_blocks phase n entry of)
       (λ was. agrees.blocks n old entry within is was.0)
@@ -86,7 +86,7 @@ module _ {D : Type 0} (score : List ℕ → List ℕ) (c : Setup) (h : History) 
         of (Some old) is some = (old, is)
 
     blocks : (n : ℕ) (entry : Entry) → InRange t.head t.buckets n → Contains (left.1 n) entry
-        → IsOfBlock score c h entry × (bucket_of (bucket_count c) entry.key.score.0 ≡ n)
+        → IsEntryOfBlock score c h entry × (bucket_of (bucket_count c) entry.key.score.0 ≡ n)
     blocks n entry within has =
         let old = some_of n within in
         ⊎_elim
@@ -103,7 +103,7 @@ module _ {D : Type 0} (score : List ℕ → List ℕ) (c : Setup) (h : History) 
         merged_has merged.0.1.0 n within old (left.1 n) is merged.1 i entry of (inl has))
         (left.4 n old within is)
 
-    covered : (others : Entry → Type 0) (mark : ℕ) → ((entry : Entry) → ¬ others entry) → IsCovered score c h t known others mark
+    covered : (others : Entry → Type 0) (mark : ℕ) → ((entry : Entry) → ¬ others entry) → IsMarkCovered score c h t known others mark
         → (n i : ℕ) → InRange t.head t.buckets n → i < mark → IsInBucket score c h n i → HasBlock score c h (Contains (left.1 n)) i
     covered others mark none cover n i within below in_it =
         let old = some_of n within in
@@ -127,7 +127,7 @@ module _ {D : Type 0} (score : List ℕ → List ℕ) (c : Setup) (h : History) 
           subst (λ (m : ℕ). m ≤ length h) (sym (ap (λ (x : Head). x.mark) is)) cover.fits,
           λ n i within below in_it. covered NoOthers t.head.mark (λ e no. no) cover n i within (subst (λ (m : ℕ). i < m) (ap (λ (x : Head). x.mark) is) below) in_it,
         )))
-        (λ (is : (t.phase ≡ ChangeHead) × HasBegunSelector t.head_twin × (left.0 ≡ t.next)). made
+        (λ (is : (t.phase ≡ ChangeHead) × TwinHasBegunSelector t.head_twin × (left.0 ≡ t.next)). made
         (ap (λ (x : Head). x.first) is.2 ∙ agrees.same_first) (ap (λ (x : Head). x.total) is.2 ∙ agrees.same_total)
         (let cover = agrees.coming (sym (ap (λ (x : Head). x.state) is.2) ∙ live) in (
           subst (λ (m : ℕ). m ≤ length h) (sym (ap (λ (x : Head). x.mark) is.2)) cover.fits,

@@ -8,14 +8,14 @@ use Rattle.vt_twin.specs.Twin.{TwinState, with_change}
 use Rattle.vt_isect.specs.declared.head.Head.{Head}
 use Rattle.vt_isect.specs.declared.phase.Phase.{Phase}
 use Rattle.vt_isect.specs.declared.phase.Phase.TheVariants.{Rest, ReadFrame, ChangeHead}
-use Rattle.vt_isect.specs.Agreement.{IsOfBlock, IsCovered, NoOthers, KnownAgrees}
+use Rattle.vt_isect.specs.Agreement.{IsEntryOfBlock, IsMarkCovered, NoOthers, KnownAgrees}
 use Rattle.vt_isect.specs.Entries.{EntriesState}
 use Rattle.vt_isect.specs.Head.{IsHead, encoded}
 use Rattle.vt_isect.specs.Section.{SectionState, AreInRange, IsTodo}
 use Rattle.std.proofs.lemmas.List.Elements.{Contains-push_cases}
 use Rattle.vt_isect.specs.Layout.{InRange}
-use Rattle.vt_isect.specs.Sound.{Known, IsSoundSection, StillNames}
-use Rattle.vt_isect.specs.Writeback.{BeginsBehind, IsRead}
+use Rattle.vt_isect.specs.Sound.{KnownBuckets, IsSoundSection, StillNames}
+use Rattle.vt_isect.specs.Writeback.{BeginsBehind, NextCallReads}
 use Rattle.vt_isect.proofs.AreNext.{dropped}
 use Rattle.vt_isect.proofs.Heads.{frame_has}
 use Rattle.vt_isect.proofs.IsRead.{read_puts}
@@ -23,9 +23,9 @@ use Rattle.vt_isect.proofs.IsSoundSection.{bucket_begins, head_begins}
 use Rattle.vt_isect.proofs.Follows.{covers_more}
 
 -- what is known agrees with the head that begins to be written
-pub agrees_begins : {D : Type 0} (score : List ℕ → List ℕ) (c : Setup) (h : History) (t : SectionState D) (next : Head) (hw : TwinState) (known : Known)
+pub agrees_begins : {D : Type 0} (score : List ℕ → List ℕ) (c : Setup) (h : History) (t : SectionState D) (next : Head) (hw : TwinState) (known : KnownBuckets)
     → KnownAgrees score c h t known → next.first ≡ t.head.first → next.total ≡ t.head.total
-    → (next.state ≡ 1 → IsCovered score c h t known NoOthers next.mark)
+    → (next.state ≡ 1 → IsMarkCovered score c h t known NoOthers next.mark)
     → KnownAgrees score c h (record t { next = next; phase = ChangeHead; head_twin = hw }) known
 agrees_begins score c h t next hw known agrees first total cover =
     let v = record t { next = next; phase = ChangeHead; head_twin = hw } in
@@ -42,11 +42,11 @@ agrees_begins score c h t next hw known agrees first total cover =
     }
 
 -- and with the entries that begin to be written
-agrees_file : {D : Type 0} (score : List ℕ → List ℕ) (c : Setup) (h : History) (t : SectionState D) (mark : ℕ) (p : Phase) (es : EntriesState) (w f g b k : ℕ) (hw : TwinState) (known : Known)
+agrees_file : {D : Type 0} (score : List ℕ → List ℕ) (c : Setup) (h : History) (t : SectionState D) (mark : ℕ) (p : Phase) (es : EntriesState) (w f g b k : ℕ) (hw : TwinState) (known : KnownBuckets)
     → ((entry : Entry) → Contains es.items entry → IsTodo (record t { next = record t.head { mark = mark }; phase = p; entries = Some es; written = w; framed = f; begun = g; bucket = b; most = k; head_twin = hw }) entry)
     → KnownAgrees score c h t known
-    → ((entry : Entry) → Contains es.items entry → IsOfBlock score c h entry)
-    → (t.head.state ≡ 1 → IsCovered score c h t known (Contains es.items) mark)
+    → ((entry : Entry) → Contains es.items entry → IsEntryOfBlock score c h entry)
+    → (t.head.state ≡ 1 → IsMarkCovered score c h t known (Contains es.items) mark)
     → KnownAgrees score c h (record t { next = record t.head { mark = mark }; phase = p; entries = Some es; written = w; framed = f; begun = g; bucket = b; most = k; head_twin = hw }) known
 agrees_file score c h t mark p es w f g b k hw known forth agrees of cover =
     let v = record t { next = record t.head { mark = mark }; phase = p; entries = Some es; written = w; framed = f; begun = g; bucket = b; most = k; head_twin = hw } in
@@ -68,12 +68,12 @@ given t mark most es = record t { next = record t.head { mark = mark }; entries 
 
 -- what begins, of the first group or of the head
 abbrev pub Begins : {D : Type 0} → (t : SectionState D) (mark : ℕ) (es : EntriesState) (v : SectionState D) → Type 0
-Begins t mark es v = (IsRead v.phase × (v ≡ record (given t mark v.most es) { phase = v.phase; written = 0; framed = 0; begun = v.begun; bucket = v.bucket }))
+Begins t mark es v = (NextCallReads v.phase × (v ≡ record (given t mark v.most es) { phase = v.phase; written = 0; framed = 0; begun = v.begun; bucket = v.bucket }))
     ⊎ (v ≡ record (given t mark v.most es) { phase = ChangeHead; written = 0; head_twin = with_change (encoded t.name (record t.head { mark = mark })) t.head_twin })
 
 -- the same with the count that was set
 pub begins_of : {D : Type 0} (t : SectionState D) (mark most : ℕ) (es : EntriesState) (v : SectionState D)
-    → (IsRead v.phase × (v ≡ record (given t mark most es) { phase = v.phase; written = 0; framed = 0; begun = v.begun; bucket = v.bucket }))
+    → (NextCallReads v.phase × (v ≡ record (given t mark most es) { phase = v.phase; written = 0; framed = 0; begun = v.begun; bucket = v.bucket }))
     ⊎ (v ≡ record (given t mark most es) { phase = ChangeHead; written = 0; head_twin = with_change (encoded t.name (record t.head { mark = mark })) t.head_twin })
     → Begins t mark es v
 begins_of t mark most es v (inl e) =
@@ -89,11 +89,11 @@ no_entries t mark es v begins e entry has =
     let at = subst (λ x. BeginsBehind 0 x) e begins in
     ⊎_elim (λ here. here.0.0) (λ there. omega (arith, there.3, has.1)) at
 
-pub file_agrees : {D : Type 0} (score : List ℕ → List ℕ) (c : Setup) (h : History) (t : SectionState D) (mark : ℕ) (es : EntriesState) (v : SectionState D) (known : Known)
+pub file_agrees : {D : Type 0} (score : List ℕ → List ℕ) (c : Setup) (h : History) (t : SectionState D) (mark : ℕ) (es : EntriesState) (v : SectionState D) (known : KnownBuckets)
     → BeginsBehind 0 v → Begins t mark es v
     → KnownAgrees score c h t known
-    → ((entry : Entry) → Contains es.items entry → IsOfBlock score c h entry)
-    → (t.head.state ≡ 1 → IsCovered score c h t known (Contains es.items) mark)
+    → ((entry : Entry) → Contains es.items entry → IsEntryOfBlock score c h entry)
+    → (t.head.state ≡ 1 → IsMarkCovered score c h t known (Contains es.items) mark)
     → KnownAgrees score c h v known
 file_agrees score c h t mark es v known begins (inl e) agrees of cover =
     subst (λ x. KnownAgrees score c h x known) (sym e.1)
@@ -103,7 +103,7 @@ file_agrees score c h t mark es v known begins (inr e) agrees of cover =
     (agrees_file score c h t mark ChangeHead es 0 t.framed t.begun t.bucket v.most (with_change (encoded t.name (record t.head { mark = mark })) t.head_twin) known
     (λ entry has. absurd (no_entries t mark es v begins e entry has)) agrees of cover)
 
-pub file_sound : {D : Type 0} (t : SectionState D) (mark : ℕ) (es : EntriesState) (v : SectionState D) (known : Known) (read : List ℕ) (images : List ℕ → Type 0)
+pub file_sound : {D : Type 0} (t : SectionState D) (mark : ℕ) (es : EntriesState) (v : SectionState D) (known : KnownBuckets) (read : List ℕ) (images : List ℕ → Type 0)
     → t.phase ≡ Rest → t.group ≡ [] → length t.name ≡ 64 → mark < 2 ^ 64 → Begins t mark es v
     → ((s : ℕ) → v.phase ≡ ReadFrame s → StillNames v (s % 2) read)
     → IsSoundSection t known read images → IsSoundSection v known read images

@@ -14,7 +14,7 @@ use Rattle.vt_base.specs.declared.place.Entry.{Entry}
 use Rattle.vt_model.specs.History.{History, Accepted}
 use Rattle.vt_model.specs.Legal.{HasOtherKey}
 use Rattle.vt_model.specs.Places.{Setup, Spot, StandsAt, bucket_of, bucket_count, crowd}
-use Rattle.vt_isect.specs.Agreement.{IsEntryOf, IsOfBlock, HasBlock, IsInBucket}
+use Rattle.vt_isect.specs.Agreement.{IsEntryOf, IsEntryOfBlock, HasBlock, IsInBucket}
 use Rattle.vt_isect.specs.Merging.{HasKey}
 use Rattle.vt_isect.proofs.AgreesWith.{get_at, get_below, same_block}
 use Rattle.vt_isect.proofs.Merges.{decide_keys, cons_cases, in_cons}
@@ -206,7 +206,7 @@ module _ (key_of : Accepted → Key) (p : Accepted → Bool) where
 module _ (score : List ℕ → List ℕ) (c : Setup) (h : History) (n : ℕ) (entries : List Entry)
     (apart : AreDistinct entries)
     (of : (entry : Entry) → Contains entries entry
-    → IsOfBlock score c h entry × (bucket_of (bucket_count c) entry.key.score.0 ≡ n)) where
+    → IsEntryOfBlock score c h entry × (bucket_of (bucket_count c) entry.key.score.0 ≡ n)) where
   abbrev key_in : Accepted → Key
   key_in x = record { score = record { 0 = score x.block.bytes }; kind = x.block.kind }
 

@@ -7,7 +7,7 @@ use Rattle.std.proofs.lemmas.Bool.{cases_eq, cases_lt, le-leb, leb-true}
 use Rattle.std.proofs.lemmas.Bool.Decides.{Decides-ltb}
 use Rattle.vt_base.specs.declared.place.Entry.{Entry}
 use Rattle.std.proofs.lemmas.List.{length-replicate}
-use Rattle.vt_bucket.specs.Frame.{IsFrame, frame_of as bucket_frame}
+use Rattle.vt_bucket.specs.Frame.{IsBucketFrame, bucket_frame}
 use Rattle.vt_disk.specs.declared.region.Region.{Region}
 use Rattle.vt_disk.specs.Calls.{OnlyReads, WritesAt, MadeCalls}
 use Rattle.vt_disk.specs.Disk.{AreAmong, IsOneMore, SameBut, Only, Touches}
@@ -18,31 +18,31 @@ use Rattle.vt_disk.proofs.Calls.{reads_as_writes, writes_then, writes_wider}
 use Rattle.vt_model.specs.History.{History}
 use Rattle.vt_model.specs.Places.{Setup, bucket_of, bucket_count}
 use Rattle.vt_twin.specs.Formatting.{EndsFormat, TouchedByFirst}
-use Rattle.vt_twin.specs.Frames.{HasRoom, frame_of, frame_start, named_number, current_frame, selector_of, selector_start, selector_len}
+use Rattle.vt_twin.specs.Frames.{FitsTwin, frame_of, frame_start, named_number, current_frame, selector_of, selector_start, selector_len}
 use Rattle.vt_twin.proofs.Places.{frame_inside, selector_inside, frame_same, named_same}
 use Rattle.vt_isect.specs.declared.head.Head.{Head}
 use Rattle.vt_isect.specs.declared.phase.Phase.TheVariants.{Rest}
-use Rattle.vt_isect.specs.Agreement.{KnownAgrees, IsOfBlock}
-use Rattle.vt_isect.specs.Filling.{AreCleared, Fills, HasSelectorOf, InBuckets, IsAmong, Reads, with_buckets}
-use Rattle.vt_isect.specs.Layout.{head_place, IsPlaceOf, InRange}
+use Rattle.vt_isect.specs.Agreement.{KnownAgrees, IsEntryOfBlock}
+use Rattle.vt_isect.specs.Filling.{AreCleared, FillsBucket, HasSelectorOf, InBuckets, IsAmong, ReadsKnown, with_buckets}
+use Rattle.vt_isect.specs.Layout.{head_place, IsBucketPlace, InRange}
 use Rattle.vt_isect.specs.Section.{SectionState, PutsEntries}
-use Rattle.vt_isect.specs.Sound.{Known, DiskHolds, IsSoundSection, with_bucket, nothing_known}
+use Rattle.vt_isect.specs.Sound.{KnownBuckets, DiskHolds, IsSoundSection, with_bucket, nothing_known}
 use Rattle.vt_isect.proofs.WithBucket.{settled_holds, with_here, with_there}
 use Rattle.vt_isect.proofs.Places.{one_place, head_apart, places_apart}
 use Rattle.vt_twin.proofs.Sound.{reads_sound}
 use Rattle.vt_isect.proofs.IsReadFrom.{reads_known}
 
 -- a read that gives this gives what is known
-abbrev pub ReadsAt : {D : Type 0} → SectionState D → Known → (read : List ℕ) → Type 0
+abbrev pub ReadsAt : {D : Type 0} → SectionState D → KnownBuckets → (read : List ℕ) → Type 0
 ReadsAt t known read = (n : ℕ) (entries : List Entry) → InRange t.head t.buckets n
     → known n ≡ Some entries
-    → (region : Region) × IsPlaceOf (n - t.head.first) region
-    × IsFrame n entries (current_frame region 8192 read)
+    → (region : Region) × IsBucketPlace (n - t.head.first) region
+    × IsBucketFrame n entries (current_frame region 8192 read)
 
 -- ---- places
 
 -- a bucket's place has room for its frames
-own_room : (j : ℕ) (region : Region) → IsPlaceOf j region → HasRoom region 8192 (region.start + region.len)
+own_room : (j : ℕ) (region : Region) → IsBucketPlace j region → FitsTwin region 8192 (region.start + region.len)
 own_room j region place = record {
   within = omega arith;
   least = omega (arith, place.len);
@@ -53,7 +53,7 @@ own_room j region place = record {
 }
 
 -- what is written elsewhere leaves its current frame
-current_same : (P : ℕ → Type 0) (j : ℕ) (region : Region) → IsPlaceOf j region → ((i : ℕ) → P i → ¬ Inside region i)
+current_same : (P : ℕ → Type 0) (j : ℕ) (region : Region) → IsBucketPlace j region → ((i : ℕ) → P i → ¬ Inside region i)
     → (read reads : List ℕ) → SameBut P read reads → current_frame region 8192 reads ≡ current_frame region 8192 read
 current_same P j region place apart read reads same =
     let size : ℕ = region.start + region.len in
@@ -65,7 +65,7 @@ current_same P j region place apart read reads same =
     (λ i here changed. apart i changed (frame_inside region 8192 size room (named_number region 8192 read) i (omega arith) here)) read reads same
 
 -- a bucket's bytes are among those of some
-pub in_buckets : (j first count n : ℕ) (region : Region) → IsPlaceOf (n - j) region → j ≤ first → IsAmong first count n
+pub in_buckets : (j first count n : ℕ) (region : Region) → IsBucketPlace (n - j) region → j ≤ first → IsAmong first count n
     → (i : ℕ) → Inside region i → InBuckets (first - j) count i
 in_buckets j first count n region place from among i here =
     (omega (arith, place.start, from, among.0, here.0), omega (arith, place.start, place.len, from, among.0, among.1, here.1))
@@ -95,12 +95,12 @@ isnt : (a : Bool) → ¬ (a ≡ true) → a ≡ false
 isnt true never = absurd (never refl)
 isnt false never = refl
 
-pub among_here : (first count : ℕ) (o : Option (List Entry)) (known : Known) (n : ℕ) → IsAmong first count n → with_buckets first count o known n ≡ o
+pub among_here : (first count : ℕ) (o : Option (List Entry)) (known : KnownBuckets) (n : ℕ) → IsAmong first count n → with_buckets first count o known n ≡ o
 among_here first count o known n it =
     ap (λ (b : Bool). cond b o (known n))
     (both (nat_le first n) (nat_lt n (first + count)) (le-leb first n it.0) ((Decides-ltb n (first + count)).1 it.1))
 
-pub among_there : (first count : ℕ) (o : Option (List Entry)) (known : Known) (n : ℕ) → ¬ IsAmong first count n → with_buckets first count o known n ≡ known n
+pub among_there : (first count : ℕ) (o : Option (List Entry)) (known : KnownBuckets) (n : ℕ) → ¬ IsAmong first count n → with_buckets first count o known n ≡ known n
 among_there first count o known n other =
     ap (λ (b : Bool). cond b o (known n))
     (isnt (nat_le first n && nat_lt n (first + count)) (λ is.
@@ -108,7 +108,7 @@ among_there first count o known n other =
     other (leb-true first n it.0, (Decides-ltb n (first + count)).0 it.1)))
 
 -- one bucket more
-pub next_known : (first count : ℕ) (o : Option (List Entry)) (known : Known) (n : ℕ)
+pub next_known : (first count : ℕ) (o : Option (List Entry)) (known : KnownBuckets) (n : ℕ)
     → with_buckets first (count + 1) o known n ≡ with_bucket (first + count) o (with_buckets first count o known) n
 next_known first count o known n = ⊎_elim
     (λ (here : n ≡ first + count).
@@ -124,11 +124,11 @@ next_known first count o known n = ⊎_elim
     (is_among first count n))
     (cases_eq n (first + count))
 
-pub none_known : (first : ℕ) (o : Option (List Entry)) (known : Known) (n : ℕ) → with_buckets first 0 o known n ≡ known n
+pub none_known : (first : ℕ) (o : Option (List Entry)) (known : KnownBuckets) (n : ℕ) → with_buckets first 0 o known n ≡ known n
 none_known first o known n = among_there first 0 o known n (λ it. omega (arith, it.0, it.1))
 
 -- where no more is known
-pub less_sound : {D : Type 0} (t : SectionState D) (known knows : Known) (read : List ℕ) (images : List ℕ → Type 0)
+pub less_sound : {D : Type 0} (t : SectionState D) (known knows : KnownBuckets) (read : List ℕ) (images : List ℕ → Type 0)
     → ((n : ℕ) (entries : List Entry) → knows n ≡ Some entries → known n ≡ Some entries)
     → IsSoundSection t known read images → IsSoundSection t knows read images
 less_sound t known knows read images less sound = record {
@@ -144,7 +144,7 @@ less_sound t known knows read images less sound = record {
   bucket = λ n entries within is. sound.bucket n entries within (less n entries is);
 }
 
-pub less_reads : {D : Type 0} (t : SectionState D) (known knows : Known) (read : List ℕ)
+pub less_reads : {D : Type 0} (t : SectionState D) (known knows : KnownBuckets) (read : List ℕ)
     → ((n : ℕ) (entries : List Entry) → knows n ≡ Some entries → known n ≡ Some entries)
     → ReadsAt t known read → ReadsAt t knows read
 less_reads t known knows read less reads n entries within is = reads n entries within (less n entries is)
@@ -152,7 +152,7 @@ less_reads t known knows read less reads n entries within is = reads n entries w
 -- ---- reads and syncs
 
 -- a read or a sync
-pub synced_sound : {D : Type 0} (t : SectionState D) (d : D) (known : Known) (read reads : List ℕ) (images after : List ℕ → Type 0)
+pub synced_sound : {D : Type 0} (t : SectionState D) (d : D) (known : KnownBuckets) (read reads : List ℕ) (images after : List ℕ → Type 0)
     → reads ≡ read → AreAmong after images → IsSoundSection t known read images → IsSoundSection (record t { disk = d }) known reads after
 synced_sound t d known read reads images after same among sound = record {
   head_frame = sound.head_frame;
@@ -190,7 +190,7 @@ synced_sound t d known read reads images after same among sound = record {
 }
 
 -- what is known is read
-pub known_reads : {D : Type 0} (t : SectionState D) (known : Known) (read : List ℕ) (images : List ℕ → Type 0)
+pub known_reads : {D : Type 0} (t : SectionState D) (known : KnownBuckets) (read : List ℕ) (images : List ℕ → Type 0)
     → ¬ PutsEntries t.phase → images read → IsSoundSection t known read images → ReadsAt t known read
 known_reads t known read images still is_image sound n entries within is =
     let it = sound.bucket n entries within is in (
@@ -204,7 +204,7 @@ known_reads t known read images still is_image sound n entries within is =
     )
 
 -- behind a sync, what is read is known
-pub settled_sound : {D : Type 0} (t : SectionState D) (known knows : Known) (read : List ℕ) (images : List ℕ → Type 0)
+pub settled_sound : {D : Type 0} (t : SectionState D) (known knows : KnownBuckets) (read : List ℕ) (images : List ℕ → Type 0)
     → ¬ PutsEntries t.phase → Only read images → IsSoundSection t known read images → ReadsAt t knows read
     → IsSoundSection t knows read images
 settled_sound t known knows read images still only sound reads = record {
@@ -223,35 +223,35 @@ settled_sound t known knows read images still only sound reads = record {
 }
 
 -- what is written at the head's place
-pub reads_beside : {D : Type 0} (t : SectionState D) (known : Known) (read reads : List ℕ)
+pub reads_beside : {D : Type 0} (t : SectionState D) (known : KnownBuckets) (read reads : List ℕ)
     → SameBut (Inside head_place) read reads → ReadsAt t known read → ReadsAt t known reads
 reads_beside t known read reads same were n entries within is =
     let it = were n entries within is in (
       it.0,
       it.1,
-      subst (λ (f : List ℕ). IsFrame n entries f)
+      subst (λ (f : List ℕ). IsBucketFrame n entries f)
           (sym (current_same (Inside head_place) (n - t.head.first) it.0 it.1
           (λ i changed here. head_apart (n - t.head.first) it.0 it.1 i here changed) read reads same)) it.2,
     )
 
 -- a bucket is written
-pub reads_filled : {D : Type 0} (t : SectionState D) (d : D) (n : ℕ) (region : Region) (entries : List Entry) (known : Known) (read reads : List ℕ)
-    → InRange t.head t.buckets n → IsPlaceOf (n - t.head.first) region → SameBut (Inside region) read reads
-    → IsFrame n entries (current_frame region 8192 reads) → ReadsAt t known read
+pub reads_filled : {D : Type 0} (t : SectionState D) (d : D) (n : ℕ) (region : Region) (entries : List Entry) (known : KnownBuckets) (read reads : List ℕ)
+    → InRange t.head t.buckets n → IsBucketPlace (n - t.head.first) region → SameBut (Inside region) read reads
+    → IsBucketFrame n entries (current_frame region 8192 reads) → ReadsAt t known read
     → ReadsAt (record t { disk = d }) (with_bucket n (Some entries) known) reads
 reads_filled t d n region entries known read reads in_it place same spelled were k list within is = ⊎_elim
     (λ (here : k ≡ n).
     let e : entries ≡ list = same_Some entries list (sym (ap (with_bucket n (Some entries) known) here ∙ with_here known n (Some entries)) ∙ is) in (
       region,
-      subst (λ (m : ℕ). IsPlaceOf (m - t.head.first) region) (sym here) place,
-      subst (λ (m : ℕ). IsFrame m list (current_frame region 8192 reads)) (sym here)
-          (subst (λ (l : List Entry). IsFrame n l (current_frame region 8192 reads)) e spelled),
+      subst (λ (m : ℕ). IsBucketPlace (m - t.head.first) region) (sym here) place,
+      subst (λ (m : ℕ). IsBucketFrame m list (current_frame region 8192 reads)) (sym here)
+          (subst (λ (l : List Entry). IsBucketFrame n l (current_frame region 8192 reads)) e spelled),
     ))
     (λ (there : k ≢ n).
     let it = were k list within (sym (with_there known n k (Some entries) there) ∙ is) in (
       it.0,
       it.1,
-      subst (λ (f : List ℕ). IsFrame k list f)
+      subst (λ (f : List ℕ). IsBucketFrame k list f)
           (sym (current_same (Inside region) (k - t.head.first) it.0 it.1
           (λ i changed own. places_apart (n - t.head.first) (k - t.head.first) region it.0 place it.1
           (λ e. there (omega (arith, e, within.0, in_it.0))) i changed own) read reads same)) it.2,
@@ -261,11 +261,11 @@ reads_filled t d n region entries known read reads in_it place same spelled were
 -- ---- a history
 
 -- while the mark doesn't count, other entries of blocks agree with it, too
-pub agrees_building : {D : Type 0} (score : List ℕ → List ℕ) (c : Setup) (h : History) (t : SectionState D) (d : D) (known knows : Known)
+pub agrees_building : {D : Type 0} (score : List ℕ → List ℕ) (c : Setup) (h : History) (t : SectionState D) (d : D) (known knows : KnownBuckets)
     → KnownAgrees score c h t known → t.head.state ≢ 1 → t.next ≡ t.head
     → ((n : ℕ) → InRange t.head t.buckets n → IsSome (knows n))
     → ((n : ℕ) (entries : List Entry) (entry : Entry) → InRange t.head t.buckets n → knows n ≡ Some entries → Contains entries entry
-    → IsOfBlock score c h entry × (bucket_of (bucket_count c) entry.key.score.0 ≡ n))
+    → IsEntryOfBlock score c h entry × (bucket_of (bucket_count c) entry.key.score.0 ≡ n))
     → KnownAgrees score c h (record t { disk = d }) knows
 agrees_building score c h t d known knows agrees waits next whole blocks = record {
   keys = agrees.keys;
@@ -282,9 +282,9 @@ agrees_building score c h t d known knows agrees waits next whole blocks = recor
 none_in : (entries : List Entry) (entry : Entry) → Some entries ≡ Some [] → ¬ Contains entries entry
 none_in entries entry e has = let none : length entries ≡ 0 = ap (λ (l : List Entry). length l) (same_Some entries [] e) in omega (arith, none, has.1)
 
-pub agrees_filled : {D : Type 0} (score : List ℕ → List ℕ) (c : Setup) (h : History) (t : SectionState D) (d : D) (n : ℕ) (filled : List Entry) (known : Known)
+pub agrees_filled : {D : Type 0} (score : List ℕ → List ℕ) (c : Setup) (h : History) (t : SectionState D) (d : D) (n : ℕ) (filled : List Entry) (known : KnownBuckets)
     → KnownAgrees score c h t known → t.head.state ≢ 1 → t.next ≡ t.head
-    → ((entry : Entry) → Contains filled entry → IsOfBlock score c h entry × (bucket_of (bucket_count c) entry.key.score.0 ≡ n))
+    → ((entry : Entry) → Contains filled entry → IsEntryOfBlock score c h entry × (bucket_of (bucket_count c) entry.key.score.0 ≡ n))
     → KnownAgrees score c h (record t { disk = d }) (with_bucket n (Some filled) known)
 agrees_filled score c h t d n filled known agrees waits next of =
     agrees_building score c h t d known (with_bucket n (Some filled) known) agrees waits next
@@ -300,7 +300,7 @@ agrees_filled score c h t d n filled known agrees waits next of =
     (λ (there : k ≢ n). agrees.blocks k entries entry within (sym (with_there known n k (Some filled) there) ∙ is) has)
     (cases_eq k n))
 
-pub agrees_cleared : {D : Type 0} (score : List ℕ → List ℕ) (c : Setup) (h : History) (t : SectionState D) (d : D) (first count : ℕ) (known : Known)
+pub agrees_cleared : {D : Type 0} (score : List ℕ → List ℕ) (c : Setup) (h : History) (t : SectionState D) (d : D) (first count : ℕ) (known : KnownBuckets)
     → KnownAgrees score c h t known → t.head.state ≢ 1 → t.next ≡ t.head
     → KnownAgrees score c h (record t { disk = d }) (with_buckets first count (Some []) known)
 agrees_cleared score c h t d first count known agrees waits next =
@@ -317,8 +317,8 @@ agrees_cleared score c h t d first count known agrees waits next =
 -- ---- buckets one after another
 
 -- what is written elsewhere leaves what a bucket was written with
-fills_stay : (n : ℕ) (entries : List Entry) (P : ℕ → Type 0) (j : ℕ) (region : Region) → IsPlaceOf j region → ((i : ℕ) → P i → ¬ Inside region i)
-    → (old mid new : List ℕ) → SameBut P mid new → Fills n entries region old mid → Fills n entries region old new
+fills_stay : (n : ℕ) (entries : List Entry) (P : ℕ → Type 0) (j : ℕ) (region : Region) → IsBucketPlace j region → ((i : ℕ) → P i → ¬ Inside region i)
+    → (old mid new : List ℕ) → SameBut P mid new → FillsBucket n entries region old mid → FillsBucket n entries region old new
 fills_stay n entries P j region place apart old mid new same it =
     let size : ℕ = region.start + region.len in
     let room = own_room j region place in
@@ -333,8 +333,8 @@ fills_stay n entries P j region place apart old mid new same it =
     }
 
 -- and so does what was written elsewhere before
-fills_later : (n : ℕ) (entries : List Entry) (P : ℕ → Type 0) (j : ℕ) (region : Region) → IsPlaceOf j region → ((i : ℕ) → P i → ¬ Inside region i)
-    → (old mid new : List ℕ) → SameBut P old mid → Fills n entries region mid new → Fills n entries region old new
+fills_later : (n : ℕ) (entries : List Entry) (P : ℕ → Type 0) (j : ℕ) (region : Region) → IsBucketPlace j region → ((i : ℕ) → P i → ¬ Inside region i)
+    → (old mid new : List ℕ) → SameBut P old mid → FillsBucket n entries region mid new → FillsBucket n entries region old new
 fills_later n entries P j region place apart old mid new same it = record {
   frame = it.frame;
   selector = it.selector;
@@ -346,8 +346,8 @@ fills_later n entries P j region place apart old mid new same it = record {
 pub record HasCleared {D : Type 0} (disk : DiskOf D) (t u : SectionState D) (first count : ℕ) : Type 0 where
   pub same : u ≡ record t { disk = u.disk }
   pub written : IsTrue disk.tells → AreCleared disk first count t u
-  pub read : (known : Known) → IsTrue disk.tells → Reads disk t known → Reads disk u (with_buckets first count (Some []) known)
-  pub others : (known : Known) → IsTrue disk.tells → DiskHolds disk t known → DiskHolds disk u (with_buckets first count None known)
+  pub read : (known : KnownBuckets) → IsTrue disk.tells → ReadsKnown disk t known → ReadsKnown disk u (with_buckets first count (Some []) known)
+  pub others : (known : KnownBuckets) → IsTrue disk.tells → DiskHolds disk t known → DiskHolds disk u (with_buckets first count None known)
   pub writes : WritesAt disk (InBuckets (first - t.head.first) count) (2 * count) t.disk u.disk
   pub calls_are : IsTrue disk.tells → min (disk.calls u.disk + 1) (2 ^ 64 - 1) ≡ min (disk.calls t.disk + 2 * count + 1) (2 ^ 64 - 1)
   pub faults_are : disk.faults u.disk ≡ disk.faults t.disk
@@ -393,14 +393,14 @@ module _ {D : Type 0} (disk : DiskOf D) (t : SectionState D) (first : ℕ) where
 
     -- where the next one is cleared, too
     module _ (step_same : v ≡ record u { disk = v.disk })
-        (step_written : IsTrue disk.tells → (region : Region) → IsPlaceOf (first + k - t.head.first) region → Fills (first + k) [] region (disk.bytes u.disk) (disk.bytes v.disk))
-        (step_read : (known : Known) → IsTrue disk.tells → Reads disk u known → Reads disk v (with_bucket (first + k) (Some []) known))
-        (step_others : (known : Known) → IsTrue disk.tells → DiskHolds disk u known → DiskHolds disk v (with_bucket (first + k) None known))
+        (step_written : IsTrue disk.tells → (region : Region) → IsBucketPlace (first + k - t.head.first) region → FillsBucket (first + k) [] region (disk.bytes u.disk) (disk.bytes v.disk))
+        (step_read : (known : KnownBuckets) → IsTrue disk.tells → ReadsKnown disk u known → ReadsKnown disk v (with_bucket (first + k) (Some []) known))
+        (step_others : (known : KnownBuckets) → IsTrue disk.tells → DiskHolds disk u known → DiskHolds disk v (with_bucket (first + k) None known))
         (step_calls : MadeCalls disk 2 u.disk v.disk) (step_faults : disk.faults v.disk ≡ disk.faults u.disk) where
-      here_written : IsTrue disk.tells → (n : ℕ) (region : Region) → n ≡ first + k → IsPlaceOf (n - t.head.first) region → Fills n [] region (disk.bytes t.disk) (disk.bytes v.disk)
+      here_written : IsTrue disk.tells → (n : ℕ) (region : Region) → n ≡ first + k → IsBucketPlace (n - t.head.first) region → FillsBucket n [] region (disk.bytes t.disk) (disk.bytes v.disk)
       here_written told n region is place =
-          let at : IsPlaceOf (first + k - t.head.first) region = subst (λ (m : ℕ). IsPlaceOf (m - t.head.first) region) is place in
-          subst (λ (m : ℕ). Fills m [] region (disk.bytes t.disk) (disk.bytes v.disk)) (sym is)
+          let at : IsBucketPlace (first + k - t.head.first) region = subst (λ (m : ℕ). IsBucketPlace (m - t.head.first) region) is place in
+          subst (λ (m : ℕ). FillsBucket m [] region (disk.bytes t.disk) (disk.bytes v.disk)) (sym is)
           (fills_later (first + k) [] (InBuckets (first - t.head.first) k) (first + k - t.head.first) region at
           (λ i changed own. omega (arith, changed.1, own.0, at.start, from)) (disk.bytes t.disk) (disk.bytes u.disk) (disk.bytes v.disk)
           (it.writes.bytes told) (step_written told region at))
@@ -428,8 +428,8 @@ module _ {D : Type 0} (disk : DiskOf D) (t : SectionState D) (first : ℕ) where
 
   -- where it fails, no more is known of any of them
   pub stopped_others : (u v : SectionState D) (k count : ℕ) → k < count → HasCleared disk t u first k
-      → ((known : Known) → IsTrue disk.tells → DiskHolds disk u known → DiskHolds disk v (with_bucket (first + k) None known))
-      → (known : Known) → IsTrue disk.tells → DiskHolds disk t known → DiskHolds disk v (with_buckets first count None known)
+      → ((known : KnownBuckets) → IsTrue disk.tells → DiskHolds disk u known → DiskHolds disk v (with_bucket (first + k) None known))
+      → (known : KnownBuckets) → IsTrue disk.tells → DiskHolds disk t known → DiskHolds disk v (with_buckets first count None known)
   stopped_others u v k count low it step known told sound =
       less_sound v (with_bucket (first + k) None (with_buckets first k None known)) (with_buckets first count None known) (disk.bytes v.disk) (disk.images v.disk)
       (λ n entries is.
@@ -446,14 +446,14 @@ pub blank_len : (n : ℕ) → length (bucket_frame n []) ≡ 8192
 blank_len n = omega (arith, length-replicate {A = ℕ} 8182 0)
 
 -- a selector in a place that nothing was written to
-selector_elsewhere : (P : ℕ → Type 0) (j : ℕ) (region : Region) → IsPlaceOf j region → ((i : ℕ) → P i → ¬ Inside region i)
+selector_elsewhere : (P : ℕ → Type 0) (j : ℕ) (region : Region) → IsBucketPlace j region → ((i : ℕ) → P i → ¬ Inside region i)
     → (old new : List ℕ) → SameBut P old new → selector_of region 8192 new ≡ selector_of region 8192 old
 selector_elsewhere P j region place apart old new same =
     part_same P (selector_start region 8192) (selector_len region 8192) old new same
     (λ i up down changed. apart i changed (omega (arith, up), omega (arith, down, place.len)))
 
 -- its selector is as it was, or behind a frame that is whole
-pub ends_whole : {D : Type 0} (disk : DiskOf D) (j : ℕ) (region : Region) (frame : List ℕ) (made : ℕ) (old new : D) → IsPlaceOf j region → length frame ≡ 8192 → made < 2
+pub ends_whole : {D : Type 0} (disk : DiskOf D) (j : ℕ) (region : Region) (frame : List ℕ) (made : ℕ) (old new : D) → IsBucketPlace j region → length frame ≡ 8192 → made < 2
     → EndsFormat disk region frame made old new → IsTrue disk.tells
     → (selector_of region 8192 (disk.bytes new) ≡ selector_of region 8192 (disk.bytes old)) ⊎ (frame_of region 8192 0 (disk.bytes new) ≡ frame)
 ends_whole disk j region frame zero old new place len few ends told = inl (
@@ -474,7 +474,7 @@ ends_whole disk j region frame (suc (suc n)) old new place len few ends told = a
 
 -- and that was so before the first of them
 pub stops_whole : {D : Type 0} (disk : DiskOf D) (t u v : SectionState D) (first k : ℕ) (region : Region) (frame : List ℕ) (made : ℕ)
-    → t.head.first ≤ first → IsPlaceOf (first + k - t.head.first) region → length frame ≡ 8192 → made < 2
+    → t.head.first ≤ first → IsBucketPlace (first + k - t.head.first) region → length frame ≡ 8192 → made < 2
     → HasCleared disk t u first k → EndsFormat disk region frame made u.disk v.disk → IsTrue disk.tells
     → HasSelectorOf region (disk.bytes t.disk) (disk.bytes v.disk) ⊎ (frame_of region 8192 0 (disk.bytes v.disk) ≡ frame)
 stops_whole disk t u v first k region frame made from place len few it ends told = ⊎_elim
@@ -509,10 +509,10 @@ module _ {D : Type 0} (t u : SectionState D) (d : D) (first count : ℕ) (read m
   still : ¬ PutsEntries u.phase
   still way = subst PutsEntries (ap (λ x. x.phase) same ∙ rest) way
 
-  pub synced_reads : (known : Known) → ReadsAt u known mid → ReadsAt (record u { disk = d }) known reads
+  pub synced_reads : (known : KnownBuckets) → ReadsAt u known mid → ReadsAt (record u { disk = d }) known reads
   synced_reads known it = rw bytes_are it
 
-  pub synced_cleared : Only reads after → (known : Known) → images read
+  pub synced_cleared : Only reads after → (known : KnownBuckets) → images read
       → (IsSoundSection t known read images → IsSoundSection u (with_buckets first count None known) mid between)
       → (ReadsAt t known read → ReadsAt u (with_buckets first count (Some []) known) mid)
       → IsSoundSection t known read images → IsSoundSection (record u { disk = d }) (with_buckets first count (Some []) known) reads after
@@ -524,13 +524,13 @@ module _ {D : Type 0} (t u : SectionState D) (d : D) (first count : ℕ) (read m
 
   pub synced_empty : Only reads after → (ReadsAt t nothing_known read → ReadsAt u (with_buckets first count (Some []) nothing_known) mid)
       → t.head.first ≤ first → first + count ≤ t.head.first + t.buckets
-      → (c : List ℕ) (n : ℕ) (region : Region) → after c → IsAmong first count n → IsPlaceOf (n - t.head.first) region
-      → IsFrame n [] (current_frame region 8192 c)
+      → (c : List ℕ) (n : ℕ) (region : Region) → after c → IsAmong first count n → IsBucketPlace (n - t.head.first) region
+      → IsBucketFrame n [] (current_frame region 8192 c)
   synced_empty only cleared from room c n region left within place =
       let head : u.head ≡ t.head = ap (λ x. x.head) same in
       let buckets : u.buckets ≡ t.buckets = ap (λ x. x.buckets) same in
       let in_it : InRange u.head u.buckets n =
       rw (head, buckets) (omega (arith, from, within.0), omega (arith, room, within.1)) in
       let it = cleared (λ k es w is. absurd (let e = is in cc)) n [] in_it (among_here first count (Some []) nothing_known n within) in
-      let at : IsPlaceOf (n - t.head.first) it.0 = subst (λ (h : Head). IsPlaceOf (n - h.first) it.0) head it.1 in
-      rw (only c left, bytes_are) (subst (λ (r : Region). IsFrame n [] (current_frame r 8192 mid)) (one_place (n - t.head.first) it.0 region at place) it.2)
+      let at : IsBucketPlace (n - t.head.first) it.0 = subst (λ (h : Head). IsBucketPlace (n - h.first) it.0) head it.1 in
+      rw (only c left, bytes_are) (subst (λ (r : Region). IsBucketFrame n [] (current_frame r 8192 mid)) (one_place (n - t.head.first) it.0 region at place) it.2)

@@ -10,14 +10,14 @@ use Rattle.vt_base.specs.declared.place.Entry.{Entry}
 use Rattle.vt_model.specs.History.{History}
 use Rattle.vt_model.specs.Places.{Setup}
 use Rattle.vt_twin.specs.declared.step.Step.{Step}
-use Rattle.vt_isect.specs.declared.bad.ShardErr.{ShardErr}
-use Rattle.vt_isect.specs.declared.bad.ShardErr.TheVariants.{Fault}
+use Rattle.vt_isect.specs.declared.error.ShardErr.{ShardErr}
+use Rattle.vt_isect.specs.declared.error.ShardErr.TheVariants.{Fault}
 use Rattle.vt_isect.specs.declared.head.Head.{Head}
 use Rattle.vt_isect.specs.declared.phase.Phase.TheVariants.{ReadFrame}
-use Rattle.vt_isect.specs.Agreement.{IsCovered, NoOthers, KnownAgrees}
-use Rattle.vt_isect.specs.Layout.{InRange, IsPlaceOf}
+use Rattle.vt_isect.specs.Agreement.{IsMarkCovered, NoOthers, KnownAgrees}
+use Rattle.vt_isect.specs.Layout.{InRange, IsBucketPlace}
 use Rattle.vt_isect.specs.Section.{SectionState, IsTodo}
-use Rattle.vt_isect.specs.Sound.{Known, IsSoundSection}
+use Rattle.vt_isect.specs.Sound.{KnownBuckets, IsSoundSection}
 use Rattle.vt_isect.specs.Writeback.{Completes, Follows}
 use Rattle.vt_isect.proofs.Places.{one_place}
 
@@ -25,16 +25,16 @@ use Rattle.vt_isect.proofs.Places.{one_place}
 abbrev pub KeepsAt : {D : Type 0} → Result Step ShardErr → (t u : SectionState D)
     → (read : List ℕ) → (images : List ℕ → Type 0)
     → (reads : List ℕ) → (after : List ℕ → Type 0) → Type 0
-KeepsAt result t u read images reads after = (known : Known) → IsSoundSection t known read images
-    → (knows : Known) × Follows result t u known knows × IsSoundSection u knows reads after
+KeepsAt result t u read images reads after = (known : KnownBuckets) → IsSoundSection t known read images
+    → (knows : KnownBuckets) × Follows result t u known knows × IsSoundSection u knows reads after
     × ((score : List ℕ → List ℕ) (c : Setup) (h : History)
     → KnownAgrees score c h t known → KnownAgrees score c h u knows)
 
 -- a step that completes no bucket
 pub keeps_quiet : {D : Type 0} (result : Result Step ShardErr) (t u : SectionState D) (read reads : List ℕ) (images after : List ℕ → Type 0)
     → ((n : ℕ) → ¬ Completes result t n)
-    → ((known : Known) → IsSoundSection t known read images → IsSoundSection u known reads after)
-    → ((score : List ℕ → List ℕ) (c : Setup) (h : History) (known : Known) → KnownAgrees score c h t known → KnownAgrees score c h u known)
+    → ((known : KnownBuckets) → IsSoundSection t known read images → IsSoundSection u known reads after)
+    → ((score : List ℕ → List ℕ) (c : Setup) (h : History) (known : KnownBuckets) → KnownAgrees score c h t known → KnownAgrees score c h u known)
     → KeepsAt result t u read images reads after
 keeps_quiet result t u read reads images after none sound agree known is = (
   known,
@@ -44,9 +44,9 @@ keeps_quiet result t u read reads images after none sound agree known is = (
 )
 
 -- a mark is covered by more
-pub covers_more : {D : Type 0} (score : List ℕ → List ℕ) (c : Setup) (h : History) (t u : SectionState D) (known : Known) (others more : Entry → Type 0) (mark : ℕ)
+pub covers_more : {D : Type 0} (score : List ℕ → List ℕ) (c : Setup) (h : History) (t u : SectionState D) (known : KnownBuckets) (others more : Entry → Type 0) (mark : ℕ)
     → u.head ≡ t.head → u.buckets ≡ t.buckets → ((entry : Entry) → others entry → more entry)
-    → IsCovered score c h t known others mark → IsCovered score c h u known more mark
+    → IsMarkCovered score c h t known others mark → IsMarkCovered score c h u known more mark
 covers_more score c h t u known others more mark head buckets grow cover = record {
   fits = cover.fits;
   has = λ n i entries within is below in_it.
@@ -56,7 +56,7 @@ covers_more score c h t u known others more mark head buckets grow cover = recor
 }
 
 -- the same is under way, or nothing any more
-pub agrees_as : {D : Type 0} (score : List ℕ → List ℕ) (c : Setup) (h : History) (t u : SectionState D) (known : Known)
+pub agrees_as : {D : Type 0} (score : List ℕ → List ℕ) (c : Setup) (h : History) (t u : SectionState D) (known : KnownBuckets)
     → u.head ≡ t.head → u.buckets ≡ t.buckets → ((u.next ≡ t.next) × ((entry : Entry) → IsTodo t entry → IsTodo u entry)) ⊎ (u.next ≡ t.head)
     → ((entry : Entry) → IsTodo u entry → IsTodo t entry)
     → KnownAgrees score c h t known → KnownAgrees score c h u known
@@ -74,12 +74,12 @@ agrees_as score c h t u known head buckets next back agrees = record {
   whole = λ n within. agrees.whole n (here n within);
   blocks = λ n entries entry within is has. agrees.blocks n entries entry (here n within) is has;
   todo = λ entry way. agrees.todo entry (back entry way);
-  filed = λ live. subst (λ (m : ℕ). IsCovered score c h u known NoOthers m) (sym (ap (λ (x : Head). x.mark) head))
+  filed = λ live. subst (λ (m : ℕ). IsMarkCovered score c h u known NoOthers m) (sym (ap (λ (x : Head). x.mark) head))
       (filed (sym (ap (λ (x : Head). x.state) head) ∙ live));
   coming = λ live. ⊎_elim
-      (λ e. subst (λ (m : ℕ). IsCovered score c h u known (IsTodo u) m) (sym (ap (λ (x : Head). x.mark) e.0))
+      (λ e. subst (λ (m : ℕ). IsMarkCovered score c h u known (IsTodo u) m) (sym (ap (λ (x : Head). x.mark) e.0))
       (covers_more score c h t u known (IsTodo t) (IsTodo u) t.next.mark head buckets e.1 (agrees.coming (sym (ap (λ (x : Head). x.state) e.0) ∙ live))))
-      (λ (e : u.next ≡ t.head). subst (λ (m : ℕ). IsCovered score c h u known (IsTodo u) m) (sym (ap (λ (x : Head). x.mark) e))
+      (λ (e : u.next ≡ t.head). subst (λ (m : ℕ). IsMarkCovered score c h u known (IsTodo u) m) (sym (ap (λ (x : Head). x.mark) e))
       (covers_more score c h u u known NoOthers (IsTodo u) t.head.mark refl refl (λ entry none. absurd none) (filed (sym (ap (λ (x : Head). x.state) e) ∙ live))))
       next;
 }
@@ -87,7 +87,7 @@ agrees_as score c h t u known head buckets next back agrees = record {
     here : (n : ℕ) → InRange u.head u.buckets n → InRange t.head t.buckets n
     here n within = subst (λ (x : Head). InRange x t.buckets n) head (subst (λ (b : ℕ). InRange u.head b n) buckets within)
 
-    filed : t.head.state ≡ 1 → IsCovered score c h u known NoOthers t.head.mark
+    filed : t.head.state ≡ 1 → IsMarkCovered score c h u known NoOthers t.head.mark
     filed live = covers_more score c h t u known NoOthers NoOthers t.head.mark head buckets (λ e no. no) (agrees.filed live)
 
 pub same_selector : (a b : ℕ) → ReadFrame a ≡ ReadFrame b → a ≡ b
@@ -99,7 +99,7 @@ first_byte buf file start is =
     ap (λ (l : List ℕ). get_or l 0 0) is ∙ get_or-take 1 (drop start file) 0 0 (lit< tt) ∙ get_or-drop start file 0 0 ∙ ap (λ (k : ℕ). get_or file k 0) (let e : start + 0 ≡ start = omega arith in e)
 
 -- the number that was read is still the one that the selector names
-pub selector_read : (number k j : ℕ) (file : List ℕ) (place region : Region) → IsPlaceOf j place → IsPlaceOf j region → number < 2
+pub selector_read : (number k j : ℕ) (file : List ℕ) (place region : Region) → IsBucketPlace j place → IsBucketPlace j region → number < 2
     → number ≡ named_number place 8192 file → ReadFrame number ≡ ReadFrame k → named_number region 8192 file ≡ k % 2
 selector_read number k j file place region here there low named phases =
     let same = same_selector number k phases in

@@ -7,13 +7,13 @@ use Rattle.vt_disk.specs.DeviceCalls.{CallMade, TouchedBy}
 use Rattle.vt_disk.specs.Members.{DiskOf}
 use Rattle.vt_disk.proofs.Calls.{writes_wider}
 use Rattle.vt_twin.specs.declared.step.Step.TheVariants.{More}
-use Rattle.vt_isect.specs.declared.bad.ShardErr.TheVariants.{Fault}
+use Rattle.vt_isect.specs.declared.error.ShardErr.TheVariants.{Fault}
 use Rattle.vt_isect.specs.declared.groups.Member.{Member}
 use Rattle.vt_isect.specs.declared.phase.Phase.{Phase}
 use Rattle.vt_isect.specs.declared.phase.Phase.TheVariants.{Rest, ReadSelector, ReadFrame, WriteFrame, SyncFrames, WriteSelector, SyncSelectors, ChangeHead}
-use Rattle.vt_isect.specs.Section.{SectionState, ChangesGroup, HasGroup, IsGroup, IsWell, PutsEntries, count_of}
-use Rattle.vt_isect.specs.Sound.{Known, IsSoundSection, made_of}
-use Rattle.vt_isect.specs.Writeback.{ComesNext, IsRead, Joins, MakesNext, MayWrite, NextPhase, SameGroup, TakesStep, next_call, selector_write}
+use Rattle.vt_isect.specs.Section.{SectionState, ChangesGroup, HasGroup, IsGroup, IsWell, PutsEntries, call_count}
+use Rattle.vt_isect.specs.Sound.{KnownBuckets, IsSoundSection, made_of}
+use Rattle.vt_isect.specs.Writeback.{ComesNext, NextCallReads, JoinsGroup, MakesNext, MayWrite, NextPhase, SameGroup, SectionTakesStep, next_section_call, selector_write}
 use Rattle.vt_isect.proofs.Follows.{KeepsAt, agrees_as, keeps_quiet}
 use Rattle.vt_isect.proofs.IsRead.{changes_phase, whole_puts, read_puts}
 use Rattle.vt_isect.proofs.IsSoundSection.{KeepsGroup, SameSection, todo_before, todo_then}
@@ -25,8 +25,8 @@ use Rattle.vt_isect.proofs.Writes.{may_write, member_at, next_writes, syncs_next
 pub changes_puts : (p : Phase) → ChangesGroup p → PutsEntries p
 changes_puts = changes_phase PutsEntries (λ s. tt) tt (λ j. tt) tt
 
-no_read : (p : Phase) → ChangesGroup p → ¬ IsRead p
-no_read = changes_phase (λ p. ¬ IsRead p) (λ s read. read) (λ read. read) (λ j read. read) (λ read. read)
+no_read : (p : Phase) → ChangesGroup p → ¬ NextCallReads p
+no_read = changes_phase (λ p. ¬ NextCallReads p) (λ s read. read) (λ read. read) (λ j read. read) (λ read. read)
 
 module _ {D : Type 0} (disk : DiskOf D) (t : SectionState D) (buffer : Option (List ℕ)) (capacity : ℕ) (frames : List (Option ℕ))
     (well : IsWell disk (disk.size t.disk) t buffer capacity frames) (changes : ChangesGroup t.phase) (goes : t.stopped ≡ None)
@@ -42,7 +42,7 @@ module _ {D : Type 0} (disk : DiskOf D) (t : SectionState D) (buffer : Option (L
   group : IsGroup t
   group = well.group puts
 
-  may : (e : D) → WritesAt disk (TouchedBy (next_call t.phase t)) 1 t.disk e → WritesAt disk (MayWrite t.phase t) 1 t.disk e
+  may : (e : D) → WritesAt disk (TouchedBy (next_section_call t.phase t)) 1 t.disk e → WritesAt disk (MayWrite t.phase t) 1 t.disk e
   may e = writes_wider disk _ _ (may_write t (disk.size t.disk) well.room group well.frame_len t.phase changes refl) 1 1 (omega arith) t.disk e
 
   -- ---- it fails
@@ -56,8 +56,8 @@ module _ {D : Type 0} (disk : DiskOf D) (t : SectionState D) (buffer : Option (L
   }
 
   abbrev Stops : Phase → Type 0
-  Stops p = t.phase ≡ p → WritesAt disk (TouchedBy (next_call p t)) 1 t.disk d
-      → (known : Known) → IsSoundSection t known (disk.bytes t.disk) (disk.images t.disk) → IsSoundSection m known (disk.bytes d) (disk.images d)
+  Stops p = t.phase ≡ p → WritesAt disk (TouchedBy (next_section_call p t)) 1 t.disk d
+      → (known : KnownBuckets) → IsSoundSection t known (disk.bytes t.disk) (disk.images t.disk) → IsSoundSection m known (disk.bytes d) (disk.images d)
 
   stops_sound : IsTrue disk.tells → IsSome stopped → (p : Phase) → ChangesGroup p → Stops p
   stops_sound told some = changes_phase Stops
@@ -71,7 +71,7 @@ module _ {D : Type 0} (disk : DiskOf D) (t : SectionState D) (buffer : Option (L
       j at.0 is at.1 (wrote.bytes told) wrote.images (λ i within other. refl) refl some)
       (λ is writes known sound. sync_stops t m stays group (disk.size t.disk) well.room (disk.bytes t.disk) (disk.bytes d) (disk.images t.disk) (disk.images d) known (subst HasGroup (sym is) tt) sound (writes.bytes told) writes.images refl)
 
-  group_stops : {T E : Type 0} (failed : E) → CallMade {T = T} disk (next_call t.phase t) (Err failed) (count_of t) (count_of m) t.disk d → TakesStep disk (Err Fault) t m
+  group_stops : {T E : Type 0} (failed : E) → CallMade {T = T} disk (next_section_call t.phase t) (Err failed) (call_count t) (call_count m) t.disk d → SectionTakesStep disk (Err Fault) t m
   group_stops failed makes =
       let is : stopped ≡ Some t.calls = ap (λ c. c.stopped) makes.counts in
       record {
@@ -98,7 +98,7 @@ module _ {D : Type 0} (disk : DiskOf D) (t : SectionState D) (buffer : Option (L
     same_group_of : SameGroup m u → SameGroup t u
     same_group_of it = record { written = it.written; framed = it.framed; begun = it.begun; bucket = it.bucket; group = it.group }
 
-    joins_of : (s : ℕ) → Joins s m u → Joins s t u
+    joins_of : (s : ℕ) → JoinsGroup s m u → JoinsGroup s t u
     joins_of s it = record { group = it.group; written = it.written }
 
     next_phase : (p : Phase) → NextPhase p m u → NextPhase p t u
@@ -136,14 +136,14 @@ module _ {D : Type 0} (disk : DiskOf D) (t : SectionState D) (buffer : Option (L
 
     -- no bucket is completed, and the same is to be put into them
     quiet : (¬ (t.phase ≡ SyncSelectors)) → SameSection t u
-        → ((known : Known) → IsSoundSection t known (disk.bytes t.disk) (disk.images t.disk) → IsSoundSection u known (disk.bytes u.disk) (disk.images u.disk))
+        → ((known : KnownBuckets) → IsSoundSection t known (disk.bytes t.disk) (disk.images t.disk) → IsSoundSection u known (disk.bytes u.disk) (disk.images u.disk))
         → KeepsAt (Ok More) t u (disk.bytes t.disk) (disk.images t.disk) (disk.bytes u.disk) (disk.images u.disk)
     quiet other section sound = keeps_quiet (Ok More) t u _ _ _ _ (λ n done. other done.1) sound
         (λ score c h known agrees. agrees_as score c h t u known section.head section.buckets (inl (next.next_is, todo_then t u section)) (todo_before t u section) agrees)
 
     module _ {T : Type 0} (E : Type 0) (value : T) where
       abbrev MadeNext : Phase → Type 0
-      MadeNext p = CallMade {E = E} disk (next_call p t) (Ok value) (count_of t) (count_of m) t.disk u.disk
+      MadeNext p = CallMade {E = E} disk (next_section_call p t) (Ok value) (call_count t) (call_count m) t.disk u.disk
 
       abbrev Goes : Phase → Type 0
       Goes p = t.phase ≡ p → NextPhase p t u → MadeNext p → KeepsAt (Ok More) t u (disk.bytes t.disk) (disk.images t.disk) (disk.bytes u.disk) (disk.images u.disk)
@@ -160,7 +160,7 @@ module _ {D : Type 0} (disk : DiskOf D) (t : SectionState D) (buffer : Option (L
           (makes.writes.bytes told) makes.writes.images is to.0 (fits told) (makes.written told) (makes.settled refl told)))
           (λ j is to makes.
           let at = member_at t (disk.size t.disk) well.room group j is in
-          let made = subst (λ (o : Option Member). CallMade {T = T} {E = E} disk (selector_write t o) (Ok value) (count_of t) (count_of m) t.disk u.disk) at.1 makes in
+          let made = subst (λ (o : Option Member). CallMade {T = T} {E = E} disk (selector_write t o) (Ok value) (call_count t) (call_count m) t.disk u.disk) at.1 makes in
           let behind : IsBehind j (length t.group) u.phase = subst (λ (l : List Member). IsBehind j (length l) u.phase) to.0.group to.1 in
           let whole = behind_whole j (length t.group) u.phase behind in
           quiet (λ e. cc) (keeps_of to.0 whole).section
@@ -174,9 +174,9 @@ module _ {D : Type 0} (disk : DiskOf D) (t : SectionState D) (buffer : Option (L
           keeps_settled disk t u d calls stopped (disk.bytes t.disk) (disk.bytes u.disk) (disk.images t.disk) (disk.images u.disk) is goes group same
           (λ c left. subst (disk.images t.disk) (sym (settled c left)) (is_image told)) settled well.name_len next (λ k e. next.named k told e))
 
-      group_goes : CallMade {E = E} disk (next_call t.phase t) (Ok value) (count_of t) (count_of m) t.disk d → TakesStep disk (Ok More) t u
+      group_goes : CallMade {E = E} disk (next_section_call t.phase t) (Ok value) (call_count t) (call_count m) t.disk d → SectionTakesStep disk (Ok More) t u
       group_goes made =
-          let makes = subst (λ (e : D). CallMade {E = E} disk (next_call t.phase t) (Ok value) (count_of t) (count_of m) t.disk e) (sym next.disk_is) made in
+          let makes = subst (λ (e : D). CallMade {E = E} disk (next_section_call t.phase t) (Ok value) (call_count t) (call_count m) t.disk e) (sym next.disk_is) made in
           let to = next_phase t.phase next.phase in
           record {
             sound = λ told. goes_sound told t.phase changes refl to makes;
@@ -196,11 +196,11 @@ module _ {D : Type 0} (disk : DiskOf D) (t : SectionState D) (buffer : Option (L
     (well : IsWell disk (disk.size t.disk) t buffer capacity frames) (changes : ChangesGroup t.phase) (goes : t.stopped ≡ None)
     (is_image : IsTrue disk.tells → disk.images t.disk (disk.bytes t.disk)) (fits : IsTrue disk.tells → length (disk.bytes t.disk) ≡ disk.size t.disk)
     {E : Type 0} (v : SectionState D) where
-  pub step_stops : (failed : E) → MakesNext disk (Err failed) t v → TakesStep disk (Err Fault) t v
-  step_stops failed made = subst (TakesStep disk (Err Fault) t) (sym made.same)
+  pub step_stops : (failed : E) → MakesNext disk (Err failed) t v → SectionTakesStep disk (Err Fault) t v
+  step_stops failed made = subst (SectionTakesStep disk (Err Fault) t) (sym made.same)
       (group_stops disk t buffer capacity frames well changes goes is_image fits v.disk v.calls v.stopped failed made.makes)
 
-  pub step_goes : (value : Unit) → MakesNext {E = E} disk (Ok value) t v → (u : SectionState D) → ComesNext disk v u → TakesStep disk (Ok More) t u
+  pub step_goes : (value : Unit) → MakesNext {E = E} disk (Ok value) t v → (u : SectionState D) → ComesNext disk v u → SectionTakesStep disk (Ok More) t u
   step_goes value made u next =
       group_goes disk t buffer capacity frames well changes goes is_image fits v.disk v.calls v.stopped u
       (subst (λ (x : SectionState D). ComesNext disk x u) made.same next) E value made.makes

@@ -4,11 +4,11 @@ use Rattle.std.specs.Prelude.{codes, slice_index}
 use Rattle.std.proofs.lemmas.List.{take_at}
 use Rattle.byteorder.specs.Endian.{big_number, big_bytes}
 use Rattle.vt_base.specs.Bytes.{AreBytes}
-use Rattle.vt_fields.specs.Fields.{drop-field, drop-byte, drop-number}
+use Rattle.vt_base.specs.Fields.{drop-field, drop-byte, drop-number}
 use Rattle.vt_isect.specs.declared.head.Head.{Head}
-use Rattle.vt_isect.specs.Head.{spelled, encoded, IsHead, IsHeadFrame}
+use Rattle.vt_isect.specs.Head.{section_head_bytes, encoded, IsHead, IsHeadFrame}
 
-pub length-spelled : (name : List ℕ) (head : Head) → length name ≡ 64 → length (spelled name head) ≡ 91
+pub length-spelled : (name : List ℕ) (head : Head) → length name ≡ 64 → length (section_head_bytes name head) ≡ 91
 length-spelled name head len =
     omega (
       arith,
@@ -28,7 +28,7 @@ pub head_spells : (frame name : List ℕ) (head : Head) → length frame ≡ 819
     → take 64 (drop 7 frame) ≡ name → length name ≡ 64
     → big_number 4 (drop 71 frame) ≡ head.first → big_number 4 (drop 75 frame) ≡ head.count
     → big_number 4 (drop 79 frame) ≡ head.total → big_number 8 (drop 83 frame) ≡ head.mark
-    → take 91 frame ≡ spelled name head
+    → take 91 frame ≡ section_head_bytes name head
 head_spells frame name head whole are magic version state named len first count total mark =
     let from_83 : drop 83 frame ≡ big_bytes 8 head.mark ++ drop 91 frame =
     drop-number 83 8 frame (omega arith) are ∙ ap (λ (k : ℕ). big_bytes 8 k ++ drop 91 frame) mark in
@@ -47,12 +47,12 @@ head_spells frame name head whole are magic version state named len first count 
     let numbers : List ℕ = big_bytes 4 head.first ++ (big_bytes 4 head.count ++ (big_bytes 4 head.total ++ big_bytes 8 head.mark)) in
     let joined : name ++ (big_bytes 4 head.first ++ (big_bytes 4 head.count ++ (big_bytes 4 head.total ++ (big_bytes 8 head.mark ++ drop 91 frame)))) ≡ (name ++ numbers) ++ drop 91 frame =
     sym (append_assoc name numbers (drop 91 frame)) in
-    let all : frame ≡ spelled name head ++ drop 91 frame =
+    let all : frame ≡ section_head_bytes name head ++ drop 91 frame =
     sym (take-append-drop 4 frame)
     ∙ (λ i. magic i ++ from_4 i)
     ∙ ap (λ (l : List ℕ). codes "VSEC" ++ (big_bytes 2 1 ++ l)) from_6
     ∙ ap (λ (l : List ℕ). codes "VSEC" ++ (big_bytes 2 1 ++ (head.state ∷ l))) joined in
-    ap (λ (l : List ℕ). take 91 l) all ∙ take_at (spelled name head) (drop 91 frame) 91 (length-spelled name head len)
+    ap (λ (l : List ℕ). take 91 l) all ∙ take_at (section_head_bytes name head) (drop 91 frame) 91 (length-spelled name head len)
 
 -- the frame that is written has its head
 pub frame_has : (name : List ℕ) (head : Head) → IsHead head → length name ≡ 64
@@ -60,5 +60,5 @@ pub frame_has : (name : List ℕ) (head : Head) → IsHead head → length name 
 frame_has name head fits len = record {
   fits = fits;
   name_len = len;
-  spelling = take_at (spelled name head) (replicate (8192 - length (spelled name head)) 0) 91 (length-spelled name head len);
+  spelling = take_at (section_head_bytes name head) (replicate (8192 - length (section_head_bytes name head)) 0) 91 (length-spelled name head len);
 }

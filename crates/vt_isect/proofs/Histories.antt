@@ -8,9 +8,9 @@ use Rattle.vt_model.specs.Legal.{HasOtherKey}
 use Rattle.vt_model.specs.Places.{Setup, Spot, StandsAt}
 use Rattle.vt_model.proofs.Spots.{slice_get-append, place_of-append}
 use Rattle.vt_isect.specs.declared.head.Head.{Head}
-use Rattle.vt_isect.specs.Agreement.{IsEntryOf, IsOfBlock, HasBlock, IsInBucket, AgreesWith, IsCovered, NoOthers, KnownAgrees}
+use Rattle.vt_isect.specs.Agreement.{IsEntryOf, IsEntryOfBlock, HasBlock, IsInBucket, AgreesWith, IsMarkCovered, NoOthers, KnownAgrees}
 use Rattle.vt_isect.specs.Section.{SectionState, IsTodo}
-use Rattle.vt_isect.specs.Sound.{Known}
+use Rattle.vt_isect.specs.Sound.{KnownBuckets}
 
 module _ (score : List ℕ → List ℕ) (c : Setup) (h more : History) where
   -- a block of the front stands where it stood
@@ -56,8 +56,8 @@ module _ (score : List ℕ → List ℕ) (c : Setup) (h more : History) where
     offset_is = is.offset_is;
   }
 
-  pub of_block_longer : (entry : Entry) → IsOfBlock score c h entry
-      → IsOfBlock score c (h ++ more) entry
+  pub of_block_longer : (entry : Entry) → IsEntryOfBlock score c h entry
+      → IsEntryOfBlock score c (h ++ more) entry
   of_block_longer entry is = (is.0, entry_longer is.0 entry is.1)
 
   has_longer : (entries : Entry → Type 0) (i : ℕ) → HasBlock score c h entries i
@@ -73,9 +73,9 @@ module _ (score : List ℕ → List ℕ) (c : Setup) (h more : History) where
     bucket_is = in_it.bucket_is;
   }
 
-  pub covered_longer : {D : Type 0} (t : SectionState D) (known : Known) (others : Entry → Type 0)
-      (mark : ℕ) → IsCovered score c h t known others mark
-      → IsCovered score c (h ++ more) t known others mark
+  pub covered_longer : {D : Type 0} (t : SectionState D) (known : KnownBuckets) (others : Entry → Type 0)
+      (mark : ℕ) → IsMarkCovered score c h t known others mark
+      → IsMarkCovered score c (h ++ more) t known others mark
   covered_longer t known others mark cover = record {
     fits = omega (arith, cover.fits, length-append h more);
     has = λ n i entries within is below in_it.
@@ -83,7 +83,7 @@ module _ (score : List ℕ → List ℕ) (c : Setup) (h more : History) where
         has_longer _ i (cover.has n i entries within is below (bucket_before n i lt in_it));
   }
 
-  pub known_longer : {D : Type 0} (t : SectionState D) (known : Known)
+  pub known_longer : {D : Type 0} (t : SectionState D) (known : KnownBuckets)
       → AllPairs (HasOtherKey score) (h ++ more) → KnownAgrees score c h t known
       → KnownAgrees score c (h ++ more) t known
   known_longer t known keys agrees = record {

@@ -10,17 +10,17 @@ use Rattle.vt_model.specs.Places.{Setup}
 use Rattle.vt_twin.specs.Twin.{with_change}
 use Rattle.vt_twin.specs.declared.step.Step.{Step}
 use Rattle.vt_twin.specs.declared.step.Step.TheVariants.{More, Done}
-use Rattle.vt_isect.specs.declared.bad.ShardErr.{ShardErr}
+use Rattle.vt_isect.specs.declared.error.ShardErr.{ShardErr}
 use Rattle.vt_isect.specs.declared.head.Head.{Head}
 use Rattle.vt_isect.specs.declared.phase.Phase.{Phase}
 use Rattle.vt_isect.specs.declared.phase.Phase.TheVariants.{Rest, ReadSelector, ReadFrame, WriteFrame, SyncFrames, WriteSelector, SyncSelectors, ChangeHead}
-use Rattle.vt_isect.specs.Agreement.{IsEntryOf, HasBlock, IsInBucket, IsCovered, NoOthers, KnownAgrees}
-use Rattle.vt_isect.specs.Entries.{EntriesState, items_of}
+use Rattle.vt_isect.specs.Agreement.{IsEntryOf, HasBlock, IsInBucket, IsMarkCovered, NoOthers, KnownAgrees}
+use Rattle.vt_isect.specs.Entries.{EntriesState, listed_entries}
 use Rattle.vt_isect.specs.Head.{encoded}
 use Rattle.vt_isect.specs.Layout.{InRange}
 use Rattle.vt_isect.specs.Section.{SectionState, HasGroup, IsChanging, IsGroup, IsOfGroup, IsTodo, PutsEntries, entries_of}
-use Rattle.vt_isect.specs.Sound.{Known}
-use Rattle.vt_isect.specs.Writeback.{Advances, BeginsBehind, BeginsGroup, BeginsHead, Completes, Follows, GoesOn, KeepsCovered, NextPhase}
+use Rattle.vt_isect.specs.Sound.{KnownBuckets}
+use Rattle.vt_isect.specs.Writeback.{SectionAdvances, BeginsBehind, BeginsGroup, BeginsHead, Completes, Follows, SectionGoesOn, KeepsCovered, NextPhase}
 use Rattle.vt_isect.proofs.AgreesWith.{merged_has}
 use Rattle.vt_isect.proofs.AreNext.{group_or_behind, none_behind}
 use Rattle.vt_isect.proofs.BeginsBehind.{Begins, no_entries}
@@ -33,15 +33,15 @@ use Rattle.vt_isect.proofs.WithinCall.{Stands, stands, completes_or}
 -- ---- a step
 
 module _ {D : Type 0} (score : List ℕ → List ℕ) (c : Setup) (h : History) (t u : SectionState D)
-    (known knows : Known) (agrees : KnownAgrees score c h t known)
+    (known knows : KnownBuckets) (agrees : KnownAgrees score c h t known)
     (group : Groups t) where
-  module _ (result : Result Step ShardErr) (steps : Advances result t u)
+  module _ (result : Result Step ShardErr) (steps : SectionAdvances result t u)
       (follows : Follows result t u known knows) where
     -- each of the others is put into the bucket that is completed, or is among more
     covers : (others more : Entry → Type 0) (mark : ℕ)
         → ((n i : ℕ) (entry : Entry) → IsInBucket score c h n i → IsEntryOf score c h i entry
         → others entry → (Completes result t n × IsOfGroup t n entry) ⊎ more entry)
-        → IsCovered score c h t known others mark → IsCovered score c h u knows more mark
+        → IsMarkCovered score c h t known others mark → IsMarkCovered score c h u knows more mark
     covers others more mark split cover = record {
       fits = cover.fits;
       has = λ n i entries within is below at.
@@ -101,11 +101,11 @@ module _ {D : Type 0} (score : List ℕ → List ℕ) (c : Setup) (h : History) 
                 it.1
 
   -- the entries stay
-  listed : GoesOn t u → entries_of u ≡ entries_of t
-  listed goes = ap (λ (o : Option EntriesState). items_of o) goes.section.entries
+  listed : SectionGoesOn t u → entries_of u ≡ entries_of t
+  listed goes = ap (λ (o : Option EntriesState). listed_entries o) goes.section.entries
 
   -- what is still to be put is so after a step, or the step completes its bucket
-  still : GoesOn t u → PutsEntries u.phase → u.written ≡ t.written → (entry : Entry) → IsTodo t entry
+  still : SectionGoesOn t u → PutsEntries u.phase → u.written ≡ t.written → (entry : Entry) → IsTodo t entry
       → IsTodo u entry
   still goes has same entry way = (
     has,
@@ -113,7 +113,7 @@ module _ {D : Type 0} (score : List ℕ → List ℕ) (c : Setup) (h : History) 
         (subst (λ (l : List Entry). Contains (drop t.written l) entry) (sym (listed goes)) way.1),
   )
 
-  behind_todo : IsGroup t → t.framed ≡ t.begun → GoesOn t u → BeginsBehind t.begun u → (entry : Entry)
+  behind_todo : IsGroup t → t.framed ≡ t.begun → SectionGoesOn t u → BeginsBehind t.begun u → (entry : Entry)
       → IsTodo t entry → Contains (drop t.written (take t.framed (entries_of t))) entry ⊎ IsTodo u entry
   behind_todo it whole goes begins entry way = ⊎_elim
       (λ (of : Contains (drop t.written (take t.framed (entries_of t))) entry). inl of)
@@ -131,7 +131,7 @@ module _ {D : Type 0} (score : List ℕ → List ℕ) (c : Setup) (h : History) 
       begins)
       (group_or_behind t.written t.framed (entries_of t) it.order.0 (omega (arith, it.order)) entry way.1)
 
-  split_more : (q : Phase) → t.phase ≡ q → GoesOn t u → NextPhase q t u → (n i : ℕ) (entry : Entry)
+  split_more : (q : Phase) → t.phase ≡ q → SectionGoesOn t u → NextPhase q t u → (n i : ℕ) (entry : Entry)
       → IsInBucket score c h n i → IsEntryOf score c h i entry → IsTodo t entry
       → (Completes (Ok More) t n × IsOfGroup t n entry) ⊎ IsTodo u entry
   split_more Rest is goes next n i entry at of way = absurd next
@@ -157,17 +157,17 @@ module _ {D : Type 0} (score : List ℕ → List ℕ) (c : Setup) (h : History) 
       (behind_todo it (it.whole (subst HasGroup (sym is) tt)).1 goes next entry way)
   split_more ChangeHead is goes next n i entry at of way = absurd (subst PutsEntries is way.0)
 
-  todo_kept : (result : Result Step ShardErr) → Advances result t u
+  todo_kept : (result : Result Step ShardErr) → SectionAdvances result t u
       → Follows result t u known knows → (mark : ℕ)
-      → OnOk result (IsCovered score c h t known (IsTodo t) mark
-      → IsCovered score c h u knows (IsTodo u) mark)
+      → OnOk result (IsMarkCovered score c h t known (IsTodo t) mark
+      → IsMarkCovered score c h u knows (IsTodo u) mark)
   todo_kept (Ok More) steps follows mark = covers (Ok More) steps follows (IsTodo t) (IsTodo u) mark
       (split_more t.phase refl steps.0 steps.2)
   todo_kept (Ok Done) steps follows mark = covers (Ok Done) steps follows (IsTodo t) (IsTodo u) mark
       (λ n i entry at of way. absurd (subst PutsEntries steps.0 way.0))
   todo_kept (Err bad) steps follows mark = tt
 
-  pub covered_kept : (result : Result Step ShardErr) → Advances result t u
+  pub covered_kept : (result : Result Step ShardErr) → SectionAdvances result t u
       → Follows result t u known knows → KeepsCovered score c h result t u known knows
   covered_kept result steps follows mark = (
     λ others cover. covers result steps follows (Contains others) (Contains others) mark
@@ -178,10 +178,10 @@ module _ {D : Type 0} (score : List ℕ → List ℕ) (c : Setup) (h : History) 
 -- ---- entries that begin to be written
 
 pub file_covers : {D : Type 0} (score : List ℕ → List ℕ) (c : Setup) (h : History)
-    (t : SectionState D) (mark : ℕ) (es : EntriesState) (v : SectionState D) (known : Known)
+    (t : SectionState D) (mark : ℕ) (es : EntriesState) (v : SectionState D) (known : KnownBuckets)
     (covered : ℕ) → BeginsBehind 0 v → Begins t mark es v
-    → IsCovered score c h t known (Contains es.items) covered
-    → IsCovered score c h v known (IsTodo v) covered
+    → IsMarkCovered score c h t known (Contains es.items) covered
+    → IsMarkCovered score c h v known (IsTodo v) covered
 file_covers score c h t mark es v known covered begins (inl e) cover =
     let w = record t {
       next = record t.head { mark = mark };
@@ -193,7 +193,7 @@ file_covers score c h t mark es v known covered begins (inl e) cover =
       bucket = v.bucket;
       most = v.most;
     } in
-    subst (λ x. IsCovered score c h x known (IsTodo x) covered) (sym e.1)
+    subst (λ x. IsMarkCovered score c h x known (IsTodo x) covered) (sym e.1)
     (covers_more score c h t w known (Contains es.items) (IsTodo w) covered refl refl
     (λ entry has. (read_puts v.phase e.0, has)) cover)
 file_covers score c h t mark es v known covered begins (inr e) cover =
@@ -206,7 +206,7 @@ file_covers score c h t mark es v known covered begins (inr e) cover =
       most = v.most;
       head_twin = with_change (encoded t.name next) t.head_twin;
     } in
-    subst (λ x. IsCovered score c h x known (IsTodo x) covered) (sym e)
+    subst (λ x. IsMarkCovered score c h x known (IsTodo x) covered) (sym e)
     (covers_more score c h t w known (Contains es.items) (IsTodo w) covered refl refl
     (λ entry has. absurd (no_entries t mark es v begins e entry has)) cover)
 
@@ -214,8 +214,8 @@ file_covers score c h t mark es v known covered begins (inr e) cover =
 
 -- nothing is still to be put
 pub covered_at_rest : {D : Type 0} (score : List ℕ → List ℕ) (c : Setup) (h : History)
-    (t : SectionState D) (known : Known) (mark : ℕ) → t.phase ≡ Rest
-    → IsCovered score c h t known (IsTodo t) mark → IsCovered score c h t known NoOthers mark
+    (t : SectionState D) (known : KnownBuckets) (mark : ℕ) → t.phase ≡ Rest
+    → IsMarkCovered score c h t known (IsTodo t) mark → IsMarkCovered score c h t known NoOthers mark
 covered_at_rest score c h t known mark rest cover =
     covers_more score c h t t known (IsTodo t) NoOthers mark refl refl
     (λ entry way. subst PutsEntries rest way.0) cover

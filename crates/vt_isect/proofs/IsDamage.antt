@@ -4,7 +4,7 @@ use Rattle.std.specs.Prelude.{IsSome, IfErr}
 use Rattle.std.specs.List.{Contains}
 use Rattle.std.proofs.lemmas.Bool.{false≢true}
 use Rattle.vt_base.specs.declared.place.Entry.{Entry}
-use Rattle.vt_bucket.specs.Frame.{IsFrame}
+use Rattle.vt_bucket.specs.Frame.{IsBucketFrame}
 use Rattle.vt_bucket.proofs.Frames.{accepted, one_frame}
 use Rattle.vt_disk.specs.declared.region.Region.{Region}
 use Rattle.vt_model.specs.History.{History}
@@ -12,22 +12,22 @@ use Rattle.vt_model.specs.Places.{Setup, bucket_of, bucket_count, crowd}
 use Rattle.vt_disk.specs.Members.{DiskOf}
 use Rattle.vt_twin.specs.declared.step.Step.{Step}
 use Rattle.vt_twin.specs.Frames.{frame_of}
-use Rattle.vt_isect.specs.declared.bad.ShardErr.{ShardErr}
-use Rattle.vt_isect.specs.declared.bad.ShardErr.TheVariants.{Fault, Damaged, Stopped}
+use Rattle.vt_isect.specs.declared.error.ShardErr.{ShardErr}
+use Rattle.vt_isect.specs.declared.error.ShardErr.TheVariants.{Fault, Damaged, Stopped}
 use Rattle.vt_isect.specs.declared.phase.Phase.TheVariants.{ReadFrame}
-use Rattle.vt_isect.specs.Agreement.{IsOfBlock, KnownAgrees}
-use Rattle.vt_isect.specs.Layout.{IsPlaceOf, InRange}
-use Rattle.vt_isect.specs.Merging.{IsDamage, IsFaulty, IsOverfull, Joined}
+use Rattle.vt_isect.specs.Agreement.{IsEntryOfBlock, KnownAgrees}
+use Rattle.vt_isect.specs.Layout.{IsBucketPlace, InRange}
+use Rattle.vt_isect.specs.Merging.{IsDamage, IsFaultyFrame, IsOverfull, Joined}
 use Rattle.vt_isect.specs.Section.{SectionState, HasBucket, IsGroup, PutsEntries, bucket_number, entering, entries_of}
-use Rattle.vt_isect.specs.Sound.{Known, DiskHolds, IsSoundSection}
-use Rattle.vt_isect.specs.Writeback.{Advances, FindsDamage}
+use Rattle.vt_isect.specs.Sound.{KnownBuckets, DiskHolds, IsSoundSection}
+use Rattle.vt_isect.specs.Writeback.{SectionAdvances, FindsDamage}
 use Rattle.vt_isect.proofs.AreNext.{behind, of_group}
 use Rattle.vt_isect.proofs.Crowd.{blocks_most}
 use Rattle.vt_isect.proofs.Joining.{names_current}
 use Rattle.vt_isect.proofs.Members.{Groups}
 
 module _ {D : Type 0} (score : List ℕ → List ℕ) (c : Setup) (h : History) (t : SectionState D)
-    (known : Known) (agrees : KnownAgrees score c h t known) (s : ℕ) (phase : t.phase ≡ ReadFrame s)
+    (known : KnownBuckets) (agrees : KnownAgrees score c h t known) (s : ℕ) (phase : t.phase ≡ ReadFrame s)
     (group : IsGroup t) where
   has_bucket : HasBucket t.phase
   has_bucket = subst HasBucket (sym phase) tt
@@ -41,18 +41,18 @@ module _ {D : Type 0} (score : List ℕ → List ℕ) (c : Setup) (h : History) 
   -- the frame that the selector names has what is known of the bucket
   frame_known : (entries : List Entry) (read : List ℕ) (images : List ℕ → Type 0)
       → images read → IsSoundSection t known read images → known t.bucket ≡ Some entries
-      → (region : Region) × IsPlaceOf (t.bucket - t.head.first) region
-      × IsFrame t.bucket entries (frame_of region 8192 (s % 2) read)
+      → (region : Region) × IsBucketPlace (t.bucket - t.head.first) region
+      × IsBucketFrame t.bucket entries (frame_of region 8192 (s % 2) read)
   frame_known entries read images is_image sound is =
       let it = sound.bucket t.bucket entries within is in
       let current = (names_current t (s % 2) entries read images group has_bucket is_image (sound.selector s phase) it).1 in
       let at : frame_of it.region it.twin.frame_len it.twin.current read ≡ frame_of it.region 8192 (s % 2) read = λ i. frame_of it.region (it.frame_len i) (current i) read in
-      (it.region, it.place, subst (λ (f : List ℕ). IsFrame t.bucket entries f) (sym (it.sound.kept read is_image) ∙ at) it.spelled)
+      (it.region, it.place, subst (λ (f : List ℕ). IsBucketFrame t.bucket entries f) (sym (it.sound.kept read is_image) ∙ at) it.spelled)
 
   -- what the bucket has and gets are blocks of it
   joined_blocks : (entries : List Entry) → known t.bucket ≡ Some entries → (entry : Entry)
       → Joined entries (Contains (entering t)) entry
-      → IsOfBlock score c h entry × (bucket_of (bucket_count c) entry.key.score.0 ≡ t.bucket)
+      → IsEntryOfBlock score c h entry × (bucket_of (bucket_count c) entry.key.score.0 ≡ t.bucket)
   joined_blocks entries is entry joined = ⊎_elim
       (λ (has : Contains entries entry). agrees.blocks t.bucket entries entry within is has)
       (λ (of : Contains (entering t) entry). (
@@ -62,11 +62,11 @@ module _ {D : Type 0} (score : List ℕ → List ℕ) (c : Setup) (h : History) 
       joined
 
   not_damaged : (frame : List ℕ) (bad : ShardErr) (entries : List Entry)
-      → known t.bucket ≡ Some entries → IsFrame t.bucket entries frame
+      → known t.bucket ≡ Some entries → IsBucketFrame t.bucket entries frame
       → crowd score (bucket_count c) h t.bucket ≤ 263
       → ¬ IsDamage t.bucket (entering t) frame bad
   not_damaged frame bad entries is spelled room damage = ⊎_elim
-      (λ (faulty : IsFaulty t.bucket frame bad).
+      (λ (faulty : IsFaultyFrame t.bucket frame bad).
       accepted faulty.0 t.bucket entries frame spelled faulty.1)
       (λ (full : IsOverfull t.bucket (entering t) frame bad).
       let same : full.0 ≡ entries =
@@ -82,7 +82,7 @@ module _ {D : Type 0} (score : List ℕ → List ℕ) (c : Setup) (h : History) 
       → IsSoundSection t known read images
       → ((n : ℕ) → crowd score (bucket_count c) h n ≤ 263) → (bad : ShardErr)
       → (frame : List ℕ) × IsDamage t.bucket (entering t) frame bad
-      × ((region : Region) → IsPlaceOf (t.bucket - t.head.first) region
+      × ((region : Region) → IsBucketPlace (t.bucket - t.head.first) region
       → frame ≡ frame_of region 8192 (s % 2) read)
       → ⊥
   no_damage read images is_image sound room bad it = by (known t.bucket) refl (agrees.whole t.bucket within)
@@ -92,12 +92,12 @@ module _ {D : Type 0} (score : List ℕ → List ℕ) (c : Setup) (h : History) 
       by (Some entries) is some =
           let at = frame_known entries read images is_image sound is in
           not_damaged it.0 bad entries is
-          (subst (λ (f : List ℕ). IsFrame t.bucket entries f) (sym (it.2 at.0 at.1)) at.2)
+          (subst (λ (f : List ℕ). IsBucketFrame t.bucket entries f) (sym (it.2 at.0 at.1)) at.2)
           (room t.bucket) it.1
 
 -- so a step that ends without a success ends by a fault
-pub undamaged_by : {D : Type 0} (disk : DiskOf D) (score : List ℕ → List ℕ) (c : Setup) (h : History) (t u : SectionState D) (known : Known) → KnownAgrees score c h t known → Groups t
-    → IsTrue disk.tells → disk.images t.disk (disk.bytes t.disk) → DiskHolds disk t known → ((n : ℕ) → crowd score (bucket_count c) h n ≤ 263) → (result : Result Step ShardErr) → Advances result t u
+pub undamaged_by : {D : Type 0} (disk : DiskOf D) (score : List ℕ → List ℕ) (c : Setup) (h : History) (t u : SectionState D) (known : KnownBuckets) → KnownAgrees score c h t known → Groups t
+    → IsTrue disk.tells → disk.images t.disk (disk.bytes t.disk) → DiskHolds disk t known → ((n : ℕ) → crowd score (bucket_count c) h n ≤ 263) → (result : Result Step ShardErr) → SectionAdvances result t u
     → ((s : ℕ) → IfErr result (λ bad. bad ≢ Fault → t.phase ≡ ReadFrame s → FindsDamage disk s t bad)) → IfErr result (λ bad. (bad ≡ Fault) ⊎ ((n : ℕ) × (bad ≡ Stopped n)))
 undamaged_by disk score c h t u known agrees group told is_image sound room (Ok step) steps damaged = tt
 undamaged_by disk score c h t u known agrees group told is_image sound room (Err Fault) steps damaged = inl refl

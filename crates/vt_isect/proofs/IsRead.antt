@@ -5,10 +5,10 @@ use Rattle.vt_isect.specs.declared.phase.Phase.TheVariants.{Rest, ReadSelector, 
 use Rattle.vt_isect.specs.Remembered.{first_read}
 use Rattle.vt_isect.specs.Section.{ChangesGroup, HasBucket, HasGroup, PutsEntries}
 use Rattle.vt_isect.specs.Sound.{made_of}
-use Rattle.vt_isect.specs.Writeback.{IsRead}
+use Rattle.vt_isect.specs.Writeback.{NextCallReads}
 
 -- it reads a selector, or a frame
-pub read_phase : (P : Phase → Type 0) → P ReadSelector → ((s : ℕ) → P (ReadFrame s)) → (p : Phase) → IsRead p → P p
+pub read_phase : (P : Phase → Type 0) → P ReadSelector → ((s : ℕ) → P (ReadFrame s)) → (p : Phase) → NextCallReads p → P p
 read_phase P selector frame Rest it = absurd it
 read_phase P selector frame ReadSelector it = selector
 read_phase P selector frame (ReadFrame s) it = frame s
@@ -29,25 +29,25 @@ changes_phase P frame frames selector selectors (WriteSelector j) it = selector 
 changes_phase P frame frames selector selectors SyncSelectors it = selectors
 changes_phase P frame frames selector selectors ChangeHead it = absurd it
 
-pub read_puts : (p : Phase) → IsRead p → PutsEntries p
+pub read_puts : (p : Phase) → NextCallReads p → PutsEntries p
 read_puts = read_phase PutsEntries tt (λ s. tt)
 
-pub read_whole : (p : Phase) → IsRead p → ¬ HasGroup p
+pub read_whole : (p : Phase) → NextCallReads p → ¬ HasGroup p
 read_whole = read_phase (λ p. ¬ HasGroup p) (λ has. has) (λ s has. has)
 
-pub read_runs : (p : Phase) → IsRead p → p ≢ Rest
+pub read_runs : (p : Phase) → NextCallReads p → p ≢ Rest
 read_runs = read_phase (λ p. p ≢ Rest) (λ e. cc) (λ s e. cc)
 
-pub read_apart : (p : Phase) → IsRead p → p ≢ ChangeHead
+pub read_apart : (p : Phase) → NextCallReads p → p ≢ ChangeHead
 read_apart = read_phase (λ p. p ≢ ChangeHead) (λ e. cc) (λ s e. cc)
 
-pub read_frame : (k : ℕ) (p : Phase) → IsRead p → p ≢ WriteFrame k
+pub read_frame : (k : ℕ) (p : Phase) → NextCallReads p → p ≢ WriteFrame k
 read_frame k = read_phase (λ p. p ≢ WriteFrame k) (λ e. cc) (λ s e. cc)
 
-pub read_selector : (k : ℕ) (p : Phase) → IsRead p → p ≢ WriteSelector k
+pub read_selector : (k : ℕ) (p : Phase) → NextCallReads p → p ≢ WriteSelector k
 read_selector k = read_phase (λ p. p ≢ WriteSelector k) (λ e. cc) (λ s e. cc)
 
-pub read_made : (j : ℕ) (p : Phase) → IsRead p → made_of p j ≡ 1
+pub read_made : (j : ℕ) (p : Phase) → NextCallReads p → made_of p j ≡ 1
 read_made j = read_phase (λ p. made_of p j ≡ 1) (λ i. 1) (λ s i. 1)
 
 -- a frame is read first where it is remembered

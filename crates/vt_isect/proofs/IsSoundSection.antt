@@ -7,37 +7,37 @@ use Rattle.vt_disk.specs.declared.region.Region.{Region}
 use Rattle.vt_disk.specs.Disk.{SameBut, AreAmong, ChangesAt}
 use Rattle.vt_disk.specs.Region.{Inside}
 use Rattle.vt_model.specs.Places.{bucket_of}
-use Rattle.vt_twin.specs.Frames.{HasRoom}
+use Rattle.vt_twin.specs.Frames.{FitsTwin}
 use Rattle.vt_twin.specs.Twin.{TwinState, next_frame, with_change}
-use Rattle.vt_twin.specs.Sound.{IsSound}
+use Rattle.vt_twin.specs.Sound.{IsSoundTwin}
 use Rattle.vt_twin.proofs.Sound.{begins_sound, reads_sound, sound_elsewhere}
 use Rattle.vt_isect.specs.declared.groups.Member.{Member}
 use Rattle.vt_isect.specs.declared.head.Head.{Head}
 use Rattle.vt_isect.specs.declared.phase.Phase.TheVariants.{Rest, ReadFrame, WriteFrame, ChangeHead}
-use Rattle.vt_isect.specs.Entries.{EntriesState, items_of}
+use Rattle.vt_isect.specs.Entries.{EntriesState, listed_entries}
 use Rattle.vt_isect.specs.Head.{IsHeadFrame}
-use Rattle.vt_isect.specs.Layout.{head_place, IsPlaceOf, InRange}
+use Rattle.vt_isect.specs.Layout.{head_place, IsBucketPlace, InRange}
 use Rattle.vt_isect.specs.Merging.{Merges}
 use Rattle.vt_isect.specs.Section.{SectionState, HasGroup, IsChanging, IsMember, IsOfGroup, IsTodo, PutsEntries}
-use Rattle.vt_isect.specs.Sound.{Known, HoldsBucket, IsMade, IsSoundSection, StillNames, made_of}
-use Rattle.vt_isect.specs.Writeback.{IsRead}
+use Rattle.vt_isect.specs.Sound.{KnownBuckets, HoldsBucket, IsFrameMade, IsSoundSection, StillNames, made_of}
+use Rattle.vt_isect.specs.Writeback.{NextCallReads}
 use Rattle.vt_isect.proofs.IsRead.{read_apart, read_frame}
 use Rattle.vt_isect.proofs.Places.{head_room, place_room}
 
 -- how the soundness of twins passes from one moment to another, in a region
 abbrev pub Passes : Region → (read reads : List ℕ) → (images after : List ℕ → Type 0) → Type 0
 Passes region read reads images after = (t : TwinState) (old : List ℕ) → t.frame_len ≡ 8192
-    → IsSound t region old read images → IsSound t region old reads after
+    → IsSoundTwin t region old read images → IsSoundTwin t region old reads after
 
 pub reads_pass : (region : Region) (read reads : List ℕ) (images after : List ℕ → Type 0) → reads ≡ read → AreAmong after images → Passes region read reads images after
 reads_pass region read reads images after same among t old len sound = reads_sound t region old read reads images after same among sound
 
 -- what is done elsewhere
-pub others_pass : (region : Region) (P : ℕ → Type 0) (size : ℕ) (read reads : List ℕ) (images after : List ℕ → Type 0) → HasRoom region 8192 size
+pub others_pass : (region : Region) (P : ℕ → Type 0) (size : ℕ) (read reads : List ℕ) (images after : List ℕ → Type 0) → FitsTwin region 8192 size
     → ((i : ℕ) → P i → ¬ Inside region i) → SameBut P read reads → ChangesAt P images after
     → Passes region read reads images after
 others_pass region P size read reads images after room apart same changes t old len sound =
-    sound_elsewhere t region size (subst (λ (n : ℕ). HasRoom region n size) (sym len) room) P apart old read reads images after same changes sound
+    sound_elsewhere t region size (subst (λ (n : ℕ). FitsTwin region n size) (sym len) room) P apart old read reads images after same changes sound
 
 -- the same entries are put into a bucket
 pub same_group : (old new : List Entry) (these those : Entry → Type 0) → ((entry : Entry) → these entry → those entry) → ((entry : Entry) → those entry → these entry)
@@ -61,11 +61,11 @@ pub record SameStanding {D : Type 0} (t u : SectionState D) (n : ℕ) : Type 0 w
   pub goes : u.stopped ≡ None → t.stopped ≡ None
 
 pub holds_as : {D : Type 0} (t u : SectionState D) (n : ℕ) (entries : List Entry) (read reads : List ℕ) (images after : List ℕ → Type 0)
-    → SameStanding t u n → ((region : Region) → IsPlaceOf (n - t.head.first) region → Passes region read reads images after)
+    → SameStanding t u n → ((region : Region) → IsBucketPlace (n - t.head.first) region → Passes region read reads images after)
     → HoldsBucket t n entries read images → HoldsBucket u n entries reads after
 holds_as t u n entries read reads images after stands pass it = record {
   region = it.region;
-  place = subst (λ (k : ℕ). IsPlaceOf (n - k) it.region) (sym stands.first) it.place;
+  place = subst (λ (k : ℕ). IsBucketPlace (n - k) it.region) (sym stands.first) it.place;
   twin = it.twin;
   frame = it.frame;
   frame_len = it.frame_len;
@@ -102,15 +102,15 @@ apart_stands t u n first still stays goes = record {
 pub of_same : {D : Type 0} (t u : SectionState D) → u.head ≡ t.head → u.written ≡ t.written → u.framed ≡ t.framed → u.entries ≡ t.entries
     → (n : ℕ) (entry : Entry) → IsOfGroup t n entry → IsOfGroup u n entry
 of_same t u head written framed entries n entry of = (
-  subst (λ (k : ℕ). Contains (drop k (take u.framed (items_of u.entries))) entry) (sym written)
-      (subst (λ (k : ℕ). Contains (drop t.written (take k (items_of u.entries))) entry) (sym framed)
-      (subst (λ (o : Option EntriesState). Contains (drop t.written (take t.framed (items_of o))) entry) (sym entries) of.0)),
+  subst (λ (k : ℕ). Contains (drop k (take u.framed (listed_entries u.entries))) entry) (sym written)
+      (subst (λ (k : ℕ). Contains (drop t.written (take k (listed_entries u.entries))) entry) (sym framed)
+      (subst (λ (o : Option EntriesState). Contains (drop t.written (take t.framed (listed_entries o))) entry) (sym entries) of.0)),
   ap (λ (h : Head). bucket_of h.total entry.key.score.0) head ∙ of.1,
 )
 
 pub bucket_passes : {D : Type 0} (t u : SectionState D) (n : ℕ) (entries : List Entry) (read reads : List ℕ) (images after : List ℕ → Type 0)
     → ¬ IsChanging t n → ¬ IsChanging u n → u.head.first ≡ t.head.first → (u.stopped ≡ None → t.stopped ≡ None)
-    → ((region : Region) → IsPlaceOf (n - t.head.first) region → Passes region read reads images after)
+    → ((region : Region) → IsBucketPlace (n - t.head.first) region → Passes region read reads images after)
     → HoldsBucket t n entries read images → HoldsBucket u n entries reads after
 bucket_passes t u n entries read reads images after still stays first goes = holds_as t u n entries read reads images after (apart_stands t u n first still stays goes)
 
@@ -130,15 +130,15 @@ module _ {D : Type 0} (t u : SectionState D) (same : SameSection t u) (entry : E
   pub todo_then : IsTodo t entry → IsTodo u entry
   todo_then way = (
     same.puts_on,
-    subst (λ (k : ℕ). Contains (drop k (items_of u.entries)) entry) (sym same.written)
-        (subst (λ (o : Option EntriesState). Contains (drop t.written (items_of o)) entry) (sym same.entries) way.1),
+    subst (λ (k : ℕ). Contains (drop k (listed_entries u.entries)) entry) (sym same.written)
+        (subst (λ (o : Option EntriesState). Contains (drop t.written (listed_entries o)) entry) (sym same.entries) way.1),
   )
 
   pub todo_before : IsTodo u entry → IsTodo t entry
   todo_before way = (
     same.puts,
-    subst (λ (k : ℕ). Contains (drop k (items_of t.entries)) entry) same.written
-        (subst (λ (o : Option EntriesState). Contains (drop u.written (items_of o)) entry) same.entries way.1),
+    subst (λ (k : ℕ). Contains (drop k (listed_entries t.entries)) entry) same.written
+        (subst (λ (o : Option EntriesState). Contains (drop u.written (listed_entries o)) entry) same.entries way.1),
   )
 
 -- with the same group
@@ -175,7 +175,7 @@ module _ {D : Type 0} (t u : SectionState D) (keeps : KeepsGroup t u) where
     goes = λ none. keeps.goes;
   }
 
-module _ {D : Type 0} (t u : SectionState D) (known knows : Known) (read reads : List ℕ) (images after : List ℕ → Type 0)
+module _ {D : Type 0} (t u : SectionState D) (known knows : KnownBuckets) (read reads : List ℕ) (images after : List ℕ → Type 0)
     (name : u.name ≡ t.name) (head : u.head ≡ t.head) (buckets : u.buckets ≡ t.buckets) (twin : u.head_twin ≡ t.head_twin)
     (no_head : t.phase ≢ ChangeHead) (not_head : u.phase ≢ ChangeHead)
     (pass : Passes head_place read reads images after)
@@ -183,12 +183,12 @@ module _ {D : Type 0} (t u : SectionState D) (known knows : Known) (read reads :
     (sound : IsSoundSection t known read images) where
   -- a section of which the head isn't changed
   pub section_as : ((s : ℕ) → u.phase ≡ ReadFrame s → StillNames u (s % 2) reads) → ((s : ℕ) → u.phase ≡ WriteFrame s → StillNames u s reads)
-      → ((s : ℕ) (entries : List Entry) → u.phase ≡ WriteFrame s → knows u.bucket ≡ Some entries → IsMade u entries)
+      → ((s : ℕ) (entries : List Entry) → u.phase ≡ WriteFrame s → knows u.bucket ≡ Some entries → IsFrameMade u entries)
       → IsSoundSection u knows reads after
   section_as selector current made = record {
     head_frame = sound.head_frame;
     head_len = ap (λ (w : TwinState). w.frame_len) twin ∙ sound.head_len;
-    head_twin = subst (λ (w : TwinState). IsSound w head_place sound.head_frame reads after) (sym twin) (pass t.head_twin sound.head_frame sound.head_len sound.head_twin);
+    head_twin = subst (λ (w : TwinState). IsSoundTwin w head_place sound.head_frame reads after) (sym twin) (pass t.head_twin sound.head_frame sound.head_len sound.head_twin);
     head = subst (λ (h : Head). IsHeadFrame u.name h sound.head_frame) (sym head)
         (subst (λ (l : List ℕ). IsHeadFrame l t.head sound.head_frame) (sym name) sound.head);
     head_rest = λ no. ap (λ (w : TwinState). w.change) twin ∙ sound.head_rest no_head;
@@ -201,14 +201,14 @@ module _ {D : Type 0} (t u : SectionState D) (known knows : Known) (read reads :
   }
 
 -- A call touches of the head and of each bucket nothing, or it is one of the bucket's own change.
-module _ {D : Type 0} (t u : SectionState D) (known : Known) (size : ℕ) (P : ℕ → Type 0) (read reads : List ℕ) (images after : List ℕ → Type 0)
+module _ {D : Type 0} (t u : SectionState D) (known : KnownBuckets) (size : ℕ) (P : ℕ → Type 0) (read reads : List ℕ) (images after : List ℕ → Type 0)
     (same_section : SameSection t u) (room : 24576 + 16896 * t.buckets ≤ size) (same : SameBut P read reads) (changes : ChangesAt P images after)
     (head_free : (i : ℕ) → P i → ¬ Inside head_place i) (sound : IsSoundSection t known read images)
     (each : (n : ℕ) (entries : List Entry) → InRange t.head t.buckets n → known n ≡ Some entries
-    → (SameStanding t u n × ((region : Region) → IsPlaceOf (n - t.head.first) region → (i : ℕ) → P i → ¬ Inside region i))
+    → (SameStanding t u n × ((region : Region) → IsBucketPlace (n - t.head.first) region → (i : ℕ) → P i → ¬ Inside region i))
     ⊎ (HoldsBucket t n entries read images → HoldsBucket u n entries reads after)) where
   pub section_goes : ((s : ℕ) → u.phase ≡ ReadFrame s → StillNames u (s % 2) reads) → ((s : ℕ) → u.phase ≡ WriteFrame s → StillNames u s reads)
-      → ((s : ℕ) (entries : List Entry) → u.phase ≡ WriteFrame s → known u.bucket ≡ Some entries → IsMade u entries)
+      → ((s : ℕ) (entries : List Entry) → u.phase ≡ WriteFrame s → known u.bucket ≡ Some entries → IsFrameMade u entries)
       → IsSoundSection u known reads after
   section_goes = section_as t u known known read reads images after same_section.name same_section.head same_section.buckets same_section.twin
       (λ e. subst PutsEntries e same_section.puts) (λ e. subst PutsEntries e same_section.puts_on)
@@ -226,11 +226,11 @@ module _ {D : Type 0} (t u : SectionState D) (known : Known) (size : ℕ) (P : �
   whole_goes whole = section_goes (λ s e. absurd (subst HasGroup e whole)) (λ s e. absurd (subst HasGroup e whole)) (λ s entries e. absurd (subst HasGroup e whole))
 
 -- a step that writes nothing, and brings no change further
-pub quiet_sound : {D : Type 0} (t u : SectionState D) (known : Known) (read reads : List ℕ) (images after : List ℕ → Type 0)
+pub quiet_sound : {D : Type 0} (t u : SectionState D) (known : KnownBuckets) (read reads : List ℕ) (images after : List ℕ → Type 0)
     → u.name ≡ t.name → u.head ≡ t.head → u.buckets ≡ t.buckets → u.head_twin ≡ t.head_twin → t.phase ≢ ChangeHead → u.phase ≢ ChangeHead
     → ((n : ℕ) → SameStanding t u n) → reads ≡ read → AreAmong after images
     → ((s : ℕ) → u.phase ≡ ReadFrame s → StillNames u (s % 2) reads) → ((s : ℕ) → u.phase ≡ WriteFrame s → StillNames u s reads)
-    → ((s : ℕ) (entries : List Entry) → u.phase ≡ WriteFrame s → known u.bucket ≡ Some entries → IsMade u entries)
+    → ((s : ℕ) (entries : List Entry) → u.phase ≡ WriteFrame s → known u.bucket ≡ Some entries → IsFrameMade u entries)
     → IsSoundSection t known read images → IsSoundSection u known reads after
 quiet_sound t u known read reads images after name head buckets twin no_head not_head stands same among selector current made sound =
     section_as t u known known read reads images after name head buckets twin no_head not_head (reads_pass head_place read reads images after same among)
@@ -243,8 +243,8 @@ at_rest : {D : Type 0} (t : SectionState D) → t.phase ≡ Rest → (n : ℕ) �
 at_rest t rest n way = subst PutsEntries rest way.1.0
 
 -- the first bucket of a group is under way
-pub bucket_begins : {D : Type 0} (t u : SectionState D) (known : Known) (read : List ℕ) (images : List ℕ → Type 0)
-    → u.name ≡ t.name → u.head ≡ t.head → u.buckets ≡ t.buckets → u.head_twin ≡ t.head_twin → t.phase ≡ Rest → IsRead u.phase → u.group ≡ []
+pub bucket_begins : {D : Type 0} (t u : SectionState D) (known : KnownBuckets) (read : List ℕ) (images : List ℕ → Type 0)
+    → u.name ≡ t.name → u.head ≡ t.head → u.buckets ≡ t.buckets → u.head_twin ≡ t.head_twin → t.phase ≡ Rest → NextCallReads u.phase → u.group ≡ []
     → (u.stopped ≡ None → t.stopped ≡ None) → ((s : ℕ) → u.phase ≡ ReadFrame s → StillNames u (s % 2) read)
     → IsSoundSection t known read images → IsSoundSection u known read images
 bucket_begins t u known read images name head buckets twin rest reads none goes named sound =
@@ -261,7 +261,7 @@ bucket_begins t u known read images name head buckets twin rest reads none goes 
     no_member m has = omega (arith, has.1)
 
 -- the change to a next head begins
-pub head_begins : {D : Type 0} (t u : SectionState D) (frame : List ℕ) (known : Known) (read : List ℕ) (images : List ℕ → Type 0)
+pub head_begins : {D : Type 0} (t u : SectionState D) (frame : List ℕ) (known : KnownBuckets) (read : List ℕ) (images : List ℕ → Type 0)
     → u.name ≡ t.name → u.head ≡ t.head → u.buckets ≡ t.buckets → u.head_twin ≡ with_change frame t.head_twin → t.phase ≡ Rest → u.phase ≡ ChangeHead
     → IsHeadFrame t.name u.next frame
     → (u.stopped ≡ None → t.stopped ≡ None) → IsSoundSection t known read images → IsSoundSection u known read images
@@ -270,7 +270,7 @@ head_begins t u frame known read images name head buckets twin rest phase spelle
     record {
       head_frame = sound.head_frame;
       head_len = ap (λ (w : TwinState). w.frame_len) twin ∙ sound.head_len;
-      head_twin = subst (λ (w : TwinState). IsSound w head_place sound.head_frame read images) (sym twin)
+      head_twin = subst (λ (w : TwinState). IsSoundTwin w head_place sound.head_frame read images) (sym twin)
           (begins_sound t.head_twin frame head_place sound.head_frame read images none sound.head_twin);
       head = subst (λ (h : Head). IsHeadFrame u.name h sound.head_frame) (sym head)
           (subst (λ (l : List ℕ). IsHeadFrame l t.head sound.head_frame) (sym name) sound.head);
@@ -287,7 +287,7 @@ head_begins t u frame known read images name head buckets twin rest phase spelle
     }
 
 -- the list of the entries is handed back
-pub idle_sound : {D : Type 0} (t : SectionState D) (known : Known) (read : List ℕ) (images : List ℕ → Type 0) → t.phase ≡ Rest
+pub idle_sound : {D : Type 0} (t : SectionState D) (known : KnownBuckets) (read : List ℕ) (images : List ℕ → Type 0) → t.phase ≡ Rest
     → IsSoundSection t known read images → IsSoundSection (record t { entries = None }) known read images
 idle_sound t known read images rest sound =
     let u = record t { entries = None } in

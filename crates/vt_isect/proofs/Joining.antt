@@ -15,10 +15,10 @@ use Rattle.vt_disk.specs.Members.{DiskOf}
 use Rattle.vt_disk.specs.Region.{Inside}
 use Rattle.vt_model.specs.Places.{bucket_of}
 use Rattle.vt_twin.specs.Calls.{call_at}
-use Rattle.vt_twin.specs.Frames.{HasRoom, frame_start, named_number}
-use Rattle.vt_twin.specs.Twin.{TwinState, fresh, with_change, after_call, after_fault}
+use Rattle.vt_twin.specs.Frames.{FitsTwin, frame_start, named_number}
+use Rattle.vt_twin.specs.Twin.{TwinState, fresh, with_change, after_call, twin_after_fault}
 use Rattle.vt_twin.specs.declared.calls.Stage.TheVariants.{WriteFrame as FrameWrite}
-use Rattle.vt_twin.specs.Sound.{IsSound}
+use Rattle.vt_twin.specs.Sound.{IsSoundTwin}
 use Rattle.vt_twin.proofs.Changes.{begun_bound, none_made}
 use Rattle.vt_twin.proofs.Places.{named_same, selector_free}
 use Rattle.vt_twin.proofs.Sound.{rests_fresh, begins_sound}
@@ -27,11 +27,11 @@ use Rattle.vt_isect.specs.declared.groups.Member.{Member}
 use Rattle.vt_isect.specs.declared.head.Head.{Head}
 use Rattle.vt_isect.specs.declared.phase.Phase.{Phase}
 use Rattle.vt_isect.specs.declared.phase.Phase.TheVariants.{ReadFrame, WriteFrame, SyncFrames, WriteSelector, ChangeHead}
-use Rattle.vt_isect.specs.Entries.{EntriesState, IsOrdered, items_of}
-use Rattle.vt_isect.specs.Layout.{place_of, IsPlaceOf, InRange}
+use Rattle.vt_isect.specs.Entries.{EntriesState, IsOrdered, listed_entries}
+use Rattle.vt_isect.specs.Layout.{bucket_place, IsBucketPlace, InRange}
 use Rattle.vt_isect.specs.Section.{SectionState, AreNext, HasBucket, HasGroup, IsChanging, IsGroup, IsOfGroup, IsWell, PutsEntries, bucket_number, entering, entries_of}
-use Rattle.vt_isect.specs.Sound.{Known, HoldsBucket, IsSoundSection, StillNames, made_of}
-use Rattle.vt_isect.specs.Writeback.{BeginsBucket, ComesNext, IsFull, IsRead, NextPhase, next_call}
+use Rattle.vt_isect.specs.Sound.{KnownBuckets, HoldsBucket, IsSoundSection, StillNames, made_of}
+use Rattle.vt_isect.specs.Writeback.{BeginsBucket, ComesNext, IsFull, NextCallReads, NextPhase, next_section_call}
 use Rattle.vt_isect.proofs.AreNext.{behind, group_or_behind, of_group}
 use Rattle.vt_isect.proofs.IsRead.{read_apart, read_frame, read_made, read_puts, read_selector}
 use Rattle.vt_isect.proofs.IsSoundSection.{KeepsGroup, SameSection, SameStanding, group_stands, same_group, section_goes}
@@ -64,7 +64,7 @@ pub record HasJoined {D : Type 0} (s : ℕ) (t u : SectionState D) : Type 0 wher
   pub section : SameSection t u
   pub group : u.group ≡ t.group ++ record { bucket = t.bucket; current = s } ∷ []
   pub framed : u.framed ≡ t.begun
-  pub phase : IsRead u.phase ⊎ (u.phase ≡ SyncFrames)
+  pub phase : NextCallReads u.phase ⊎ (u.phase ≡ SyncFrames)
 
 module _ {D : Type 0} (t u : SectionState D) (s : ℕ) (phase : t.phase ≡ WriteFrame s) (group : IsGroup t) (joined : HasJoined s t u) where
   has : HasBucket t.phase
@@ -79,15 +79,15 @@ module _ {D : Type 0} (t u : SectionState D) (s : ℕ) (phase : t.phase ≡ Writ
 
   to_u : (e : Entry) → Contains (drop t.written (take t.begun (entries_of t))) e → Contains (drop u.written (take u.framed (entries_of u))) e
   to_u e it =
-      subst (λ (k : ℕ). Contains (drop k (take u.framed (items_of u.entries))) e) (sym joined.section.written)
-      (subst (λ (k : ℕ). Contains (drop t.written (take k (items_of u.entries))) e) (sym joined.framed)
-      (subst (λ (o : Option EntriesState). Contains (drop t.written (take t.begun (items_of o))) e) (sym joined.section.entries) it))
+      subst (λ (k : ℕ). Contains (drop k (take u.framed (listed_entries u.entries))) e) (sym joined.section.written)
+      (subst (λ (k : ℕ). Contains (drop t.written (take k (listed_entries u.entries))) e) (sym joined.framed)
+      (subst (λ (o : Option EntriesState). Contains (drop t.written (take t.begun (listed_entries o))) e) (sym joined.section.entries) it))
 
   from_u : (e : Entry) → Contains (drop u.written (take u.framed (entries_of u))) e → Contains (drop t.written (take t.begun (entries_of t))) e
   from_u e it =
-      subst (λ (o : Option EntriesState). Contains (drop t.written (take t.begun (items_of o))) e) joined.section.entries
-      (subst (λ (k : ℕ). Contains (drop t.written (take k (items_of u.entries))) e) joined.framed
-      (subst (λ (k : ℕ). Contains (drop k (take u.framed (items_of u.entries))) e) joined.section.written it))
+      subst (λ (o : Option EntriesState). Contains (drop t.written (take t.begun (listed_entries o))) e) joined.section.entries
+      (subst (λ (k : ℕ). Contains (drop t.written (take k (listed_entries u.entries))) e) joined.framed
+      (subst (λ (k : ℕ). Contains (drop k (take u.framed (listed_entries u.entries))) e) joined.section.written it))
 
   number_is : (e : Entry) → bucket_number u e ≡ bucket_number t e
   number_is e = ap (λ (h : Head). bucket_of h.total e.key.score.0) joined.section.head
@@ -129,15 +129,15 @@ names_current t number entries read images group has is_image names it =
           ∙ names it.region it.place,
     )
 
-module _ {D : Type 0} (t : SectionState D) (s : ℕ) (phase : t.phase ≡ WriteFrame s) (group : IsGroup t) (goes : t.stopped ≡ None) (size : ℕ) (known : Known)
+module _ {D : Type 0} (t : SectionState D) (s : ℕ) (phase : t.phase ≡ WriteFrame s) (group : IsGroup t) (goes : t.stopped ≡ None) (size : ℕ) (known : KnownBuckets)
     (read reads : List ℕ) (images after : List ℕ → Type 0) (room : 24576 + 16896 * t.buckets ≤ size) (frame_len : length t.frame ≡ 8192) (is_image : images read)
-    (same : SameBut (TouchedBy (next_call (WriteFrame s) t)) read reads) (changes : ChangesAt (TouchedBy (next_call (WriteFrame s) t)) images after)
+    (same : SameBut (TouchedBy (next_section_call (WriteFrame s) t)) read reads) (changes : ChangesAt (TouchedBy (next_section_call (WriteFrame s) t)) images after)
     (sound : IsSoundSection t known read images) where
   abbrev P : ℕ → Type 0
-  P = TouchedBy (next_call (WriteFrame s) t)
+  P = TouchedBy (next_section_call (WriteFrame s) t)
 
   abbrev place : Region
-  place = place_of (t.bucket - t.head.first)
+  place = bucket_place (t.bucket - t.head.first)
 
   now_has : HasBucket t.phase
   now_has = subst HasBucket (sym phase) tt
@@ -145,13 +145,13 @@ module _ {D : Type 0} (t : SectionState D) (s : ℕ) (phase : t.phase ≡ WriteF
   in_it : InRange t.head t.buckets t.bucket
   in_it = group.bucket now_has
 
-  its_room : HasRoom place 8192 size
+  its_room : FitsTwin place 8192 size
   its_room = place_room 8192 size t.buckets t.head t.bucket place refl room in_it (is_place (t.bucket - t.head.first))
 
   inside : (i : ℕ) → P i → Inside place i
   inside = frame_inside t size room group s phase frame_len
 
-  selector_stays : (region : Region) → IsPlaceOf (t.bucket - t.head.first) region → named_number region 8192 reads ≡ named_number region 8192 read
+  selector_stays : (region : Region) → IsBucketPlace (t.bucket - t.head.first) region → named_number region 8192 reads ≡ named_number region 8192 read
   selector_stays region here = subst (λ (r : Region). named_number r 8192 reads ≡ named_number r 8192 read) (sym (place_is (t.bucket - t.head.first) region here))
       (named_same P place 8192 (selector_free place 8192 size its_room s (group.current s phase) t.frame frame_len FrameWrite (λ e. cc)) read reads same)
 
@@ -163,24 +163,24 @@ module _ {D : Type 0} (t : SectionState D) (s : ℕ) (phase : t.phase ≡ WriteF
     abbrev changed : TwinState
     changed = with_change t.frame (fresh it.twin.frame_len it.twin.current)
 
-    twin_room : HasRoom it.region it.twin.frame_len size
+    twin_room : FitsTwin it.region it.twin.frame_len size
     twin_room = place_room it.twin.frame_len size t.buckets t.head t.bucket it.region it.frame_len room in_it it.place
 
-    own : call_at 0 it.region it.twin.frame_len it.twin.current t.frame ≡ next_call (WriteFrame s) t
+    own : call_at 0 it.region it.twin.frame_len it.twin.current t.frame ≡ next_section_call (WriteFrame s) t
     own =
         let here = place_is (t.bucket - t.head.first) it.region it.place in
         let current = at_rest.1 in
         λ i. write (frame_start (here i) (it.frame_len i) (1 - current i)) t.frame
 
-    changed_sound : IsSound changed it.region it.frame read images
+    changed_sound : IsSoundTwin changed it.region it.frame read images
     changed_sound = begins_sound (fresh it.twin.frame_len it.twin.current) t.frame it.region it.frame read images refl (rests_fresh it.twin it.region it.frame read images at_rest.0 it.sound)
 
-    stays : IsSound (fresh it.twin.frame_len it.twin.current) it.region it.frame reads after
-    stays = given_up (after_fault changed) it.region it.frame reads after (λ begun. omega (arith, begun))
-        (own_fails changed it.region size twin_room FrameWrite refl (frame_len ∙ sym it.frame_len) (next_call (WriteFrame s) t) own it.frame read reads images after same changes changed_sound)
+    stays : IsSoundTwin (fresh it.twin.frame_len it.twin.current) it.region it.frame reads after
+    stays = given_up (twin_after_fault changed) it.region it.frame reads after (λ begun. omega (arith, begun))
+        (own_fails changed it.region size twin_room FrameWrite refl (frame_len ∙ sym it.frame_len) (next_section_call (WriteFrame s) t) own it.frame read reads images after same changes changed_sound)
 
-    comes : length read ≡ size → reads ≡ bytes_after (next_call (WriteFrame s) t) read → IsSound (after_call changed) it.region it.frame reads after
-    comes fits bytes = own_goes changed it.region size twin_room FrameWrite refl (frame_len ∙ sym it.frame_len) (next_call (WriteFrame s) t) own it.frame read reads images after same changes changed_sound
+    comes : length read ≡ size → reads ≡ bytes_after (next_section_call (WriteFrame s) t) read → IsSoundTwin (after_call changed) it.region it.frame reads after
+    comes fits bytes = own_goes changed it.region size twin_room FrameWrite refl (frame_len ∙ sym it.frame_len) (next_section_call (WriteFrame s) t) own it.frame read reads images after same changes changed_sound
         fits bytes (λ e. absurd (cc))
 
   -- it fails: the section stops, and the bucket's current frame stays
@@ -208,7 +208,7 @@ module _ {D : Type 0} (t : SectionState D) (s : ℕ) (phase : t.phase ≡ WriteF
       sound.made
 
   -- it succeeds: the bucket joins the group
-  module _ (u : SectionState D) (joined : HasJoined s t u) (fits : length read ≡ size) (bytes : reads ≡ bytes_after (next_call (WriteFrame s) t) read)
+  module _ (u : SectionState D) (joined : HasJoined s t u) (fits : length read ≡ size) (bytes : reads ≡ bytes_after (next_section_call (WriteFrame s) t) read)
       (named : (k : ℕ) → u.phase ≡ ReadFrame k → StillNames u (k % 2) reads) where
     joining : (entries : List Entry) → known t.bucket ≡ Some entries → HoldsBucket t t.bucket entries read images → HoldsBucket u t.bucket entries reads after
     joining entries is it =
@@ -216,7 +216,7 @@ module _ {D : Type 0} (t : SectionState D) (s : ℕ) (phase : t.phase ≡ WriteF
         let made = sound.made s entries phase is in
         record {
           region = it.region;
-          place = subst (λ (h : Head). IsPlaceOf (t.bucket - h.first) it.region) (sym joined.section.head) it.place;
+          place = subst (λ (h : Head). IsBucketPlace (t.bucket - h.first) it.region) (sym joined.section.head) it.place;
           twin = after_call (changed entries it);
           frame = it.frame;
           frame_len = it.frame_len;
@@ -273,7 +273,7 @@ module _ {D : Type 0} (t u : SectionState D) (s : ℕ) (phase : t.phase ≡ Writ
       (Contains-push_cases t.group new_member way.0 (subst (λ (l : List Member). Contains l way.0) joined.group way.1.1))
 
   entries_are : entries_of u ≡ entries_of t
-  entries_are = ap (λ (o : Option EntriesState). items_of o) joined.section.entries
+  entries_are = ap (λ (o : Option EntriesState). listed_entries o) joined.section.entries
 
   apart_on : AllPairs (λ a b. a.bucket ≢ b.bucket) (t.group ++ new_member ∷ [])
   apart_on = all_pairs_push (λ a b. a.bucket ≢ b.bucket) t.group new_member group.apart
@@ -333,7 +333,7 @@ module _ {D : Type 0} (t u : SectionState D) (s : ℕ) (phase : t.phase ≡ Writ
 
 -- so the section stays well
 pub well_joined : {D : Type 0} {size capacity more begun bucket : ℕ} {members : List Member} {buffer : Option (List ℕ)} {frames : List (Option ℕ)} {p : Phase}
-    (disk : DiskOf D) (t : SectionState D) (s : ℕ) → t.phase ≡ WriteFrame s → t.stopped ≡ None → members ≡ t.group ++ record { bucket = t.bucket; current = s } ∷ [] → IsRead p ⊎ (p ≡ SyncFrames)
+    (disk : DiskOf D) (t : SectionState D) (s : ℕ) → t.phase ≡ WriteFrame s → t.stopped ≡ None → members ≡ t.group ++ record { bucket = t.bucket; current = s } ∷ [] → NextCallReads p ⊎ (p ≡ SyncFrames)
     → t.begun ≤ begun → begun ≤ length (entries_of t) → GROUP_MAX ≤ more → (HasBucket p → InRange t.head t.buckets bucket)
     → (HasBucket p → (t.begun < begun) × (length members < t.most) × AreNext t.head.total bucket t.begun begun (entries_of t)) → (HasGroup p → begun ≡ t.begun)
     → IsWell disk size t buffer capacity frames
@@ -355,7 +355,7 @@ well_joined {p} disk t s phase goes many is order within memory range next whole
 
 -- and that is what comes next
 pub joins_next : {D : Type 0} {begun bucket : ℕ} {members : List Member} {p : Phase} (disk : DiskOf D) (t : SectionState D) (s : ℕ) → t.phase ≡ WriteFrame s
-    → members ≡ t.group ++ record { bucket = t.bucket; current = s } ∷ [] → IsRead p ⊎ (p ≡ SyncFrames)
+    → members ≡ t.group ++ record { bucket = t.bucket; current = s } ∷ [] → NextCallReads p ⊎ (p ≡ SyncFrames)
     → (let u = record t { phase = p; framed = t.begun; begun = begun; bucket = bucket; group = members } in
     ((length members < t.most) × BeginsBucket t.begun u) ⊎ ((p ≡ SyncFrames) × (u.framed ≡ t.begun) × (begun ≡ t.begun) × IsFull u))
     → ((k : ℕ) → IsTrue disk.tells → p ≡ ReadFrame k → StillNames (record t { bucket = bucket }) (k % 2) (disk.bytes t.disk))

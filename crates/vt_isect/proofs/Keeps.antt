@@ -3,7 +3,7 @@ use Rattle.std.proofs.Common.{◌≡◌, ◌≢◌, ◌⊎◌, inl, inr, ⊎_eli
 use Rattle.std.specs.List.{Contains}
 use Rattle.std.proofs.lemmas.Bool.{cases_eq}
 use Rattle.vt_base.specs.declared.place.Entry.{Entry}
-use Rattle.vt_bucket.specs.Frame.{IsFrame}
+use Rattle.vt_bucket.specs.Frame.{IsBucketFrame}
 use Rattle.vt_bucket.proofs.Frames.{one_frame}
 use Rattle.vt_disk.specs.declared.region.Region.{Region}
 use Rattle.vt_disk.specs.Disk.{AreAmong, Only, SameBut}
@@ -14,18 +14,18 @@ use Rattle.vt_model.specs.Places.{Setup}
 use Rattle.vt_twin.specs.Frames.{frame_of}
 use Rattle.vt_twin.specs.Twin.{TwinState, next_frame, with_change}
 use Rattle.vt_twin.specs.declared.step.Step.TheVariants.{More, Done}
-use Rattle.vt_twin.specs.Sound.{IsSound}
+use Rattle.vt_twin.specs.Sound.{IsSoundTwin}
 use Rattle.vt_isect.specs.declared.head.Head.{Head}
 use Rattle.vt_isect.specs.declared.phase.Phase.{Phase}
 use Rattle.vt_isect.specs.declared.phase.Phase.TheVariants.{Rest, ReadFrame, WriteFrame, SyncSelectors, ChangeHead}
-use Rattle.vt_isect.specs.Agreement.{IsCovered, NoOthers, KnownAgrees}
-use Rattle.vt_isect.specs.Entries.{EntriesState, items_of}
+use Rattle.vt_isect.specs.Agreement.{IsMarkCovered, NoOthers, KnownAgrees}
+use Rattle.vt_isect.specs.Entries.{EntriesState, listed_entries}
 use Rattle.vt_isect.specs.Head.{IsHead, IsHeadFrame, encoded}
-use Rattle.vt_isect.specs.Layout.{head_place, IsPlaceOf, InRange}
+use Rattle.vt_isect.specs.Layout.{head_place, IsBucketPlace, InRange}
 use Rattle.vt_isect.specs.Merging.{IsMerged, Merges}
 use Rattle.vt_isect.specs.Section.{SectionState, HasBucket, HasGroup, IsChanging, IsGroup, IsOfGroup, IsTodo, PutsEntries, bucket_number, entering, entries_of}
-use Rattle.vt_isect.specs.Sound.{Known, IsMade, IsSoundSection, StillNames, nothing_known}
-use Rattle.vt_isect.specs.Writeback.{BeginsBehind, BeginsGroup, BeginsHead, ComesNext, IsRead, NextPhase}
+use Rattle.vt_isect.specs.Sound.{KnownBuckets, IsFrameMade, IsSoundSection, StillNames, nothing_known}
+use Rattle.vt_isect.specs.Writeback.{BeginsBehind, BeginsGroup, BeginsHead, ComesNext, NextCallReads, NextPhase}
 use Rattle.vt_isect.proofs.AreNext.{behind, group_or_behind, none_behind}
 use Rattle.vt_isect.proofs.Follows.{KeepsAt}
 use Rattle.vt_isect.proofs.Heads.{frame_has}
@@ -38,11 +38,11 @@ use Rattle.vt_isect.proofs.Settling.{knows, settled_agrees, settled_follows, set
 -- ---- a bucket is read
 
 -- the frame that was read of the bucket under way is its own, and so the new one has its entries
-pub read_made : {D : Type 0} (t : SectionState D) (s : ℕ) (region : Region) (known : Known) (read frame : List ℕ) (images : List ℕ → Type 0)
-    → t.phase ≡ ReadFrame s → IsGroup t → images read → IsPlaceOf (t.bucket - t.head.first) region
+pub read_made : {D : Type 0} (t : SectionState D) (s : ℕ) (region : Region) (known : KnownBuckets) (read frame : List ℕ) (images : List ℕ → Type 0)
+    → t.phase ≡ ReadFrame s → IsGroup t → images read → IsBucketPlace (t.bucket - t.head.first) region
     → IsMerged t.bucket (entering t) (frame_of region 8192 (s % 2) read) frame
     → IsSoundSection t known read images → (entries : List Entry) → known t.bucket ≡ Some entries
-    → IsMade (record t { frame = frame }) entries
+    → IsFrameMade (record t { frame = frame }) entries
 read_made t s region known read frame images phase group is_image place merged sound entries is =
     let has : HasBucket t.phase = subst HasBucket (sym phase) tt in
     let it = sound.bucket t.bucket entries (group.bucket has) is in
@@ -51,7 +51,7 @@ read_made t s region known read frame images phase group is_image place merged s
     let at : frame_of it.region it.twin.frame_len it.twin.current read ≡ frame_of region 8192 (s % 2) read = λ i. frame_of (here i) (it.frame_len i) (current i) read in
     let kept : frame_of region 8192 (s % 2) read ≡ it.frame = sym at ∙ it.sound.kept read is_image in
     let same : merged.old ≡ entries =
-    (one_frame t.bucket t.bucket merged.old entries it.frame (subst (λ (f : List ℕ). IsFrame t.bucket merged.old f) kept merged.was) it.spelled).1 in (
+    (one_frame t.bucket t.bucket merged.old entries it.frame (subst (λ (f : List ℕ). IsBucketFrame t.bucket merged.old f) kept merged.was) it.spelled).1 in (
       merged.new,
       merged.is,
       subst (λ (l : List Entry). Merges l (Contains (entering t)) merged.new) same merged.merges,
@@ -65,7 +65,7 @@ ended t = record t { next = t.head; phase = Rest; group = [] }
 
 -- what is under way then: the next group, or the head
 abbrev pub GoesTo : {D : Type 0} → (t v : SectionState D) → Type 0
-GoesTo t v = (IsRead v.phase × (v ≡ record (ended t) { next = t.next; phase = v.phase; written = t.begun; framed = t.begun; begun = v.begun; bucket = v.bucket }))
+GoesTo t v = (NextCallReads v.phase × (v ≡ record (ended t) { next = t.next; phase = v.phase; written = t.begun; framed = t.begun; begun = v.begun; bucket = v.bucket }))
     ⊎ (v ≡ record (ended t) { next = t.next; phase = ChangeHead; written = t.begun; head_twin = with_change (encoded t.name t.next) t.head_twin })
 
 pub goes_next : {D : Type 0} (disk : DiskOf D) (t v : SectionState D) → t.phase ≡ SyncSelectors → BeginsBehind t.begun v → GoesTo t v → (v.phase ≡ ChangeHead → IsHead t.next)
@@ -107,7 +107,7 @@ module _ {D : Type 0} (disk : DiskOf D) (t v : SectionState D) (d : D) (calls : 
   framed_is : t.framed ≡ t.begun
   framed_is = (group.whole (subst HasGroup (sym phase) tt)).1
 
-  goes_sound : (knows : Known) → IsSoundSection (ended t) knows reads after → IsSoundSection v knows reads after
+  goes_sound : (knows : KnownBuckets) → IsSoundSection (ended t) knows reads after → IsSoundSection v knows reads after
   goes_sound knows sound = ⊎_elim
       (λ (here : BeginsGroup t.begun v). bucket_begins (ended t) v knows reads after next.section.name next.head_is next.section.buckets (next.group_twin (read_apart v.phase here.0.0))
       refl here.0.0 here.2 (λ none. goes) named sound)
@@ -118,7 +118,7 @@ module _ {D : Type 0} (disk : DiskOf D) (t v : SectionState D) (d : D) (calls : 
       begins
 
   listed : entries_of v ≡ entries_of t
-  listed = ap (λ (o : Option EntriesState). items_of o) next.section.entries
+  listed = ap (λ (o : Option EntriesState). listed_entries o) next.section.entries
 
   written_is : v.written ≡ t.begun
   written_is = ⊎_elim (λ here. here.1) (λ there. there.1) begins
@@ -162,12 +162,12 @@ module _ {D : Type 0} (t : SectionState D) (size : ℕ) (read reads : List ℕ) 
   no_member : (x : SectionState D) → x.phase ≡ ChangeHead → (n : ℕ) → ¬ IsChanging x n
   no_member x is n way = subst PutsEntries is way.1.0
 
-  pub buckets_stay : (n : ℕ) → InRange t.head t.buckets n → (r : Region) → IsPlaceOf (n - t.head.first) r → Passes r read reads images after
+  pub buckets_stay : (n : ℕ) → InRange t.head t.buckets n → (r : Region) → IsBucketPlace (n - t.head.first) r → Passes r read reads images after
   buckets_stay n within r here = others_pass r (Inside head_place) size read reads images after (place_room 8192 size t.buckets t.head n r refl room within here)
       (apart_from_head (n - t.head.first) r here) same changes
 
-  pub head_goes : (d : D) (w : TwinState) (calls : ℕ) (stopped : Option ℕ) (known : Known) → (stopped ≡ None → t.stopped ≡ None) → w.frame_len ≡ 8192 → next_frame w ≡ next_frame t.head_twin
-      → ((old : List ℕ) → IsSound t.head_twin head_place old read images → IsSound w head_place old reads after)
+  pub head_goes : (d : D) (w : TwinState) (calls : ℕ) (stopped : Option ℕ) (known : KnownBuckets) → (stopped ≡ None → t.stopped ≡ None) → w.frame_len ≡ 8192 → next_frame w ≡ next_frame t.head_twin
+      → ((old : List ℕ) → IsSoundTwin t.head_twin head_place old read images → IsSoundTwin w head_place old reads after)
       → IsSoundSection t known read images
       → IsSoundSection (record t { disk = d; head_twin = w; calls = calls; stopped = stopped }) known reads after
   head_goes d w calls stopped known goes len next step sound =
@@ -186,8 +186,8 @@ module _ {D : Type 0} (t : SectionState D) (size : ℕ) (read reads : List ℕ) 
             (buckets_stay n within) (sound.bucket n entries within is);
       }
 
-  head_done : (d : D) (w : TwinState) (calls : ℕ) (stopped : Option ℕ) (known : Known) → (stopped ≡ None → t.stopped ≡ None) → w.frame_len ≡ 8192 → w.change ≡ None
-      → ((old : List ℕ) → IsSound t.head_twin head_place old read images → IsSound w head_place (next_frame t.head_twin) reads after)
+  head_done : (d : D) (w : TwinState) (calls : ℕ) (stopped : Option ℕ) (known : KnownBuckets) → (stopped ≡ None → t.stopped ≡ None) → w.frame_len ≡ 8192 → w.change ≡ None
+      → ((old : List ℕ) → IsSoundTwin t.head_twin head_place old read images → IsSoundTwin w head_place (next_frame t.head_twin) reads after)
       → ((n : ℕ) (entries : List Entry) → known n ≡ Some entries → t.next.first ≡ t.head.first)
       → IsSoundSection t known read images
       → IsSoundSection (record t { disk = d; head = t.next; phase = Rest; head_twin = w; calls = calls; stopped = stopped }) known reads after
@@ -210,7 +210,7 @@ module _ {D : Type 0} (t : SectionState D) (size : ℕ) (read reads : List ℕ) 
       }
 
   -- what is known agrees with the head that it gets
-  agrees_head : (d : D) (w : TwinState) (calls : ℕ) (stopped : Option ℕ) (score : List ℕ → List ℕ) (c : Setup) (h : History) (known : Known) → KnownAgrees score c h t known
+  agrees_head : (d : D) (w : TwinState) (calls : ℕ) (stopped : Option ℕ) (score : List ℕ → List ℕ) (c : Setup) (h : History) (known : KnownBuckets) → KnownAgrees score c h t known
       → KnownAgrees score c h (record t { disk = d; head = t.next; phase = Rest; head_twin = w; calls = calls; stopped = stopped }) known
   agrees_head d w calls stopped score c h known agrees = record {
     keys = agrees.keys;
@@ -230,8 +230,8 @@ module _ {D : Type 0} (t : SectionState D) (size : ℕ) (read reads : List ℕ) 
       none_left : (entry : Entry) → IsTodo t entry → ⊥
       none_left entry way = subst PutsEntries phase way.0
 
-      covered : (more : Entry → Type 0) → IsCovered score c h t known (IsTodo t) t.next.mark
-          → IsCovered score c h (record t { disk = d; head = t.next; phase = Rest; head_twin = w; calls = calls; stopped = stopped }) known more t.next.mark
+      covered : (more : Entry → Type 0) → IsMarkCovered score c h t known (IsTodo t) t.next.mark
+          → IsMarkCovered score c h (record t { disk = d; head = t.next; phase = Rest; head_twin = w; calls = calls; stopped = stopped }) known more t.next.mark
       covered more cover = record {
         fits = cover.fits;
         has = λ n i entries within is below at.
@@ -241,7 +241,7 @@ module _ {D : Type 0} (t : SectionState D) (size : ℕ) (read reads : List ℕ) 
 
   -- the step that completes the head
   pub keeps_head : (d : D) (w : TwinState) (calls : ℕ) (stopped : Option ℕ) → (stopped ≡ None → t.stopped ≡ None) → w.frame_len ≡ 8192 → w.change ≡ None
-      → ((old : List ℕ) → IsSound t.head_twin head_place old read images → IsSound w head_place (next_frame t.head_twin) reads after)
+      → ((old : List ℕ) → IsSoundTwin t.head_twin head_place old read images → IsSoundTwin w head_place (next_frame t.head_twin) reads after)
       → KeepsAt (Ok Done) t (record t { disk = d; head = t.next; phase = Rest; head_twin = w; calls = calls; stopped = stopped }) read images reads after
   keeps_head d w calls stopped starts len none step known sound = ⊎_elim
       (λ (same_first : t.next.first ≡ t.head.first). (

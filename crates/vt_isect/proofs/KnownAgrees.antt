@@ -7,11 +7,11 @@ use Rattle.vt_model.specs.Places.{Setup, bucket_of, bucket_count}
 use Rattle.vt_isect.specs.declared.phase.Phase.TheVariants.{Rest}
 use Rattle.vt_isect.specs.Agreement.{IsEntryOf, IsInBucket, NoOthers, KnownAgrees}
 use Rattle.vt_isect.specs.Section.{SectionState, PutsEntries, IsTodo, bucket_number}
-use Rattle.vt_isect.specs.Sound.{Known}
+use Rattle.vt_isect.specs.Sound.{KnownBuckets}
 use Rattle.vt_isect.proofs.Follows.{covers_more}
 
 -- an entry of a block is of the block's bucket
-pub its_bucket : {D : Type 0} (score : List ℕ → List ℕ) (c : Setup) (h : History) (t : SectionState D) (known : Known) → KnownAgrees score c h t known
+pub its_bucket : {D : Type 0} (score : List ℕ → List ℕ) (c : Setup) (h : History) (t : SectionState D) (known : KnownBuckets) → KnownAgrees score c h t known
     → (n i : ℕ) (entry : Entry) → IsEntryOf score c h i entry → IsInBucket score c h n i → bucket_number t entry ≡ n
 its_bucket score c h t known agrees n i entry of at =
     let same : of.block ≡ at.block = same_Some of.block at.block (sym of.stands.block ∙ at.stands.block) in
@@ -20,7 +20,7 @@ its_bucket score c h t known agrees n i entry of at =
     ∙ ap (λ (a : Accepted). bucket_of (bucket_count c) (score a.block.bytes)) same
     ∙ at.bucket_is
 
-pub agrees_disk : {D : Type 0} (score : List ℕ → List ℕ) (c : Setup) (h : History) (t : SectionState D) (d : D) (known : Known)
+pub agrees_disk : {D : Type 0} (score : List ℕ → List ℕ) (c : Setup) (h : History) (t : SectionState D) (d : D) (known : KnownBuckets)
     → KnownAgrees score c h t known → KnownAgrees score c h (record t { disk = d }) known
 agrees_disk score c h t d known agrees =
     let u = record t { disk = d } in
@@ -36,7 +36,7 @@ agrees_disk score c h t d known agrees =
       coming = λ live. covers_more score c h t u known (IsTodo t) (IsTodo u) t.next.mark refl refl (λ e way. way) (agrees.coming live);
     }
 
-pub agrees_idle : {D : Type 0} (score : List ℕ → List ℕ) (c : Setup) (h : History) (t : SectionState D) (known : Known) → t.phase ≡ Rest
+pub agrees_idle : {D : Type 0} (score : List ℕ → List ℕ) (c : Setup) (h : History) (t : SectionState D) (known : KnownBuckets) → t.phase ≡ Rest
     → KnownAgrees score c h t known → KnownAgrees score c h (record t { entries = None }) known
 agrees_idle score c h t known rest agrees =
     let u = record t { entries = None } in

@@ -4,20 +4,20 @@ use Rattle.std.proofs.lemmas.Option.{same_Some}
 use Rattle.std.specs.Prelude.{IsSome}
 use Rattle.std.proofs.lemmas.Bool.{cases_lt, false≢true}
 use Rattle.vt_base.specs.declared.place.Entry.{Entry}
-use Rattle.vt_bucket.specs.Frame.{IsFrame}
+use Rattle.vt_bucket.specs.Frame.{IsBucketFrame}
 use Rattle.vt_disk.specs.declared.region.Region.{Region}
 use Rattle.vt_twin.specs.Frames.{current_frame}
 use Rattle.vt_twin.specs.Twin.{next_frame}
-use Rattle.vt_twin.specs.Sound.{HasBegunSelector}
+use Rattle.vt_twin.specs.Sound.{TwinHasBegunSelector}
 use Rattle.vt_twin.proofs.Steps.{sound_gives}
 use Rattle.vt_isect.specs.declared.head.Head.{Head}
 use Rattle.vt_isect.specs.declared.phase.Phase.{Phase}
 use Rattle.vt_isect.specs.declared.phase.Phase.TheVariants.{Rest, ReadSelector, ReadFrame, WriteFrame, SyncFrames, WriteSelector, SyncSelectors, ChangeHead}
 use Rattle.vt_isect.specs.Head.{IsHeadFrame}
-use Rattle.vt_isect.specs.Layout.{head_place, IsPlaceOf, InRange}
+use Rattle.vt_isect.specs.Layout.{head_place, IsBucketPlace, InRange}
 use Rattle.vt_isect.specs.Merging.{Merges}
 use Rattle.vt_isect.specs.Section.{SectionState, IsChanging, IsOfGroup}
-use Rattle.vt_isect.specs.Sound.{Known, IsWhole, HoldsBucket, IsSoundSection, LeavesHead, LeavesSection}
+use Rattle.vt_isect.specs.Sound.{KnownBuckets, KnowsEachBucket, HoldsBucket, IsSoundSection, LeavesHead, LeavesSection}
 use Rattle.vt_twin.proofs.Changes.{begun_bound, none_made}
 use Rattle.vt_isect.proofs.Members.{Stands, standing}
 
@@ -44,11 +44,11 @@ in_range head buckets n = ⊎_elim
     (cases_lt n (head.first + buckets)))
     (cases_lt n head.first)
 
-module _ {D : Type 0} (t : SectionState D) (known : Known) (read : List ℕ) (images : List ℕ → Type 0)
+module _ {D : Type 0} (t : SectionState D) (known : KnownBuckets) (read : List ℕ) (images : List ℕ → Type 0)
     (sound : IsSoundSection t known read images) (c : List ℕ) (left : images c) where
   -- what stands in a bucket of an image
   abbrev InBucket : ℕ → List Entry → Type 0
-  InBucket n es = ((region : Region) × IsPlaceOf (n - t.head.first) region × IsFrame n es (current_frame region 8192 c))
+  InBucket n es = ((region : Region) × IsBucketPlace (n - t.head.first) region × IsBucketFrame n es (current_frame region 8192 c))
       × ((old : List Entry) → known n ≡ Some old → (es ≡ old) ⊎ (IsChanging t n × Merges old (IsOfGroup t n) es))
 
   holds : (n : ℕ) (old : List Entry) → known n ≡ Some old → HoldsBucket t n old read images → (es : List Entry) × InBucket n es
@@ -60,17 +60,17 @@ module _ {D : Type 0} (t : SectionState D) (known : Known) (read : List ℕ) (im
       (λ (same : current_frame it.region it.twin.frame_len c ≡ it.frame). (
         old,
         (
-          (it.region, it.place, subst (λ (f : List ℕ). IsFrame n old f) (sym (at it.frame same)) it.spelled),
+          (it.region, it.place, subst (λ (f : List ℕ). IsBucketFrame n old f) (sym (at it.frame same)) it.spelled),
           λ other e. inl (same_Some old other (sym is ∙ e)),
         ),
       ))
-      (λ (new : HasBegunSelector it.twin × (current_frame it.region it.twin.frame_len c ≡ next_frame it.twin)).
+      (λ (new : TwinHasBegunSelector it.twin × (current_frame it.region it.twin.frame_len c ≡ next_frame it.twin)).
       ⊎_elim
       (λ (way : Stands t n).
       let come = it.changing way.0 way.1 way.3 way.2 in (
         come.new,
         (
-          (it.region, it.place, subst (λ (f : List ℕ). IsFrame n come.new f) (sym (at (next_frame it.twin) new.1)) come.spelled),
+          (it.region, it.place, subst (λ (f : List ℕ). IsBucketFrame n come.new f) (sym (at (next_frame it.twin) new.1)) come.spelled),
           λ other e. inr ((way.1, way.3), subst (λ (o : List Entry). Merges o (IsOfGroup t n) come.new) (same_Some old other (sym is ∙ e)) come.merges),
         ),
       ))
@@ -100,7 +100,7 @@ module _ {D : Type 0} (t : SectionState D) (known : Known) (read : List ℕ) (im
       ⊎_elim
       (λ (same : current_frame head_place t.head_twin.frame_len c ≡ sound.head_frame).
       (t.head, inl refl, subst (λ (f : List ℕ). IsHeadFrame t.name t.head f) (sym (at sound.head_frame same)) sound.head))
-      (λ (new : HasBegunSelector t.head_twin × (current_frame head_place t.head_twin.frame_len c ≡ next_frame t.head_twin)).
+      (λ (new : TwinHasBegunSelector t.head_twin × (current_frame head_place t.head_twin.frame_len c ≡ next_frame t.head_twin)).
       ⊎_elim
       (λ (way : t.phase ≡ ChangeHead).
       (t.next, inr (way, new.0, refl), subst (λ (f : List ℕ). IsHeadFrame t.name t.next f) (sym (at (next_frame t.head_twin) new.1)) (sound.head_changing way)))
@@ -109,7 +109,7 @@ module _ {D : Type 0} (t : SectionState D) (known : Known) (read : List ℕ) (im
       gives
 
   -- An image has the old head or the next, and of each bucket what is known or that with the group.
-  pub leaves : IsWhole t known → t.next.first ≡ t.head.first → LeavesSection t known c
+  pub leaves : KnowsEachBucket t known → t.next.first ≡ t.head.first → LeavesSection t known c
   leaves whole first =
       let h = head_gives in
       let has : (n : ℕ) → InRange t.head t.buckets n → (es : List Entry) × InBucket n es =
@@ -117,7 +117,7 @@ module _ {D : Type 0} (t : SectionState D) (known : Known) (read : List ℕ) (im
       let all : ℕ → List Entry = λ n. pick n has (in_range t.head t.buckets n) in
       let all_is : (n : ℕ) → InRange t.head t.buckets n → InBucket n (all n) = λ n within. picked n has (in_range t.head t.buckets n) within in
       let same_first : h.0.first ≡ t.head.first = ⊎_elim (λ (e : h.0 ≡ t.head). ap (λ (x : Head). x.first) e)
-      (λ (e : (t.phase ≡ ChangeHead) × HasBegunSelector t.head_twin × (h.0 ≡ t.next)). ap (λ (x : Head). x.first) e.2 ∙ first) h.1 in (
+      (λ (e : (t.phase ≡ ChangeHead) × TwinHasBegunSelector t.head_twin × (h.0 ≡ t.next)). ap (λ (x : Head). x.first) e.2 ∙ first) h.1 in (
         h.0,
         all,
         record {
@@ -125,7 +125,7 @@ module _ {D : Type 0} (t : SectionState D) (known : Known) (read : List ℕ) (im
           bucket = λ n within.
               let here : InRange t.head t.buckets n = subst (λ (k : ℕ). (k ≤ n) × (n < k + t.buckets)) same_first within in
               let it = (all_is n here).0 in
-              (it.0, subst (λ (k : ℕ). IsPlaceOf (n - k) it.0) (sym same_first) it.1, it.2);
+              (it.0, subst (λ (k : ℕ). IsBucketPlace (n - k) it.0) (sym same_first) it.1, it.2);
         },
         h.1,
         λ n old within is. (all_is n within).1 old is,

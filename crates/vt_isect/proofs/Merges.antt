@@ -8,11 +8,11 @@ use Rattle.std.specs.declared.cmp.Ordering.{Ordering}
 use Rattle.std.specs.declared.cmp.Ordering.TheVariants.{Less, Equal, Greater}
 use Rattle.vt_base.specs.declared.key.Key.{Key}
 use Rattle.vt_base.specs.declared.place.Entry.{Entry}
-use Rattle.vt_bucket.specs.Buckets.{Puts}
+use Rattle.vt_bucket.specs.Buckets.{PutsEntry}
 use Rattle.vt_bucket.specs.Order.{IsAscending}
 use Rattle.vt_base.specs.Key.{key_cmp}
 use Rattle.vt_bucket.proofs.Keys.{equal_keys, not_below_itself, turned}
-use Rattle.vt_isect.specs.Merging.{Merges, HasKey, HasKeys, IsAbsent, Joined}
+use Rattle.vt_isect.specs.Merging.{Merges, HasKey, HasKeys, IsAbsentEntry, Joined}
 
 -- two keys are the same or aren't
 pub decide_keys : (a b : Key) → (a ≡ b) ⊎ (a ≢ b)
@@ -35,7 +35,7 @@ merges_none old group none = record {
 
 -- one more is
 pub merges_more : (old mid new : List Entry) (front : List Entry) (y : Entry)
-    → Merges old (Contains front) mid → Puts mid y new → Merges old (Contains (front ++ y ∷ [])) new
+    → Merges old (Contains front) mid → PutsEntry mid y new → Merges old (Contains (front ++ y ∷ [])) new
 merges_more old mid new front y before put = record {
   from = λ entry has. ⊎_elim
       (λ (is : entry ≡ y). inl (subst (λ (e : Entry). Contains (front ++ y ∷ []) e) (sym is) (Contains-push front y)))
@@ -106,8 +106,8 @@ no_key_more key front y none other it = ⊎_elim
 
 -- one more is
 pub keys_more : (old : List Entry) (front : List Entry) (y : Entry) (count : ℕ) → ¬ HasKey (Contains old) y.key
-    → ¬ HasKey (Contains front) y.key → HasKeys (IsAbsent old (Contains front)) count
-    → HasKeys (IsAbsent old (Contains (front ++ y ∷ []))) (count + 1)
+    → ¬ HasKey (Contains front) y.key → HasKeys (IsAbsentEntry old (Contains front)) count
+    → HasKeys (IsAbsentEntry old (Contains (front ++ y ∷ []))) (count + 1)
 keys_more old front y count absent fresh before = record {
   some = y ∷ before.some;
   count_is = omega (arith, before.count_is);
@@ -122,7 +122,7 @@ keys_more old front y count absent fresh before = record {
       (λ (was : Contains before.some entry).
       let it = before.each entry was in
       (Contains-append_left front (y ∷ []) entry it.0, it.1))
-      (λ (is : y ≡ entry). subst (λ (e : Entry). IsAbsent old (Contains (front ++ y ∷ [])) e) is
+      (λ (is : y ≡ entry). subst (λ (e : Entry). IsAbsentEntry old (Contains (front ++ y ∷ [])) e) is
       (Contains-push front y, absent))
       (cons_cases y before.some entry has);
   all = λ entry it. ⊎_elim
@@ -136,8 +136,8 @@ keys_more old front y count absent fresh before = record {
 -- an entry isn't whose key is there already
 pub keys_same : (old : List Entry) (front : List Entry) (y : Entry) (count : ℕ)
     → HasKey (Contains old) y.key ⊎ HasKey (Contains front) y.key
-    → HasKeys (IsAbsent old (Contains front)) count
-    → HasKeys (IsAbsent old (Contains (front ++ y ∷ []))) count
+    → HasKeys (IsAbsentEntry old (Contains front)) count
+    → HasKeys (IsAbsentEntry old (Contains (front ++ y ∷ []))) count
 keys_same old front y count other before = record {
   some = before.some;
   count_is = before.count_is;
@@ -151,7 +151,7 @@ keys_same old front y count other before = record {
       (Contains-push_cases front y entry it.0);
 }
   where
-    held : (entry : Entry) → y ≡ entry → IsAbsent old (Contains (front ++ y ∷ [])) entry
+    held : (entry : Entry) → y ≡ entry → IsAbsentEntry old (Contains (front ++ y ∷ [])) entry
         → HasKey (Contains before.some) entry.key
     held entry is it =
         let key : y.key ≡ entry.key = ap (λ (e : Entry). e.key) is in
@@ -190,7 +190,7 @@ decide_held key (x ∷ xs) = ⊎_elim
 -- A full bucket, and the entries that were still to be put into it: so many keys it would have.
 pub keys_joined : (old mid : List Entry) (xs : List Entry) (i count : ℕ)
     → length mid ≡ 263 → IsAscending mid → Merges old (Contains (take i xs)) mid
-    → HasKeys (IsAbsent mid (Contains (drop i xs))) count
+    → HasKeys (IsAbsentEntry mid (Contains (drop i xs))) count
     → HasKeys (Joined old (Contains xs)) (263 + count)
 keys_joined old mid xs i count full ascending merged absent = record {
   some = mid ++ absent.some;
@@ -231,7 +231,7 @@ keys_joined old mid xs i count full ascending merged absent = record {
 
 -- the one that found no room is among them
 pub some_keys : (mid : List Entry) (group : Entry → Type 0) (y : Entry) (count : ℕ) → group y
-    → All (λ other. other.key ≢ y.key) mid → HasKeys (IsAbsent mid group) count → 0 < count
+    → All (λ other. other.key ≢ y.key) mid → HasKeys (IsAbsentEntry mid group) count → 0 < count
 some_keys mid group y count of others keys =
     let it = keys.all y (of, λ has. All-contains (λ (e : Entry). e.key ≢ y.key) mid has.0 others has.1 has.2) in
     omega (arith, it.1.1, keys.count_is)

@@ -3,42 +3,42 @@ use Rattle.std.proofs.Common.{◌≡◌, ℕ, ◌+◌, ◌-◌, ◌*◌, ◌^◌
 use Rattle.std.proofs.lemmas.Option.{same_Some}
 use Rattle.std.specs.List.{Contains}
 use Rattle.vt_base.specs.declared.place.Entry.{Entry}
-use Rattle.vt_bucket.specs.Frame.{IsFrame}
+use Rattle.vt_bucket.specs.Frame.{IsBucketFrame}
 use Rattle.vt_disk.specs.declared.region.Region.{Region}
 use Rattle.vt_disk.specs.Disk.{Only}
 use Rattle.vt_model.specs.History.{History}
 use Rattle.vt_model.specs.Places.{Setup}
 use Rattle.vt_twin.specs.Frames.{current_frame}
 use Rattle.vt_twin.specs.Twin.{fresh}
-use Rattle.vt_twin.specs.Sound.{IsSound}
+use Rattle.vt_twin.specs.Sound.{IsSoundTwin}
 use Rattle.vt_isect.specs.declared.head.Head.{Head}
-use Rattle.vt_isect.specs.Agreement.{AgreesWith, IsCovered, KnownAgrees}
+use Rattle.vt_isect.specs.Agreement.{AgreesWith, IsMarkCovered, KnownAgrees}
 use Rattle.vt_isect.specs.Head.{IsHeadFrame}
-use Rattle.vt_isect.specs.Layout.{head_place, IsPlaceOf, InRange, IsSection}
-use Rattle.vt_isect.specs.Section.{SectionState, IsChanging, mounted}
-use Rattle.vt_isect.specs.Sound.{Known, IsSoundSection, all_known}
+use Rattle.vt_isect.specs.Layout.{head_place, IsBucketPlace, InRange, IsSection}
+use Rattle.vt_isect.specs.Section.{SectionState, IsChanging, mounted_section}
+use Rattle.vt_isect.specs.Sound.{KnownBuckets, IsSoundSection, all_known}
 use Rattle.vt_isect.proofs.WithBucket.{settled_holds}
 use Rattle.vt_isect.proofs.Places.{one_place}
 
 module _ {D : Type 0} (d : D) (buckets : ℕ) (name : List ℕ) (head : Head) (number size : ℕ) (read : List ℕ) (images : List ℕ → Type 0)
     (room : 24576 + 16896 * buckets ≤ size) (fits : size < 2 ^ 64) (only : Only read images)
     (frame : IsHeadFrame name head (current_frame head_place 8192 read))
-    (twin : IsSound (fresh 8192 number) head_place (current_frame head_place 8192 read) read images) where
+    (twin : IsSoundTwin (fresh 8192 number) head_place (current_frame head_place 8192 read) read images) where
   abbrev t : SectionState D
-  t = mounted d buckets name head number
+  t = mounted_section d buckets name head number
 
   still : (n : ℕ) → ¬ IsChanging t n
   still n way = absurd way.1.0
 
-  place_of : (n : ℕ) → InRange head buckets n → (region : Region) × IsPlaceOf (n - head.first) region
+  place_of : (n : ℕ) → InRange head buckets n → (region : Region) × IsBucketPlace (n - head.first) region
   place_of n within = (
     record { start = 24576 + 16896 * (n - head.first); len = 16896 },
     record { start = refl; len = refl },
   )
 
-  pub mounted_sound : (known : Known)
-      → ((n : ℕ) (region : Region) (entries : List Entry) → InRange head buckets n → IsPlaceOf (n - head.first) region → known n ≡ Some entries
-      → IsFrame n entries (current_frame region 8192 read))
+  pub mounted_sound : (known : KnownBuckets)
+      → ((n : ℕ) (region : Region) (entries : List Entry) → InRange head buckets n → IsBucketPlace (n - head.first) region → known n ≡ Some entries
+      → IsBucketFrame n entries (current_frame region 8192 read))
       → IsSoundSection t known read images
   mounted_sound known are = record {
     head_frame = current_frame head_place 8192 read;
@@ -61,8 +61,8 @@ module _ {D : Type 0} (d : D) (buckets : ℕ) (name : List ℕ) (head : Head) (n
   mounted_agrees score c h entries section agrees = (
     mounted_sound (all_known entries) (λ n region es within place is.
         let it = section.bucket n within in
-        subst (λ (l : List Entry). IsFrame n l (current_frame region 8192 read)) (same_Some (entries n) es is)
-        (subst (λ (r : Region). IsFrame n (entries n) (current_frame r 8192 read)) (one_place (n - head.first) it.0 region it.1 place) it.2)),
+        subst (λ (l : List Entry). IsBucketFrame n l (current_frame region 8192 read)) (same_Some (entries n) es is)
+        (subst (λ (r : Region). IsBucketFrame n (entries n) (current_frame r 8192 read)) (one_place (n - head.first) it.0 region it.1 place) it.2)),
     record {
       keys = agrees.keys;
       total = agrees.total;
@@ -76,7 +76,7 @@ module _ {D : Type 0} (d : D) (buckets : ℕ) (name : List ℕ) (head : Head) (n
     },
   )
     where
-      covered : (others : Entry → Type 0) → IsCovered score c h t (all_known entries) others head.mark
+      covered : (others : Entry → Type 0) → IsMarkCovered score c h t (all_known entries) others head.mark
       covered others = record {
         fits = agrees.mark_fits;
         has = λ n i es within is below at.

@@ -5,13 +5,13 @@ use Rattle.std.proofs.lemmas.List.{take_at, drop_at}
 use Rattle.byteorder.specs.Endian.{big_number, big_bytes}
 use Rattle.byteorder.specs.Numbers.{big_number-reads_back, length-bytes_high_first}
 use Rattle.vt_base.specs.declared.place.Entry.{Entry}
-use Rattle.vt_bucket.specs.Frame.{IsFrame}
+use Rattle.vt_bucket.specs.Frame.{IsBucketFrame}
 use Rattle.vt_bucket.proofs.Frames.{one_frame}
 use Rattle.vt_disk.specs.declared.region.Region.{Region}
 use Rattle.vt_twin.specs.Frames.{current_frame}
 use Rattle.vt_isect.specs.declared.head.Head.{Head}
-use Rattle.vt_isect.specs.Head.{spelled, IsHead, IsHeadFrame}
-use Rattle.vt_isect.specs.Layout.{InRange, IsPlaceOf, IsSection}
+use Rattle.vt_isect.specs.Head.{section_head_bytes, IsHead, IsHeadFrame}
+use Rattle.vt_isect.specs.Layout.{InRange, IsBucketPlace, IsSection}
 use Rattle.vt_isect.proofs.Places.{one_place}
 
 -- two number fields with what is behind them
@@ -31,7 +31,7 @@ numbers head =
     ++ (big_bytes 4 head.total ++ big_bytes 8 head.mark))
 
 heads_apart : (name other : List ℕ) (head its : Head) → IsHead head → IsHead its
-    → length name ≡ 64 → length other ≡ 64 → spelled name head ≡ spelled other its
+    → length name ≡ 64 → length other ≡ 64 → section_head_bytes name head ≡ section_head_bytes other its
     → (name ≡ other) × (head ≡ its)
 heads_apart name other head its fits fit len long same =
     let state : head.state ≡ its.state = ap (λ (l : List ℕ). slice_index l 6) same in
@@ -71,7 +71,7 @@ one_section name other head its buckets entries others file is at n within =
     let same : head ≡ its = (one_head name other head its _ is.head_frame at.head_frame).1 in
     let here = is.bucket n within in
     let there = at.bucket n (subst (λ (h : Head). InRange h buckets n) same within) in
-    let place = subst (λ (h : Head). IsPlaceOf (n - h.first) there.0) (sym same) there.1 in
+    let place = subst (λ (h : Head). IsBucketPlace (n - h.first) there.0) (sym same) there.1 in
     let region : here.0 ≡ there.0 = one_place (n - head.first) here.0 there.0 here.1 place in
     (one_frame n n (entries n) (others n) (current_frame there.0 8192 file)
-    (subst (λ (r : Region). IsFrame n (entries n) (current_frame r 8192 file)) region here.2) there.2).1
+    (subst (λ (r : Region). IsBucketFrame n (entries n) (current_frame r 8192 file)) region here.2) there.2).1

@@ -3,24 +3,24 @@ use Rattle.std.proofs.Common.{◌≡◌, ◌≢◌, ⊎_elim, ℕ, ◌+◌, ◌-
 use Rattle.std.proofs.lemmas.Bool.{cases_order}
 use Rattle.vt_disk.specs.declared.region.Region.{Region}
 use Rattle.vt_disk.specs.Region.{Inside}
-use Rattle.vt_twin.specs.Frames.{HasRoom}
+use Rattle.vt_twin.specs.Frames.{FitsTwin}
 use Rattle.vt_isect.specs.declared.head.Head.{Head}
-use Rattle.vt_isect.specs.Layout.{head_place, place_of, IsPlaceOf, InRange}
+use Rattle.vt_isect.specs.Layout.{head_place, bucket_place, IsBucketPlace, InRange}
 
 one_region : (a b : Region) → a.start ≡ b.start → a.len ≡ b.len → a ≡ b
 one_region a b start len i = record { start = start i; len = len i }
 
-pub one_place : (j : ℕ) (a b : Region) → IsPlaceOf j a → IsPlaceOf j b → a ≡ b
+pub one_place : (j : ℕ) (a b : Region) → IsBucketPlace j a → IsBucketPlace j b → a ≡ b
 one_place j a b here there = one_region a b (here.start ∙ sym there.start) (here.len ∙ sym there.len)
 
-pub is_place : (j : ℕ) → IsPlaceOf j (place_of j)
+pub is_place : (j : ℕ) → IsBucketPlace j (bucket_place j)
 is_place j = record { start = refl; len = refl }
 
-pub place_is : (j : ℕ) (region : Region) → IsPlaceOf j region → region ≡ place_of j
-place_is j region here = one_place j region (place_of j) here (is_place j)
+pub place_is : (j : ℕ) (region : Region) → IsBucketPlace j region → region ≡ bucket_place j
+place_is j region here = one_place j region (bucket_place j) here (is_place j)
 
-pub head_room : (n size buckets : ℕ) → n ≡ 8192 → 24576 + 16896 * buckets ≤ size → HasRoom head_place n size
-head_room n size buckets is fits = subst (λ (k : ℕ). HasRoom head_place k size) (sym is) (record {
+pub head_room : (n size buckets : ℕ) → n ≡ 8192 → 24576 + 16896 * buckets ≤ size → FitsTwin head_place n size
+head_room n size buckets is fits = subst (λ (k : ℕ). FitsTwin head_place k size) (sym is) (record {
   within = omega arith;
   least = lit≤ tt;
   most = lit≤ tt;
@@ -30,8 +30,8 @@ head_room n size buckets is fits = subst (λ (k : ℕ). HasRoom head_place k siz
 })
 
 pub place_room : (n size buckets : ℕ) (head : Head) (b : ℕ) (region : Region) → n ≡ 8192 → 24576 + 16896 * buckets ≤ size
-    → InRange head buckets b → IsPlaceOf (b - head.first) region → HasRoom region n size
-place_room n size buckets head b region is fits inside place = subst (λ (k : ℕ). HasRoom region k size) (sym is) (record {
+    → InRange head buckets b → IsBucketPlace (b - head.first) region → FitsTwin region n size
+place_room n size buckets head b region is fits inside place = subst (λ (k : ℕ). FitsTwin region k size) (sym is) (record {
   within = omega (arith, place.start, place.len, inside.0, inside.1);
   least = omega (arith, place.len);
   most = omega (arith, place.len);
@@ -40,13 +40,13 @@ place_room n size buckets head b region is fits inside place = subst (λ (k : �
   aligned_frames = refl;
 })
 
-pub head_apart : (j : ℕ) (region : Region) → IsPlaceOf j region → (i : ℕ) → Inside region i → ¬ Inside head_place i
+pub head_apart : (j : ℕ) (region : Region) → IsBucketPlace j region → (i : ℕ) → Inside region i → ¬ Inside head_place i
 head_apart j region place i here there = omega (arith, place.start, here.0, there.1)
 
-pub apart_from_head : (j : ℕ) (region : Region) → IsPlaceOf j region → (i : ℕ) → Inside head_place i → ¬ Inside region i
+pub apart_from_head : (j : ℕ) (region : Region) → IsBucketPlace j region → (i : ℕ) → Inside head_place i → ¬ Inside region i
 apart_from_head j region place i here there = omega (arith, place.start, here.1, there.0)
 
-pub places_apart : (j k : ℕ) (a b : Region) → IsPlaceOf j a → IsPlaceOf k b → j ≢ k → (i : ℕ) → Inside a i → ¬ Inside b i
+pub places_apart : (j k : ℕ) (a b : Region) → IsBucketPlace j a → IsBucketPlace k b → j ≢ k → (i : ℕ) → Inside a i → ¬ Inside b i
 places_apart j k a b one two other i here there = ⊎_elim
     (λ (same : j ≡ k). other same)
     (λ rest. ⊎_elim
@@ -56,11 +56,11 @@ places_apart j k a b one two other i here there = ⊎_elim
     (cases_order j k)
 
 -- what is done in the place of bucket b is done elsewhere for the head and the other buckets
-module _ (head : Head) (buckets b : ℕ) (in_it : InRange head buckets b) (P : ℕ → Type 0) (inside : (i : ℕ) → P i → Inside (place_of (b - head.first)) i) where
+module _ (head : Head) (buckets b : ℕ) (in_it : InRange head buckets b) (P : ℕ → Type 0) (inside : (i : ℕ) → P i → Inside (bucket_place (b - head.first)) i) where
   pub spares_head : (i : ℕ) → P i → ¬ Inside head_place i
-  spares_head i touched = head_apart (b - head.first) (place_of (b - head.first)) (is_place (b - head.first)) i (inside i touched)
+  spares_head i touched = head_apart (b - head.first) (bucket_place (b - head.first)) (is_place (b - head.first)) i (inside i touched)
 
-  pub spares_bucket : (n : ℕ) → InRange head buckets n → n ≢ b → (region : Region) → IsPlaceOf (n - head.first) region → (i : ℕ) → P i → ¬ Inside region i
+  pub spares_bucket : (n : ℕ) → InRange head buckets n → n ≢ b → (region : Region) → IsBucketPlace (n - head.first) region → (i : ℕ) → P i → ¬ Inside region i
   spares_bucket n within other region place i touched =
-      places_apart (b - head.first) (n - head.first) (place_of (b - head.first)) region (is_place (b - head.first)) place
+      places_apart (b - head.first) (n - head.first) (bucket_place (b - head.first)) region (is_place (b - head.first)) place
       (λ e. other (omega (arith, e, within.0, in_it.0))) i (inside i touched)

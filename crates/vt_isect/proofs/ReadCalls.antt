@@ -8,16 +8,16 @@ use Rattle.vt_disk.specs.Members.{DiskOf}
 use Rattle.vt_disk.proofs.Calls.{reads_as_writes}
 use Rattle.vt_twin.specs.declared.step.Step.{Step}
 use Rattle.vt_twin.specs.declared.step.Step.TheVariants.{More}
-use Rattle.vt_isect.specs.declared.bad.ShardErr.{ShardErr}
-use Rattle.vt_isect.specs.declared.bad.ShardErr.TheVariants.{Fault, Damaged, Stopped}
+use Rattle.vt_isect.specs.declared.error.ShardErr.{ShardErr}
+use Rattle.vt_isect.specs.declared.error.ShardErr.TheVariants.{Fault, Damaged, Stopped}
 use Rattle.vt_isect.specs.declared.groups.Member.{Member}
 use Rattle.vt_isect.specs.declared.head.Head.{Head}
 use Rattle.vt_isect.specs.declared.phase.Phase.{Phase}
 use Rattle.vt_isect.specs.declared.phase.Phase.TheVariants.{Rest, ReadFrame, WriteFrame}
-use Rattle.vt_isect.specs.Faults.{is_fault}
+use Rattle.vt_isect.specs.Faults.{is_section_fault}
 use Rattle.vt_isect.specs.Section.{SectionState, PutsEntries}
-use Rattle.vt_isect.specs.Sound.{Known, IsMade, IsSoundSection, StillNames, made_of}
-use Rattle.vt_isect.specs.Writeback.{Advances, EndsWith, IsRead, Keeps, NextPhase, TakesStep}
+use Rattle.vt_isect.specs.Sound.{KnownBuckets, IsFrameMade, IsSoundSection, StillNames, made_of}
+use Rattle.vt_isect.specs.Writeback.{SectionAdvances, EndsWith, NextCallReads, KeepsDiskSound, NextPhase, SectionTakesStep}
 use Rattle.vt_isect.proofs.Follows.{agrees_as, keeps_quiet}
 use Rattle.vt_isect.proofs.IsRead.{read_apart, read_made, read_puts}
 use Rattle.vt_isect.proofs.IsSoundSection.{KeepsGroup, group_stands, quiet_sound, todo_before, todo_then}
@@ -28,13 +28,13 @@ on_ok : {T E P : Type 0} (r : Result T E) → P → OnOk r P
 on_ok (Ok value) holds = holds
 on_ok (Err bad) holds = tt
 
-module _ {D : Type 0} (disk : DiskOf D) (t : SectionState D) (is : IsRead t.phase) (goes : t.stopped ≡ None) (d : D) (reads : OnlyReads disk 1 t.disk d) (made : MadeCalls disk 1 t.disk d) where
+module _ {D : Type 0} (disk : DiskOf D) (t : SectionState D) (is : NextCallReads t.phase) (goes : t.stopped ≡ None) (d : D) (reads : OnlyReads disk 1 t.disk d) (made : MadeCalls disk 1 t.disk d) where
   -- the section behind it
   abbrev v : (next : Head) → Phase → (frame : List ℕ) → (group : List Member) → SectionState D
   v next p frame group = record t { disk = d; next = next; phase = p; frame = frame; group = group; calls = one_more t.calls }
 
-  takes : (result : Result Step ShardErr) (next : Head) (p : Phase) (frame : List ℕ) (group : List Member) → CountsFault is_fault result (disk.faults t.disk) (disk.faults d)
-      → (IsTrue disk.tells → Keeps disk result t (v next p frame group)) → Advances result t (v next p frame group) → TakesStep disk result t (v next p frame group)
+  takes : (result : Result Step ShardErr) (next : Head) (p : Phase) (frame : List ℕ) (group : List Member) → CountsFault is_section_fault result (disk.faults t.disk) (disk.faults d)
+      → (IsTrue disk.tells → KeepsDiskSound disk result t (v next p frame group)) → SectionAdvances result t (v next p frame group) → SectionTakesStep disk result t (v next p frame group)
   takes result next p frame group faults sound steps = record {
     sound = sound;
     steps = steps;
@@ -46,13 +46,13 @@ module _ {D : Type 0} (disk : DiskOf D) (t : SectionState D) (is : IsRead t.phas
   }
 
   -- it ends the writeback
-  ends_by : (bad : ShardErr) (u : SectionState D) → (bad ≢ Fault → (s : ℕ) × (t.phase ≡ ReadFrame s)) → ((n : ℕ) → bad ≢ Stopped n) → EndsWith t.head t u → Advances (Err bad) t u
+  ends_by : (bad : ShardErr) (u : SectionState D) → (bad ≢ Fault → (s : ℕ) × (t.phase ≡ ReadFrame s)) → ((n : ℕ) → bad ≢ Stopped n) → EndsWith t.head t u → SectionAdvances (Err bad) t u
   ends_by Fault u damaged other ends = inl (is, ends)
   ends_by (Damaged b want found) u damaged other ends = (damaged (λ e. cc), ends)
   ends_by (Stopped n) u damaged other ends = absurd (other n refl)
 
-  pub read_ends : (bad : ShardErr) (frame : List ℕ) → CountsFault {T = Step} is_fault (Err bad) (disk.faults t.disk) (disk.faults d)
-      → (bad ≢ Fault → (s : ℕ) × (t.phase ≡ ReadFrame s)) → ((n : ℕ) → bad ≢ Stopped n) → TakesStep disk (Err bad) t (v t.head Rest frame [])
+  pub read_ends : (bad : ShardErr) (frame : List ℕ) → CountsFault {T = Step} is_section_fault (Err bad) (disk.faults t.disk) (disk.faults d)
+      → (bad ≢ Fault → (s : ℕ) × (t.phase ≡ ReadFrame s)) → ((n : ℕ) → bad ≢ Stopped n) → SectionTakesStep disk (Err bad) t (v t.head Rest frame [])
   read_ends bad frame faults damaged other =
       let u = v t.head Rest frame [] in
       takes (Err bad) t.head Rest frame [] faults
@@ -85,11 +85,11 @@ module _ {D : Type 0} (disk : DiskOf D) (t : SectionState D) (is : IsRead t.phas
     }
 
     pub read_goes : (IsTrue disk.tells → (k : ℕ) → p ≡ ReadFrame k → StillNames t (k % 2) (disk.bytes t.disk))
-        → (IsTrue disk.tells → (known : Known) → IsSoundSection t known (disk.bytes t.disk) (disk.images t.disk) → (k : ℕ) → p ≡ WriteFrame k
-        → StillNames t k (disk.bytes t.disk) × ((entries : List Entry) → known t.bucket ≡ Some entries → IsMade (record t { frame = frame }) entries))
-        → TakesStep disk (Ok More) t u
+        → (IsTrue disk.tells → (known : KnownBuckets) → IsSoundSection t known (disk.bytes t.disk) (disk.images t.disk) → (k : ℕ) → p ≡ WriteFrame k
+        → StillNames t k (disk.bytes t.disk) × ((entries : List Entry) → known t.bucket ≡ Some entries → IsFrameMade (record t { frame = frame }) entries))
+        → SectionTakesStep disk (Ok More) t u
     read_goes selector current = takes (Ok More) t.next p frame t.group faults
-        (λ told. keeps_quiet (Ok More) t u _ _ _ _ (λ n done. subst IsRead done.1 is)
+        (λ told. keeps_quiet (Ok More) t u _ _ _ _ (λ n done. subst NextCallReads done.1 is)
         (λ known sound. quiet_sound t u known _ _ _ _ refl refl refl refl (read_apart t.phase is) (λ e. subst PutsEntries e puts_on)
         (λ n. group_stands t u keeps n (λ j m of here. one j ∙ sym (read_made j t.phase is))) reads.bytes reads.images
         (λ k e. subst (StillNames t (k % 2)) (sym reads.bytes) (selector told k e)) (λ k e. subst (StillNames t k) (sym reads.bytes) (current told known sound k e).0)

@@ -17,7 +17,7 @@ use Rattle.vt_twin.specs.Frames.{frame_start, named_number, selector_bytes, sele
 use Rattle.vt_twin.proofs.Places.{named_same}
 use Rattle.vt_isect.specs.declared.phase.Phase.{Phase}
 use Rattle.vt_isect.specs.declared.phase.Phase.TheVariants.{ReadFrame}
-use Rattle.vt_isect.specs.Layout.{IsPlaceOf}
+use Rattle.vt_isect.specs.Layout.{IsBucketPlace}
 use Rattle.vt_isect.specs.Remembered.{Remembers, first_read}
 use Rattle.vt_isect.proofs.IsRead.{first_frame}
 use Rattle.vt_isect.proofs.Places.{one_place}
@@ -53,7 +53,7 @@ remembers_none disk d buckets frames each none = record {
 
 -- ---- places
 
-frame_spares : (k j : ℕ) (region other : Region) (a : ℕ) → a < 2 → IsPlaceOf k region → IsPlaceOf j other
+frame_spares : (k j : ℕ) (region other : Region) (a : ℕ) → a < 2 → IsBucketPlace k region → IsBucketPlace j other
     → ¬ Touches (frame_start region 8192 a) 8192 (selector_start other 8192)
 unfolding Touches
 frame_spares k j region other a low one two it = ⊎_elim
@@ -64,7 +64,7 @@ frame_spares k j region other a low one two it = ⊎_elim
     rest)
     (cases_order j k)
 
-place_spares : (k j : ℕ) (region other : Region) → j ≢ k → IsPlaceOf k region → IsPlaceOf j other → ¬ Inside region (selector_start other 8192)
+place_spares : (k j : ℕ) (region other : Region) → j ≢ k → IsBucketPlace k region → IsBucketPlace j other → ¬ Inside region (selector_start other 8192)
 place_spares k j region other apart one two it = ⊎_elim
     (λ (same : j ≡ k). apart same)
     (λ rest. ⊎_elim
@@ -73,7 +73,7 @@ place_spares k j region other apart one two it = ⊎_elim
     rest)
     (cases_order j k)
 
-selector_spares : (k j : ℕ) (region other : Region) → j ≢ k → IsPlaceOf k region → IsPlaceOf j other
+selector_spares : (k j : ℕ) (region other : Region) → j ≢ k → IsBucketPlace k region → IsBucketPlace j other
     → ¬ Touches (selector_start region 8192) (selector_len region 8192) (selector_start other 8192)
 unfolding Touches
 selector_spares k j region other apart one two it = ⊎_elim
@@ -97,7 +97,7 @@ named_of region file rest number len low some is =
 -- a frame that is read first is the one that the selector names
 pub first_named : {D : Type 0} (disk : DiskOf D) (d : D) (buckets : ℕ) (frames : List (Option ℕ)) (j : ℕ) (current : Option ℕ) (p : Phase) (k : ℕ)
     → slice_get frames j ≡ Some current → IfSome current (λ number. number < 2) → p ≡ first_read current → p ≡ ReadFrame k
-    → (region : Region) → IsTrue disk.tells → IsPlaceOf j region → Remembers disk d buckets frames → named_number region 8192 (disk.bytes d) ≡ k % 2
+    → (region : Region) → IsTrue disk.tells → IsBucketPlace j region → Remembers disk d buckets frames → named_number region 8192 (disk.bytes d) ≡ k % 2
 first_named disk d buckets frames j current p k at bound first is region told place was =
     let number : current ≡ Some k = first_frame current k (sym first ∙ is) in
     let low = subst (λ (o : Option ℕ). IfSome o (λ n. n < 2)) number bound in
@@ -115,20 +115,20 @@ module _ {D : Type 0} (disk : DiskOf D) (d e : D) (buckets : ℕ) (frames : List
 
   module _ (P : ℕ → Type 0) (same : IsTrue disk.tells → SameBut P (disk.bytes d) (disk.bytes e)) (was : Remembers disk d buckets frames) where
     -- a write that no selector is touched by
-    beside : ((j : ℕ) (region : Region) → IsPlaceOf j region → ¬ P (selector_start region 8192)) → Remembers disk e buckets frames
+    beside : ((j : ℕ) (region : Region) → IsBucketPlace j region → ¬ P (selector_start region 8192)) → Remembers disk e buckets frames
     beside apart = record {
       each = was.each;
       named = λ j s region told at place. named_same P region 8192 (apart j region place) (disk.bytes d) (disk.bytes e) (same told) ∙ was.named j s region told at place;
     }
 
     -- or by which that of one bucket is
-    but_one : (k : ℕ) (o : Option ℕ) → ((j : ℕ) (region : Region) → j ≢ k → IsPlaceOf j region → ¬ P (selector_start region 8192))
-        → ((s : ℕ) (region : Region) → IsTrue disk.tells → o ≡ Some s → IsPlaceOf k region → named_number region 8192 (disk.bytes e) ≡ s)
+    but_one : (k : ℕ) (o : Option ℕ) → ((j : ℕ) (region : Region) → j ≢ k → IsBucketPlace j region → ¬ P (selector_start region 8192))
+        → ((s : ℕ) (region : Region) → IsTrue disk.tells → o ≡ Some s → IsBucketPlace k region → named_number region 8192 (disk.bytes e) ≡ s)
         → Remembers disk e buckets (slice_set frames k o)
     but_one k o apart is = record {
       each = omega (arith, length-set frames k o, was.each);
       named = λ j s region told at place. ⊎_elim
-          (λ (here : j ≡ k). is s region told (put j s here at) (subst (λ (n : ℕ). IsPlaceOf n region) here place))
+          (λ (here : j ≡ k). is s region told (put j s here at) (subst (λ (n : ℕ). IsBucketPlace n region) here place))
           (λ (there : j ≢ k). named_same P region 8192 (apart j region there place) (disk.bytes d) (disk.bytes e) (same told)
           ∙ was.named j s region told (sym (set_there frames k j o there) ∙ at) place)
           (cases_eq j k);
@@ -138,7 +138,7 @@ module _ {D : Type 0} (disk : DiskOf D) (d e : D) (buckets : ℕ) (frames : List
         put j s here at = set_here frames k o (Some s) (ap (λ (n : ℕ). slice_get (slice_set frames k o) n) (sym here) ∙ at)
 
   -- a read of a selector
-  pub reads : (k : ℕ) (region : Region) (number : ℕ) → IsPlaceOf k region → disk.bytes e ≡ disk.bytes d
+  pub reads : (k : ℕ) (region : Region) (number : ℕ) → IsBucketPlace k region → disk.bytes e ≡ disk.bytes d
       → (IsTrue disk.tells → named_number region 8192 (disk.bytes d) ≡ number)
       → Remembers disk d buckets frames → Remembers disk e buckets (slice_set frames k (Some number))
   reads k region number place same is was = but_one (λ i. ⊥) (λ told. subst (λ (file : List ℕ). SameBut (λ i. ⊥) (disk.bytes d) file) (sym same) (same_refl (λ i. ⊥) (disk.bytes d))) was
@@ -147,7 +147,7 @@ module _ {D : Type 0} (disk : DiskOf D) (d e : D) (buckets : ℕ) (frames : List
       ∙ ap (λ (r : Region). named_number r 8192 (disk.bytes d)) (one_place k other region there place) ∙ is told ∙ same_Some number s is_s)
 
   -- or none, where its number is remembered
-  pub found : (after : List (Option ℕ)) (k : ℕ) (region : Region) (r : Result ℕ Failed) → IsPlaceOf k region → disk.bytes e ≡ disk.bytes d
+  pub found : (after : List (Option ℕ)) (k : ℕ) (region : Region) (r : Result ℕ Failed) → IsBucketPlace k region → disk.bytes e ≡ disk.bytes d
       → IfOk r (λ number. Remembers disk d buckets frames → IsTrue disk.tells → number ≡ named_number region 8192 (disk.bytes d))
       → IfOk r (λ number. after ≡ slice_set frames k (Some number)) → OnErr r (after ≡ frames)
       → Remembers disk d buckets frames → Remembers disk e buckets after
@@ -160,19 +160,19 @@ module _ {D : Type 0} (disk : DiskOf D) (d e : D) (buckets : ℕ) (frames : List
   sync_remembers made was = beside (TouchedBy sync) made.bytes was (λ j region place no. no)
 
   -- the write of a frame
-  pub frame_remembers : (k : ℕ) (region : Region) (a : ℕ) (frame : List ℕ) → length frame ≡ 8192 → a < 2 → IsPlaceOf k region → WritesAt disk (Touches (frame_start region 8192 a) (length frame)) 1 d e
+  pub frame_remembers : (k : ℕ) (region : Region) (a : ℕ) (frame : List ℕ) → length frame ≡ 8192 → a < 2 → IsBucketPlace k region → WritesAt disk (Touches (frame_start region 8192 a) (length frame)) 1 d e
       → Remembers disk d buckets frames → Remembers disk e buckets frames
   frame_remembers k region a frame whole low place wrote was = beside (Touches (frame_start region 8192 a) (length frame)) wrote.bytes was
       (λ j other there touched. frame_spares k j region other a low place there (subst (λ (n : ℕ). Touches (frame_start region 8192 a) n (selector_start other 8192)) whole touched))
 
   -- what is written in a bucket's place is forgotten
-  pub forgets : (k : ℕ) (region : Region) (most : ℕ) → IsPlaceOf k region → WritesWithin disk region most d e
+  pub forgets : (k : ℕ) (region : Region) (most : ℕ) → IsBucketPlace k region → WritesWithin disk region most d e
       → Remembers disk d buckets frames → Remembers disk e buckets (slice_set frames k None)
   forgets k region most place wrote was = but_one (Inside region) wrote.bytes was k None
       (λ j other apart there. place_spares k j region other apart place there) (λ s other told none there. absurd (cc))
 
   -- but where its selector is known then
-  pub learns : (k : ℕ) (region : Region) (most number : ℕ) (rest : List ℕ) → number < 2 → IsPlaceOf k region → WritesWithin disk region most d e
+  pub learns : (k : ℕ) (region : Region) (most number : ℕ) (rest : List ℕ) → number < 2 → IsBucketPlace k region → WritesWithin disk region most d e
       → (IsTrue disk.tells → part (selector_start region 8192) (selector_len region 8192) (disk.bytes e) ≡ number ∷ rest)
       → Remembers disk d buckets frames → Remembers disk e buckets (slice_set frames k (Some number))
   learns k region most number rest low place wrote is was = but_one (Inside region) wrote.bytes was k (Some number)
@@ -181,12 +181,12 @@ module _ {D : Type 0} (disk : DiskOf D) (d e : D) (buckets : ℕ) (frames : List
       (named_of region (disk.bytes e) rest number (selector_len region 8192) low (omega (arith, place.len)) (is told) ∙ same_Some number s same))
 
   -- the write of a selector, done and failed
-  module _ (k : ℕ) (region : Region) (place : IsPlaceOf k region) (number : ℕ)
+  module _ (k : ℕ) (region : Region) (place : IsBucketPlace k region) (number : ℕ)
       (wrote : WritesAt disk (Touches (selector_start region 8192) (length (selector_bytes number 512))) 1 d e) (was : Remembers disk d buckets frames) where
     long : length (selector_bytes number 512) ≡ selector_len region 8192
     long = omega (arith, length-replicate {A = ℕ} 511 0, place.len)
 
-    apart : (j : ℕ) (other : Region) → j ≢ k → IsPlaceOf j other → ¬ Touches (selector_start region 8192) (length (selector_bytes number 512)) (selector_start other 8192)
+    apart : (j : ℕ) (other : Region) → j ≢ k → IsBucketPlace j other → ¬ Touches (selector_start region 8192) (length (selector_bytes number 512)) (selector_start other 8192)
     apart j other not there touched =
         selector_spares k j region other not place there (subst (λ (n : ℕ). Touches (selector_start region 8192) n (selector_start other 8192)) long touched)
 

@@ -5,25 +5,25 @@ use Rattle.std.proofs.lemmas.Bool.{cases_eq, cases_lt}
 use Rattle.std.proofs.lemmas.Option.{same_Some, slice_get_within}
 use borrow.Author.Tests.{lt-ltb, le-ltb}
 use Rattle.vt_base.specs.declared.place.Entry.{Entry}
-use Rattle.vt_bucket.specs.Frame.{IsFrame}
+use Rattle.vt_bucket.specs.Frame.{IsBucketFrame}
 use Rattle.vt_disk.specs.Disk.{SameBut, ChangesAt, Only}
 use Rattle.vt_disk.specs.DeviceCalls.{DeviceCall, TouchedBy, bytes_after}
 use Rattle.vt_disk.specs.DeviceCalls.DeviceCall.{write, sync}
 use Rattle.vt_disk.specs.Members.{DiskOf}
 use Rattle.vt_disk.specs.Region.{Inside}
-use Rattle.vt_twin.specs.Calls.{call_at, number_of}
-use Rattle.vt_twin.specs.Frames.{HasRoom, selector_start, selector_len, selector_bytes}
-use Rattle.vt_twin.specs.Twin.{TwinState, after_call, after_fault, calls_made, next_frame}
+use Rattle.vt_twin.specs.Calls.{call_at, stage_number}
+use Rattle.vt_twin.specs.Frames.{FitsTwin, selector_start, selector_len, selector_bytes}
+use Rattle.vt_twin.specs.Twin.{TwinState, after_call, twin_after_fault, twin_calls_made, next_frame}
 use Rattle.vt_twin.specs.declared.calls.Stage.{Stage}
 use Rattle.vt_twin.specs.declared.calls.Stage.TheVariants.{SyncFrame, WriteSelector as SelectorWrite}
-use Rattle.vt_twin.specs.Sound.{IsSound}
+use Rattle.vt_twin.specs.Sound.{IsSoundTwin}
 use Rattle.vt_isect.specs.declared.groups.Member.{Member}
 use Rattle.vt_isect.specs.declared.head.Head.{Head}
 use Rattle.vt_isect.specs.declared.phase.Phase.{Phase}
 use Rattle.vt_isect.specs.declared.phase.Phase.TheVariants.{SyncFrames, WriteSelector, SyncSelectors}
-use Rattle.vt_isect.specs.Layout.{place_of, IsPlaceOf, InRange}
+use Rattle.vt_isect.specs.Layout.{bucket_place, IsBucketPlace, InRange}
 use Rattle.vt_isect.specs.Section.{SectionState, HasGroup, IsChanging, IsGroup, IsOfGroup, IsWell}
-use Rattle.vt_isect.specs.Sound.{Known, HasCome, HoldsBucket, IsSoundSection, made_of}
+use Rattle.vt_isect.specs.Sound.{KnownBuckets, HasCome, HoldsBucket, IsSoundSection, made_of}
 use Rattle.vt_isect.specs.Writeback.{ComesNext, NextPhase, selector_write}
 use Rattle.vt_isect.proofs.IsSoundSection.{KeepsGroup, group_stands, same_group, still_at, still_member, still_of, then_member, then_of, whole_goes}
 use Rattle.vt_isect.proofs.IsRead.{whole_bucket, whole_puts}
@@ -36,21 +36,21 @@ module _ {D : Type 0} (t u : SectionState D) (keeps : KeepsGroup t u) (group : I
     (read reads : List ℕ) (images after : List ℕ → Type 0) where
   -- a call of a member's change, which then has come further or failed
   module _ (n : ℕ) (entries : List Entry) (within : InRange t.head t.buckets n) (it : HoldsBucket t n entries read images) (at : Stands t n)
-      (stage : Stage) (made : made_of t.phase at.0 ≡ number_of stage) (call : DeviceCall)
-      (own : call_at (number_of stage) it.region it.twin.frame_len it.twin.current (next_frame it.twin) ≡ call)
+      (stage : Stage) (made : made_of t.phase at.0 ≡ stage_number stage) (call : DeviceCall)
+      (own : call_at (stage_number stage) it.region it.twin.frame_len it.twin.current (next_frame it.twin) ≡ call)
       (same : SameBut (TouchedBy call) read reads) (changes : ChangesAt (TouchedBy call) images after) where
     come : HasCome t n entries it.twin at.0 at.1
     come = it.changing at.0 at.1 at.3 at.2
 
-    its_room : HasRoom it.region it.twin.frame_len size
+    its_room : FitsTwin it.region it.twin.frame_len size
     its_room = place_room it.twin.frame_len size t.buckets t.head n it.region it.frame_len room within it.place
 
     comes : (next : TwinState) → next.current ≡ it.twin.current → next_frame next ≡ next_frame it.twin → next.frame_len ≡ it.twin.frame_len
-        → calls_made next ≡ made_of u.phase at.0 → (u.stopped ≡ None → next.failed ≡ it.twin.failed)
-        → IsSound next it.region it.frame reads after → HoldsBucket u n entries reads after
+        → twin_calls_made next ≡ made_of u.phase at.0 → (u.stopped ≡ None → next.failed ≡ it.twin.failed)
+        → IsSoundTwin next it.region it.frame reads after → HoldsBucket u n entries reads after
     comes next current frame len now goes sound = record {
       region = it.region;
-      place = subst (λ (h : Head). IsPlaceOf (n - h.first) it.region) (sym keeps.section.head) it.place;
+      place = subst (λ (h : Head). IsBucketPlace (n - h.first) it.region) (sym keeps.section.head) it.place;
       twin = next;
       frame = it.frame;
       frame_len = len ∙ it.frame_len;
@@ -66,21 +66,21 @@ module _ {D : Type 0} (t u : SectionState D) (keeps : KeepsGroup t u) (group : I
             goes = λ none. goes none ∙ was.goes keeps.goes;
             whole = ap (λ (l : List ℕ). length l) frame ∙ was.whole;
             new = was.new;
-            spelled = subst (λ (f : List ℕ). IsFrame n was.new f) (sym frame) was.spelled;
+            spelled = subst (λ (f : List ℕ). IsBucketFrame n was.new f) (sym frame) was.spelled;
             merges = same_group entries was.new (IsOfGroup t n) (IsOfGroup u n) (then_of t u keeps n) (still_of t u keeps n) was.merges;
           };
     }
 
     pub member_stops : u.phase ≡ t.phase → IsSome u.stopped → HoldsBucket u n entries reads after
-    member_stops is stopped = comes (after_fault it.twin) refl refl refl (come.made ∙ ap (λ (p : Phase). made_of p at.0) (sym is)) (λ none. absurd (cc))
+    member_stops is stopped = comes (twin_after_fault it.twin) refl refl refl (come.made ∙ ap (λ (p : Phase). made_of p at.0) (sym is)) (λ none. absurd (cc))
         (own_fails it.twin it.region size its_room stage (come.made ∙ made) (come.whole ∙ sym it.frame_len) call own it.frame read reads images after same changes it.sound)
 
-    pub member_goes : made_of u.phase at.0 ≡ number_of stage + 1 → length read ≡ size → reads ≡ bytes_after call read → (call ≡ sync → Only reads after)
+    pub member_goes : made_of u.phase at.0 ≡ stage_number stage + 1 → length read ≡ size → reads ≡ bytes_after call read → (call ≡ sync → Only reads after)
         → HoldsBucket u n entries reads after
     member_goes now fits bytes settled = comes (after_call it.twin) refl refl refl (omega (arith, come.made, made, now)) (λ none. refl)
         (own_goes it.twin it.region size its_room stage (come.made ∙ made) (come.whole ∙ sym it.frame_len) call own it.frame read reads images after same changes it.sound fits bytes settled)
 
-  module _ (known : Known) (whole : HasGroup u.phase) (sound : IsSoundSection t known read images) where
+  module _ (known : KnownBuckets) (whole : HasGroup u.phase) (sound : IsSoundSection t known read images) where
     -- ---- a sync
 
     module _ (same : SameBut (TouchedBy sync) read reads) (changes : ChangesAt (TouchedBy sync) images after) where
@@ -109,7 +109,7 @@ module _ {D : Type 0} (t u : SectionState D) (keeps : KeepsGroup t u) (group : I
       in_it : InRange t.head t.buckets m.bucket
       in_it = (group.members m (at_member t.group j m at)).0
 
-      inside : (i : ℕ) → TouchedBy (selector_write t (Some m)) i → Inside (place_of (m.bucket - t.head.first)) i
+      inside : (i : ℕ) → TouchedBy (selector_write t (Some m)) i → Inside (bucket_place (m.bucket - t.head.first)) i
       inside = selector_inside t size room group j m at
 
       own : (entries : List Entry) (it : HoldsBucket t m.bucket entries read images)

@@ -7,18 +7,18 @@ use Rattle.vt_base.specs.declared.place.Entry.{Entry}
 use Rattle.vt_disk.specs.Disk.{AreAmong, Only}
 use Rattle.vt_model.specs.History.{History}
 use Rattle.vt_model.specs.Places.{Setup}
-use Rattle.vt_twin.specs.Twin.{fresh, after_last, calls_made, next_frame}
+use Rattle.vt_twin.specs.Twin.{fresh, twin_after_last, twin_calls_made, next_frame}
 use Rattle.vt_twin.specs.declared.step.Step.TheVariants.{More}
 use Rattle.vt_twin.proofs.Changes.{begun_bound}
 use Rattle.vt_twin.proofs.Sound.{reads_sound}
-use Rattle.vt_isect.specs.Agreement.{HasBlock, IsCovered, KnownAgrees, NoOthers}
+use Rattle.vt_isect.specs.Agreement.{HasBlock, IsMarkCovered, KnownAgrees, NoOthers}
 use Rattle.vt_isect.specs.declared.head.Head.{Head}
 use Rattle.vt_isect.specs.declared.phase.Phase.{Phase}
 use Rattle.vt_isect.specs.declared.phase.Phase.TheVariants.{Rest, ReadFrame, WriteFrame, SyncSelectors, ChangeHead}
-use Rattle.vt_isect.specs.Layout.{head_place, IsPlaceOf, InRange}
+use Rattle.vt_isect.specs.Layout.{head_place, IsBucketPlace, InRange}
 use Rattle.vt_isect.specs.Merging.{Merges}
 use Rattle.vt_isect.specs.Section.{SectionState, IsChanging, IsGroup, IsOfGroup, IsTodo, PutsEntries, bucket_number}
-use Rattle.vt_isect.specs.Sound.{Known, HoldsBucket, IsSoundSection, made_of}
+use Rattle.vt_isect.specs.Sound.{KnownBuckets, HoldsBucket, IsSoundSection, made_of}
 use Rattle.vt_isect.specs.Writeback.{Follows}
 use Rattle.vt_isect.proofs.AgreesWith.{merged_blocks, merged_has}
 use Rattle.vt_isect.proofs.IsSoundSection.{SameStanding, apart_stands, holds_as, reads_pass, section_as}
@@ -26,7 +26,7 @@ use Rattle.vt_isect.proofs.KnownAgrees.{its_bucket}
 use Rattle.vt_isect.proofs.Members.{Stands, standing}
 use Rattle.vt_isect.proofs.Twins.{given_up, selector_settles}
 
-module _ {D : Type 0} (t u : SectionState D) (known : Known) (read reads : List ℕ) (images after : List ℕ → Type 0)
+module _ {D : Type 0} (t u : SectionState D) (known : KnownBuckets) (read reads : List ℕ) (images after : List ℕ → Type 0)
     (name : u.name ≡ t.name) (head : u.head ≡ t.head) (buckets : u.buckets ≡ t.buckets) (twin : u.head_twin ≡ t.head_twin)
     (rest : u.phase ≡ Rest) (goes : t.stopped ≡ None) (no_head : t.phase ≢ ChangeHead)
     (same : reads ≡ read) (among : AreAmong after images) (sound : IsSoundSection t known read images) where
@@ -36,7 +36,7 @@ module _ {D : Type 0} (t u : SectionState D) (known : Known) (read reads : List 
   apart_still : (n : ℕ) → ¬ IsChanging t n → SameStanding t u n
   apart_still n still = apart_stands t u n (ap (λ (h : Head). h.first) head) still (never n) (λ none. goes)
 
-  rests : (knows : Known) → ((n : ℕ) (entries : List Entry) → InRange t.head t.buckets n → knows n ≡ Some entries → HoldsBucket u n entries reads after)
+  rests : (knows : KnownBuckets) → ((n : ℕ) (entries : List Entry) → InRange t.head t.buckets n → knows n ≡ Some entries → HoldsBucket u n entries reads after)
       → IsSoundSection u knows reads after
   rests knows holds = section_as t u known knows read reads images after name head buckets twin no_head
       (λ e. let no : Rest ≡ ChangeHead = sym rest ∙ e in cc)
@@ -51,10 +51,10 @@ module _ {D : Type 0} (t u : SectionState D) (known : Known) (read reads : List 
   ended few n entries it (inr still) = holds_as t u n entries read reads images after (apart_still n still) (λ region place. reads_pass region read reads images after same among) it
   ended few n entries it (inl at) =
       let come = it.changing at.0 at.1 at.3 at.2 in
-      let one : calls_made it.twin ≤ 1 = omega (arith, come.made, few at.0) in
+      let one : twin_calls_made it.twin ≤ 1 = omega (arith, come.made, few at.0) in
       record {
         region = it.region;
-        place = subst (λ (h : Head). IsPlaceOf (n - h.first) it.region) (sym head) it.place;
+        place = subst (λ (h : Head). IsBucketPlace (n - h.first) it.region) (sym head) it.place;
         twin = fresh it.twin.frame_len it.twin.current;
         frame = it.frame;
         frame_len = it.frame_len;
@@ -83,14 +83,14 @@ module _ {D : Type 0} (t u : SectionState D) (known : Known) (read reads : List 
         let within : InRange t.head t.buckets n = subst (InRange t.head t.buckets) at.3.2 (group.members at.1 at.3.1).0 in
         let it = sound.bucket n old within is in
         let come = it.changing at.0 at.1 at.3 at.2 in
-        let three : calls_made it.twin ≡ 3 = come.made ∙ ap (λ (p : Phase). made_of p at.0) phase in (
+        let three : twin_calls_made it.twin ≡ 3 = come.made ∙ ap (λ (p : Phase). made_of p at.0) phase in (
           come.new,
           (
             come.merges,
             record {
               region = it.region;
-              place = subst (λ (h : Head). IsPlaceOf (n - h.first) it.region) (sym head) it.place;
-              twin = after_last it.twin;
+              place = subst (λ (h : Head). IsBucketPlace (n - h.first) it.region) (sym head) it.place;
+              twin = twin_after_last it.twin;
               frame = next_frame it.twin;
               frame_len = it.frame_len;
               sound = selector_settles it.twin it.region it.frame read reads images after same among settled it.sound three;
@@ -107,7 +107,7 @@ module _ {D : Type 0} (t u : SectionState D) (known : Known) (read reads : List 
     pick n (inl at) (Some old) is = Some (merged_of n at old is).0
     pick n (inr still) o is = o
 
-    pub knows : Known
+    pub knows : KnownBuckets
     knows n = pick n (standing t n) (known n) refl
 
     seen : (n : ℕ) (entries : List Entry) (s : Stands t n ⊎ ¬ IsChanging t n) (o : Option (List Entry)) (is : known n ≡ o) → pick n s o is ≡ Some entries
@@ -167,8 +167,8 @@ module _ {D : Type 0} (t u : SectionState D) (known : Known) (read reads : List 
 
       covered : (others more : Entry → Type 0) (mark : ℕ)
           → ((entry : Entry) → others entry → IsOfGroup t (bucket_number t entry) entry ⊎ more entry)
-          → IsCovered score c h t known others mark
-          → IsCovered score c h v knows more mark
+          → IsMarkCovered score c h t known others mark
+          → IsMarkCovered score c h v knows more mark
       covered others more mark split cover = record {
         fits = cover.fits;
         has = λ n i entries within holds below at. ⊎_elim
@@ -210,8 +210,8 @@ module _ {D : Type 0} (t u : SectionState D) (known : Known) (read reads : List 
             (λ old. agrees.blocks n entries entry (here n within) old.1 has)
             (sees n entries holds);
         todo = λ entry way. agrees.todo entry (back entry way);
-        filed = λ live. subst (λ (m : ℕ). IsCovered score c h v knows NoOthers m) (sym (ap (λ (x : Head). x.mark) v_head))
+        filed = λ live. subst (λ (m : ℕ). IsMarkCovered score c h v knows NoOthers m) (sym (ap (λ (x : Head). x.mark) v_head))
             (covered NoOthers NoOthers t.head.mark (λ entry no. absurd no) (agrees.filed (sym (ap (λ (x : Head). x.state) v_head) ∙ live)));
-        coming = λ live. subst (λ (m : ℕ). IsCovered score c h v knows (IsTodo v) m) (sym (ap (λ (x : Head). x.mark) v_next))
+        coming = λ live. subst (λ (m : ℕ). IsMarkCovered score c h v knows (IsTodo v) m) (sym (ap (λ (x : Head). x.mark) v_next))
             (covered (IsTodo t) (IsTodo v) t.next.mark forth (agrees.coming (sym (ap (λ (x : Head). x.state) v_next) ∙ live)));
       }

@@ -3,27 +3,27 @@ use Rattle.std.proofs.Common.{◌≡◌, ◌≢◌, ⊎_elim, ℕ, ◌+◌, ◌-
 use Rattle.std.proofs.lemmas.Bool.{cases_eq, cases_Bool}
 use borrow.Author.Tests.{eqb-true, eqb-false}
 use Rattle.vt_base.specs.declared.place.Entry.{Entry}
-use Rattle.vt_bucket.specs.Frame.{IsFrame}
+use Rattle.vt_bucket.specs.Frame.{IsBucketFrame}
 use Rattle.vt_disk.specs.declared.region.Region.{Region}
 use Rattle.vt_disk.specs.Disk.{SameBut, Only}
 use Rattle.vt_disk.specs.Region.{Inside, ChangesWithin}
 use Rattle.vt_twin.specs.Frames.{frame_of, named_number, current_frame}
 use Rattle.vt_twin.specs.Twin.{fresh}
 use Rattle.vt_isect.specs.declared.phase.Phase.TheVariants.{Rest}
-use Rattle.vt_isect.specs.Layout.{head_place, IsPlaceOf, InRange}
+use Rattle.vt_isect.specs.Layout.{head_place, IsBucketPlace, InRange}
 use Rattle.vt_isect.specs.Section.{SectionState, IsChanging, PutsEntries}
-use Rattle.vt_isect.specs.Sound.{Known, HoldsBucket, IsSoundSection, with_bucket}
+use Rattle.vt_isect.specs.Sound.{KnownBuckets, HoldsBucket, IsSoundSection, with_bucket}
 use Rattle.vt_isect.proofs.IsSoundSection.{others_pass, bucket_passes}
 use Rattle.vt_isect.proofs.Places.{head_room, place_room, head_apart, places_apart}
 
 -- what is known of this bucket, and of another
-pub with_here : (known : Known) (n : ℕ) (o : Option (List Entry)) → with_bucket n o known n ≡ o
+pub with_here : (known : KnownBuckets) (n : ℕ) (o : Option (List Entry)) → with_bucket n o known n ≡ o
 with_here known n o = ⊎_elim
     (λ (yes : eqb n n ≡ true). ap (λ (b : Bool). cond b o (known n)) yes)
     (λ (other : eqb n n ≡ false). absurd (eqb-false n n other refl))
     (cases_Bool (eqb n n))
 
-pub with_there : (known : Known) (n k : ℕ) (o : Option (List Entry)) → k ≢ n → with_bucket n o known k ≡ known k
+pub with_there : (known : KnownBuckets) (n k : ℕ) (o : Option (List Entry)) → k ≢ n → with_bucket n o known k ≡ known k
 with_there known n k o there = ⊎_elim
     (λ (yes : eqb k n ≡ true). absurd (there (eqb-true k n yes)))
     (λ (other : eqb k n ≡ false). ap (λ (b : Bool). cond b o (known k)) other)
@@ -31,7 +31,7 @@ with_there known n k o there = ⊎_elim
 
 -- a settled bucket
 pub settled_holds : {D : Type 0} (t : SectionState D) (n : ℕ) (region : Region) (entries : List Entry) (reads : List ℕ) (after : List ℕ → Type 0)
-    → ¬ IsChanging t n → IsPlaceOf (n - t.head.first) region → Only reads after → IsFrame n entries (current_frame region 8192 reads)
+    → ¬ IsChanging t n → IsBucketPlace (n - t.head.first) region → Only reads after → IsBucketFrame n entries (current_frame region 8192 reads)
     → HoldsBucket t n entries reads after
 settled_holds t n region entries reads after still place only spelled = record {
   region = region;
@@ -54,11 +54,11 @@ settled_holds t n region entries reads after still place only spelled = record {
 
 module _ {D : Type 0} (t : SectionState D) (d : D) (n : ℕ) (region : Region) (size : ℕ) (read reads : List ℕ) (images after : List ℕ → Type 0)
     (rest : t.phase ≡ Rest) (room : 24576 + 16896 * t.buckets ≤ size) (in_it : InRange t.head t.buckets n)
-    (place : IsPlaceOf (n - t.head.first) region) (same : SameBut (Inside region) read reads) (changes : ChangesWithin region images after) where
+    (place : IsBucketPlace (n - t.head.first) region) (same : SameBut (Inside region) read reads) (changes : ChangesWithin region images after) where
   still : (k : ℕ) → ¬ IsChanging t k
   still k way = subst PutsEntries rest way.1.0
 
-  known_sound : (known knows : Known) → ((k : ℕ) → k ≢ n → knows k ≡ known k)
+  known_sound : (known knows : KnownBuckets) → ((k : ℕ) → k ≢ n → knows k ≡ known k)
       → ((entries : List Entry) → knows n ≡ Some entries → HoldsBucket (record t { disk = d }) n entries reads after)
       → IsSoundSection t known read images → IsSoundSection (record t { disk = d }) knows reads after
   known_sound known knows others here sound = record {
@@ -85,6 +85,6 @@ module _ {D : Type 0} (t : SectionState D) (d : D) (n : ℕ) (region : Region) (
   none_some : (entries : List Entry) → None ≡ Some entries → ⊥
   none_some entries e = cc
 
-  pub others_sound : (known : Known) → IsSoundSection t known read images → IsSoundSection (record t { disk = d }) (with_bucket n None known) reads after
+  pub others_sound : (known : KnownBuckets) → IsSoundSection t known read images → IsSoundSection (record t { disk = d }) (with_bucket n None known) reads after
   others_sound known = known_sound known (with_bucket n None known) (λ k there. with_there known n k None there)
       (λ entries is. absurd (none_some entries (sym (with_here known n None) ∙ is)))

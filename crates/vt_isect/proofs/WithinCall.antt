@@ -8,16 +8,16 @@ use Rattle.vt_model.specs.History.{History}
 use Rattle.vt_model.specs.Places.{Setup}
 use Rattle.vt_twin.specs.declared.step.Step.{Step}
 use Rattle.vt_twin.specs.declared.step.Step.TheVariants.{More, Done}
-use Rattle.vt_isect.specs.declared.bad.ShardErr.{ShardErr}
-use Rattle.vt_isect.specs.declared.bad.ShardErr.TheVariants.{Fault, Damaged, Stopped}
+use Rattle.vt_isect.specs.declared.error.ShardErr.{ShardErr}
+use Rattle.vt_isect.specs.declared.error.ShardErr.TheVariants.{Fault, Damaged, Stopped}
 use Rattle.vt_isect.specs.declared.head.Head.{Head}
 use Rattle.vt_isect.specs.declared.phase.Phase.{Phase}
 use Rattle.vt_isect.specs.declared.phase.Phase.TheVariants.{Rest, ReadSelector, ReadFrame, WriteFrame, SyncFrames, WriteSelector, SyncSelectors, ChangeHead}
 use Rattle.vt_isect.specs.Agreement.{KnownAgrees, LeavesAgreeing}
 use Rattle.vt_isect.specs.Layout.{InRange}
 use Rattle.vt_isect.specs.Section.{SectionState, IsChanging}
-use Rattle.vt_isect.specs.Sound.{Known, IsWhole, IsSoundSection, LeavesSection}
-use Rattle.vt_isect.specs.Writeback.{Advances, Completes, EndsWith, Follows, GoesOn}
+use Rattle.vt_isect.specs.Sound.{KnownBuckets, KnowsEachBucket, IsSoundSection, LeavesSection}
+use Rattle.vt_isect.specs.Writeback.{SectionAdvances, Completes, EndsWith, Follows, SectionGoesOn}
 use Rattle.vt_isect.proofs.AgreesWith.{leaves_agree}
 use Rattle.vt_isect.proofs.Follows.{KeepsAt}
 use Rattle.vt_isect.proofs.LeavesSection.{leaves, changing}
@@ -37,7 +37,7 @@ ends t u head first it = record {
   name = it.section.name;
 }
 
-goes : {D : Type 0} (t u : SectionState D) → t.next.first ≡ t.head.first → GoesOn t u → Stands t u
+goes : {D : Type 0} (t u : SectionState D) → t.next.first ≡ t.head.first → SectionGoesOn t u → Stands t u
 goes t u first it = record {
   first = ap (λ (x : Head). x.first) it.head_is;
   next = ap (λ (x : Head). x.first) it.next_is ∙ first ∙ sym (ap (λ (x : Head). x.first) it.head_is);
@@ -45,7 +45,7 @@ goes t u first it = record {
   name = it.section.name;
 }
 
-pub stands : {D : Type 0} (result : Result Step ShardErr) (t u : SectionState D) → t.next.first ≡ t.head.first → Advances result t u → Stands t u
+pub stands : {D : Type 0} (result : Result Step ShardErr) (t u : SectionState D) → t.next.first ≡ t.head.first → SectionAdvances result t u → Stands t u
 stands (Ok More) t u first it = goes t u first it.0
 stands (Ok Done) t u first it = ends t u t.next first it.2
 stands (Err Fault) t u first it = ⊎_elim (λ end. ends t u t.head refl end.1) (λ stop. goes t u first stop.1) it
@@ -85,8 +85,8 @@ completes_or result t n = ⊎_elim
     (is_more result)
 
 module _ {D : Type 0} (result : Result Step ShardErr) (t u : SectionState D) (read reads : List ℕ) (images after : List ℕ → Type 0)
-    (keeps : KeepsAt result t u read images reads after) (steps : Advances result t u) where
-  still_whole : (known knows : Known) → Stands t u → Follows result t u known knows → IsWhole t known → IsWhole u knows
+    (keeps : KeepsAt result t u read images reads after) (steps : SectionAdvances result t u) where
+  still_whole : (known knows : KnownBuckets) → Stands t u → Follows result t u known knows → KnowsEachBucket t known → KnowsEachBucket u knows
   still_whole known knows at follows whole n within =
       let here : InRange t.head t.buckets n = subst (λ (b : ℕ). (t.head.first ≤ n) × (n < t.head.first + b)) at.buckets
       (subst (λ (k : ℕ). (k ≤ n) × (n < k + u.buckets)) at.first within) in
@@ -101,8 +101,8 @@ module _ {D : Type 0} (result : Result Step ShardErr) (t u : SectionState D) (re
           let it = follows.merged n old at.first done is in
           subst (λ (o : Option (List Entry)). IsSome o) (sym it.1) refl
 
-  pub crash_within : (known : Known) → IsSoundSection t known read images → IsWhole t known → t.next.first ≡ t.head.first
-      → (knows : Known) × Follows result t u known knows
+  pub crash_within : (known : KnownBuckets) → IsSoundSection t known read images → KnowsEachBucket t known → t.next.first ≡ t.head.first
+      → (knows : KnownBuckets) × Follows result t u known knows
       × ((file : List ℕ) → WithinCall images after file → LeavesSection t known file ⊎ LeavesSection u knows file)
   crash_within known sound whole first =
       let at = stands result t u first steps in
@@ -115,8 +115,8 @@ module _ {D : Type 0} (result : Result Step ShardErr) (t u : SectionState D) (re
             within,
       )
 
-  pub agrees_within : (score : List ℕ → List ℕ) (c : Setup) (h : History) (known : Known) → IsSoundSection t known read images → KnownAgrees score c h t known
-      → (knows : Known) × Follows result t u known knows
+  pub agrees_within : (score : List ℕ → List ℕ) (c : Setup) (h : History) (known : KnownBuckets) → IsSoundSection t known read images → KnownAgrees score c h t known
+      → (knows : KnownBuckets) × Follows result t u known knows
       × ((file : List ℕ) → WithinCall images after file → LeavesAgreeing score c h t known file ⊎ LeavesAgreeing score c h u knows file)
   agrees_within score c h known sound agrees =
       let it = keeps known sound in

@@ -7,13 +7,13 @@ use Rattle.vt_disk.specs.Members.{DiskOf}
 use Rattle.std.proofs.lemmas.List.{length-replicate}
 use Rattle.vt_disk.proofs.Bytes.{part-with_bytes, length-with_bytes}
 use Rattle.vt_twin.specs.Formatting.{TouchedByFirst}
-use Rattle.vt_twin.specs.Frames.{HasRoom, frame_of, selector_of, selector_start, selector_len, selector_bytes, current_frame}
+use Rattle.vt_twin.specs.Frames.{FitsTwin, frame_of, selector_of, selector_start, selector_len, selector_bytes, current_frame}
 use Rattle.vt_twin.proofs.EndsFormat.{frame_writes, both_write, first_writes_within, framed, formatted, formatted_frame, formatted_idle, formatted_current, frame_is_whole}
 
 -- a frame of 8,192 bytes in the place of a bucket
-module _ (place : Region) (frame : List ℕ) (size : ℕ) (len : length frame ≡ 8192) (place_len : place.len ≡ 16896) (room : HasRoom place 8192 size) where
-  own : HasRoom place (length frame) size
-  own = subst (λ (n : ℕ). HasRoom place n size) (sym len) room
+module _ (place : Region) (frame : List ℕ) (size : ℕ) (len : length frame ≡ 8192) (place_len : place.len ≡ 16896) (room : FitsTwin place 8192 size) where
+  own : FitsTwin place (length frame) size
+  own = subst (λ (n : ℕ). FitsTwin place n size) (sym len) room
 
   start_is : place.start + 16384 ≡ selector_start place (length frame)
   start_is = omega (arith, len)

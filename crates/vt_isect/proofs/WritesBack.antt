@@ -5,19 +5,19 @@ use Rattle.std.specs.List.{Contains}
 use Rattle.vt_base.specs.declared.place.Entry.{Entry}
 use Rattle.vt_twin.specs.declared.step.Step.{Step}
 use Rattle.vt_twin.specs.declared.step.Step.TheVariants.{More, Done}
-use Rattle.vt_isect.specs.declared.bad.ShardErr.{ShardErr}
-use Rattle.vt_isect.specs.declared.bad.ShardErr.TheVariants.{Fault, Damaged, Stopped}
+use Rattle.vt_isect.specs.declared.error.ShardErr.{ShardErr}
+use Rattle.vt_isect.specs.declared.error.ShardErr.TheVariants.{Fault, Damaged, Stopped}
 use Rattle.vt_isect.specs.declared.phase.Phase.{Phase}
 use Rattle.vt_isect.specs.declared.phase.Phase.TheVariants.{Rest, ReadSelector, ReadFrame, WriteFrame, SyncFrames, WriteSelector, SyncSelectors, ChangeHead}
 use Rattle.vt_isect.specs.Section.{SectionState, HasGroup, IsOfGroup, PutsEntries, bucket_number, entries_of}
-use Rattle.vt_isect.specs.Writeback.{Advances, BeginsGroup, BeginsHead, Completes, NextPhase, WritesBack}
+use Rattle.vt_isect.specs.Writeback.{SectionAdvances, BeginsGroup, BeginsHead, Completes, NextPhase, WritesEntryBack}
 use Rattle.vt_isect.proofs.AreNext.{none_written}
 use Rattle.vt_isect.proofs.Members.{Groups}
 
 module _ {D : Type 0} (old new : SectionState D) (group : Groups old) (entry : Entry) where
   -- what the step writes back
   abbrev Wrote : Result Step ShardErr → Type 0
-  Wrote result = WritesBack old new entry
+  Wrote result = WritesEntryBack old new entry
       ↔ (Completes result old (bucket_number old entry) × IsOfGroup old (bucket_number old entry) entry)
 
   -- nothing, where as many are written and no bucket is completed
@@ -55,7 +55,7 @@ module _ {D : Type 0} (old new : SectionState D) (group : Groups old) (entry : E
       next)
   more ChangeHead is next = nothing (Ok More) next.3.written (λ done. let e = done.1 in cc)
 
-  pub wrote_is : (result : Result Step ShardErr) → Advances result old new → Wrote result
+  pub wrote_is : (result : Result Step ShardErr) → SectionAdvances result old new → Wrote result
   wrote_is (Ok More) steps = more old.phase refl steps.2
   wrote_is (Ok Done) steps = nothing (Ok Done) steps.2.written (λ done. let e = done.0 in cc)
   wrote_is (Err Fault) steps = nothing (Err Fault)

@@ -10,7 +10,7 @@ use Rattle.vt_model.specs.Places.{Setup, Spot, StandsAt, bucket_of, bucket_count
 use Rattle.vt_isect.specs.declared.head.Head.{Head}
 use Rattle.vt_isect.specs.Layout.{InRange}
 use Rattle.vt_isect.specs.Section.{SectionState, IsTodo}
-use Rattle.vt_isect.specs.Sound.{Known, IsWhole, LeavesSection}
+use Rattle.vt_isect.specs.Sound.{KnownBuckets, KnowsEachBucket, LeavesSection}
 
 -- the entry of block i: its score, type, size and place
 pub record IsEntryOf (score : List ℕ → List ℕ) (c : Setup) (h : History) (i : ℕ) (entry : Entry)
@@ -25,8 +25,8 @@ pub record IsEntryOf (score : List ℕ → List ℕ) (c : Setup) (h : History) (
   pub offset_is : entry.place.offset ≡ spot.offset
 
 -- the entry of some block
-abbrev pub IsOfBlock : (List ℕ → List ℕ) → Setup → History → Entry → Type 0
-IsOfBlock score c h entry = (i : ℕ) × IsEntryOf score c h i entry
+abbrev pub IsEntryOfBlock : (List ℕ → List ℕ) → Setup → History → Entry → Type 0
+IsEntryOfBlock score c h entry = (i : ℕ) × IsEntryOf score c h i entry
 
 -- block i has its entry among these
 abbrev pub HasBlock : (List ℕ → List ℕ) → Setup → History → (entries : Entry → Type 0) → ℕ → Type 0
@@ -47,7 +47,7 @@ pub record AgreesWith (score : List ℕ → List ℕ) (c : Setup) (h : History) 
   pub total : head.total ≡ bucket_count c
   -- each entry is that of a block, in its bucket, and they are in order
   pub blocks : (n : ℕ) (entry : Entry) → InRange head buckets n → Contains (entries n) entry
-      → IsOfBlock score c h entry × (bucket_of (bucket_count c) entry.key.score.0 ≡ n)
+      → IsEntryOfBlock score c h entry × (bucket_of (bucket_count c) entry.key.score.0 ≡ n)
   pub ascending : (n : ℕ) → InRange head buckets n → IsAscending (entries n)
   -- each block below the mark has its entry
   pub filed : (n i : ℕ) → InRange head buckets n → i < head.mark → IsInBucket score c h n i
@@ -56,8 +56,8 @@ pub record AgreesWith (score : List ℕ → List ℕ) (c : Setup) (h : History) 
 
 -- Each block below this mark that belongs to the section has its entry in its bucket, by what is
 -- known, or among some others.
-pub record IsCovered {D : Type 0} (score : List ℕ → List ℕ) (c : Setup) (h : History)
-    (t : SectionState D) (known : Known) (others : Entry → Type 0) (mark : ℕ) : Type 0 where
+pub record IsMarkCovered {D : Type 0} (score : List ℕ → List ℕ) (c : Setup) (h : History)
+    (t : SectionState D) (known : KnownBuckets) (others : Entry → Type 0) (mark : ℕ) : Type 0 where
   pub fits : mark ≤ length h
   pub has : (n i : ℕ) (entries : List Entry) → InRange t.head t.buckets n → known n ≡ Some entries
       → i < mark → IsInBucket score c h n i
@@ -69,21 +69,21 @@ NoOthers entry = ⊥
 -- What is known of a section, with what is under way, agrees with a history. In state 1 the mark
 -- counts: the head's, and that of the head that it gets.
 pub record KnownAgrees {D : Type 0} (score : List ℕ → List ℕ) (c : Setup) (h : History)
-    (t : SectionState D) (known : Known) : Type 0 where
+    (t : SectionState D) (known : KnownBuckets) : Type 0 where
   pub keys : AllPairs (HasOtherKey score) h
   pub total : t.head.total ≡ bucket_count c
   pub same_first : t.next.first ≡ t.head.first
   pub same_total : t.next.total ≡ t.head.total
-  pub whole : IsWhole t known
+  pub whole : KnowsEachBucket t known
   pub blocks : (n : ℕ) (entries : List Entry) (entry : Entry) → InRange t.head t.buckets n
       → known n ≡ Some entries → Contains entries entry
-      → IsOfBlock score c h entry × (bucket_of (bucket_count c) entry.key.score.0 ≡ n)
-  pub todo : (entry : Entry) → IsTodo t entry → IsOfBlock score c h entry
-  pub filed : t.head.state ≡ 1 → IsCovered score c h t known NoOthers t.head.mark
-  pub coming : t.next.state ≡ 1 → IsCovered score c h t known (IsTodo t) t.next.mark
+      → IsEntryOfBlock score c h entry × (bucket_of (bucket_count c) entry.key.score.0 ≡ n)
+  pub todo : (entry : Entry) → IsTodo t entry → IsEntryOfBlock score c h entry
+  pub filed : t.head.state ≡ 1 → IsMarkCovered score c h t known NoOthers t.head.mark
+  pub coming : t.next.state ≡ 1 → IsMarkCovered score c h t known (IsTodo t) t.next.mark
 
 -- What a crash leaves is a section, and in state 1 it agrees with the history.
 abbrev pub LeavesAgreeing : {D : Type 0} → (List ℕ → List ℕ) → Setup → History → SectionState D
-    → Known → (file : List ℕ) → Type 0
+    → KnownBuckets → (file : List ℕ) → Type 0
 LeavesAgreeing score c h t known file = (left : LeavesSection t known file)
     × (left.0.state ≡ 1 → AgreesWith score c h t.buckets left.0 left.1)

@@ -11,8 +11,8 @@ pub record EntriesState : Type 0 where
   pub room : ℕ
 
 -- the entries, or none where there is no list
-abbrev pub items_of : Option EntriesState → List Entry
-items_of entries = option_map_or (λ list. list.items) entries []
+abbrev pub listed_entries : Option EntriesState → List Entry
+listed_entries entries = option_map_or (λ list. list.items) entries []
 
 -- When a bucket has its turn in a writeback that begins behind one: those of higher numbers come
 -- first, in the order of their numbers, and then the others.

@@ -4,14 +4,14 @@
 -- isn't read, and is written as zero.
 use Rattle.std.specs.Prelude.{◌≡◌, ℕ, ◌^◌, ◌<◌, List, ◌∷◌, ◌++◌, codes, length, take}
 use Rattle.byteorder.specs.Endian.{big_bytes}
+use Rattle.vt_base.specs.Filled.{filled}
 use Rattle.vt_disk.specs.declared.TheConstants.{NAME_LEN}
-use Rattle.vt_fields.specs.Filled.{filled}
 use Rattle.vt_isect.specs.declared.TheConstants.{FRAME_LEN, FIELDS_LEN}
 use Rattle.vt_isect.specs.declared.head.Head.{Head}
 
 -- the bytes of a head with this field of a name
-abbrev pub spelled : (name : List ℕ) → Head → List ℕ
-spelled name head = codes "VSEC" ++ (big_bytes 2 1 ++ (head.state ∷ (name
+abbrev pub section_head_bytes : (name : List ℕ) → Head → List ℕ
+section_head_bytes name head = codes "VSEC" ++ (big_bytes 2 1 ++ (head.state ∷ (name
     ++ (big_bytes 4 head.first ++ (big_bytes 4 head.count
     ++ (big_bytes 4 head.total ++ big_bytes 8 head.mark))))))
 
@@ -31,8 +31,8 @@ pub record IsHead (head : Head) : Type 0 where
 pub record IsHeadFrame (name : List ℕ) (head : Head) (frame : List ℕ) : Type 0 where
   pub fits : IsHead head
   pub name_len : length name ≡ NAME_LEN
-  pub spelling : head_of frame ≡ spelled name head
+  pub spelling : head_of frame ≡ section_head_bytes name head
 
 -- the frame that is written
 abbrev pub encoded : (name : List ℕ) → Head → List ℕ
-encoded name head = filled FRAME_LEN (spelled name head)
+encoded name head = filled FRAME_LEN (section_head_bytes name head)

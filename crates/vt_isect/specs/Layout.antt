@@ -3,7 +3,7 @@
 -- project's).
 use Rattle.std.specs.Prelude.{◌≡◌, ℕ, ◌+◌, ◌-◌, ◌*◌, ◌/◌, ◌^◌, ◌<◌, ◌≤◌, min, List}
 use Rattle.vt_base.specs.declared.place.Entry.{Entry}
-use Rattle.vt_bucket.specs.Frame.{IsFrame}
+use Rattle.vt_bucket.specs.Frame.{IsBucketFrame}
 use Rattle.vt_disk.specs.declared.region.Region.{Region}
 use Rattle.vt_twin.specs.Frames.{current_frame}
 use Rattle.vt_isect.specs.declared.TheConstants.{FRAME_LEN, HEAD_PLACE_LEN, BUCKET_PLACE_LEN}
@@ -15,12 +15,12 @@ abbrev pub head_place : Region
 head_place = record { start = 0; len = HEAD_PLACE_LEN }
 
 -- the place of bucket j of a section: two frames of 8,192 bytes and a sector
-abbrev pub place_of : (j : ℕ) → Region
-place_of j = record { start = HEAD_PLACE_LEN + BUCKET_PLACE_LEN * j; len = BUCKET_PLACE_LEN }
+abbrev pub bucket_place : (j : ℕ) → Region
+bucket_place j = record { start = HEAD_PLACE_LEN + BUCKET_PLACE_LEN * j; len = BUCKET_PLACE_LEN }
 
-pub record IsPlaceOf (j : ℕ) (region : Region) : Type 0 where
-  pub start : region.start ≡ (place_of j).start
-  pub len : region.len ≡ (place_of j).len
+pub record IsBucketPlace (j : ℕ) (region : Region) : Type 0 where
+  pub start : region.start ≡ (bucket_place j).start
+  pub len : region.len ≡ (bucket_place j).len
 
 -- How many buckets a section of this length has. Buckets are numbered in four bytes, so that the
 -- end of a disk of more than 64 TiB may be left unused.
@@ -41,5 +41,5 @@ pub record IsSection (name : List ℕ) (head : Head) (buckets : ℕ) (entries : 
     (file : List ℕ) : Type 0 where
   pub head_frame : IsHeadFrame name head (current_frame head_place FRAME_LEN file)
   pub bucket : (n : ℕ) → InRange head buckets n
-      → (region : Region) × IsPlaceOf (n - head.first) region
-      × IsFrame n (entries n) (current_frame region FRAME_LEN file)
+      → (region : Region) × IsBucketPlace (n - head.first) region
+      × IsBucketFrame n (entries n) (current_frame region FRAME_LEN file)

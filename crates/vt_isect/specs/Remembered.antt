@@ -6,7 +6,7 @@ use Rattle.vt_twin.specs.Frames.{named_number}
 use Rattle.vt_isect.specs.declared.TheConstants.{FRAME_LEN}
 use Rattle.vt_isect.specs.declared.phase.Phase.{Phase}
 use Rattle.vt_isect.specs.declared.phase.Phase.TheVariants.{ReadSelector, ReadFrame}
-use Rattle.vt_isect.specs.Layout.{IsPlaceOf}
+use Rattle.vt_isect.specs.Layout.{IsBucketPlace}
 
 -- Two bits tell of a bucket: the higher one that its current frame is remembered, and the lower one
 -- the number of that frame.
@@ -30,7 +30,7 @@ pub record Remembers {D : Type 0} (disk : DiskOf D) (d : D) (buckets : ℕ)
     (frames : List (Option ℕ)) : Type 0 where
   pub each : buckets ≤ length frames
   pub named : (j s : ℕ) (region : Region) → IsTrue disk.tells
-      → slice_get frames j ≡ Some (Some s) → IsPlaceOf j region
+      → slice_get frames j ≡ Some (Some s) → IsBucketPlace j region
       → named_number region FRAME_LEN (disk.bytes d) ≡ s
 
 -- what a writeback does first with a bucket of whose current frame so much is remembered

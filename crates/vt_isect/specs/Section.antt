@@ -6,14 +6,14 @@ use Rattle.vt_disk.specs.declared.TheConstants.{NAME_LEN}
 use Rattle.vt_disk.specs.declared.call.CallCount.{CallCount}
 use Rattle.vt_disk.specs.Members.{DiskOf}
 use Rattle.vt_model.specs.Places.{bucket_of}
-use Rattle.vt_twin.specs.Twin.{Change, TwinState, fresh}
+use Rattle.vt_twin.specs.Twin.{FrameChange, TwinState, fresh}
 use Rattle.vt_isect.specs.declared.TheConstants.{FRAME_LEN, GROUP_MAX, HEAD_PLACE_LEN, BUCKET_PLACE_LEN}
-use Rattle.vt_isect.specs.declared.bad.SectBad.{SectBad}
+use Rattle.vt_isect.specs.declared.error.SectBad.{SectBad}
 use Rattle.vt_isect.specs.declared.groups.Member.{Member}
 use Rattle.vt_isect.specs.declared.head.Head.{Head}
 use Rattle.vt_isect.specs.declared.phase.Phase.{Phase}
 use Rattle.vt_isect.specs.declared.phase.Phase.TheVariants.{Rest, ReadSelector, ReadFrame, WriteFrame, SyncFrames, WriteSelector, SyncSelectors, ChangeHead}
-use Rattle.vt_isect.specs.Entries.{EntriesState, IsOrdered, items_of}
+use Rattle.vt_isect.specs.Entries.{EntriesState, IsOrdered, listed_entries}
 use Rattle.vt_isect.specs.Layout.{InRange}
 use Rattle.vt_isect.specs.Remembered.{Remembers}
 
@@ -45,11 +45,11 @@ pub record SectionState (D : Type 0) : Type 0 where
   pub stopped : Option ℕ
 
 -- those as a count of device calls
-abbrev pub count_of : {D : Type 0} → SectionState D → CallCount
-count_of t = record { made = t.calls; stopped = t.stopped }
+abbrev pub call_count : {D : Type 0} → SectionState D → CallCount
+call_count t = record { made = t.calls; stopped = t.stopped }
 
 abbrev pub entries_of : {D : Type 0} → SectionState D → List Entry
-entries_of t = items_of t.entries
+entries_of t = listed_entries t.entries
 
 -- the entries that are put into the bucket under way
 abbrev pub entering : {D : Type 0} → SectionState D → List Entry
@@ -140,9 +140,10 @@ abbrev pub most_after : (behind : Option ℕ) → ℕ
 most_after behind = if is_some behind then 1 else GROUP_MAX
 
 -- a section that was mounted and has made no call
-abbrev pub mounted : {D : Type 0} → D → (buckets : ℕ) → (name : List ℕ) → Head → (number : ℕ)
+abbrev pub mounted_section : {D : Type 0} → D → (buckets : ℕ) → (name : List ℕ) → Head
+    → (number : ℕ)
     → SectionState D
-mounted disk buckets name head number = record {
+mounted_section disk buckets name head number = record {
   disk = disk;
   buckets = buckets;
   name = name;
@@ -185,7 +186,7 @@ pub record AreNext (total bucket framed begun : ℕ) (entries : List Entry) : Ty
 -- ---- what holds of every section
 
 -- a section at rest isn't stopped, and the head that it gets is its own
-pub record IsIdle {D : Type 0} (t : SectionState D) : Type 0 where
+pub record IsIdleSection {D : Type 0} (t : SectionState D) : Type 0 where
   pub goes : t.stopped ≡ None
   pub next : t.next ≡ t.head
 
@@ -193,7 +194,7 @@ pub record IsIdle {D : Type 0} (t : SectionState D) : Type 0 where
 abbrev pub IsHere : Option (List ℕ) → Type 0
 IsHere buffer = MatchOption buffer ⊥ (λ frame. length frame ≡ FRAME_LEN)
 
-abbrev pub IsLent : Option Change → Type 0
+abbrev pub IsLent : Option FrameChange → Type 0
 IsLent change = MatchOption change ⊥ (λ it. (length it.frame ≡ FRAME_LEN) × (it.made < 4))
 
 pub record HasHeadFrame {D : Type 0} (t : SectionState D) (buffer : Option (List ℕ)) : Type 0 where
@@ -234,6 +235,6 @@ pub record IsWell {D : Type 0} (disk : DiskOf D) (size : ℕ) (t : SectionState 
   pub few : length t.group ≤ t.most
   pub group : PutsEntries t.phase → IsGroup t
   pub alone : ¬ PutsEntries t.phase → t.group ≡ []
-  pub rest : IsAtRest t → IsIdle t
+  pub rest : IsAtRest t → IsIdleSection t
   pub goes : t.stopped ≡ None → t.head_twin.failed ≡ false
   pub remembers : Remembers disk t.disk t.buckets frames

@@ -9,26 +9,26 @@ use Rattle.vt_disk.specs.DeviceCalls.{DeviceCall, CallMade, bytes_after}
 use Rattle.vt_disk.specs.DeviceCalls.DeviceCall.{write, sync}
 use Rattle.vt_twin.specs.Calls.{call_at}
 use Rattle.vt_twin.specs.Frames.{frame_of, frame_start, selector_bytes, selector_start, with_frame, with_selector}
-use Rattle.vt_twin.specs.Twin.{TwinState, calls_made, next_call as twin_call, next_frame, after_call, with_change}
+use Rattle.vt_twin.specs.Twin.{TwinState, twin_calls_made, next_call as twin_call, next_frame, after_call, with_change}
 use Rattle.vt_twin.specs.declared.step.Step.{Step}
 use Rattle.vt_twin.specs.declared.step.Step.TheVariants.{More, Done}
 use Rattle.vt_isect.specs.declared.TheConstants.{FRAME_LEN}
-use Rattle.vt_isect.specs.declared.bad.ShardErr.{ShardErr}
-use Rattle.vt_isect.specs.declared.bad.ShardErr.TheVariants.{Fault, Damaged, Stopped}
+use Rattle.vt_isect.specs.declared.error.ShardErr.{ShardErr}
+use Rattle.vt_isect.specs.declared.error.ShardErr.TheVariants.{Fault, Damaged, Stopped}
 use Rattle.vt_isect.specs.declared.groups.Member.{Member}
 use Rattle.vt_isect.specs.declared.head.Head.{Head}
 use Rattle.vt_isect.specs.declared.phase.Phase.{Phase}
 use Rattle.vt_isect.specs.declared.phase.Phase.TheVariants.{Rest, ReadSelector, ReadFrame, WriteFrame, SyncFrames, WriteSelector, SyncSelectors, ChangeHead}
-use Rattle.vt_isect.specs.Faults.{is_fault}
+use Rattle.vt_isect.specs.Faults.{is_section_fault}
 use Rattle.vt_isect.specs.Head.{IsHead, encoded}
-use Rattle.vt_isect.specs.Section.{SectionState, AreNext, IsChanging, IsOfGroup, IsTodo, count_of, entering, entries_of}
+use Rattle.vt_isect.specs.Section.{SectionState, AreNext, IsChanging, IsOfGroup, IsTodo, call_count, entering, entries_of}
 use Rattle.vt_disk.specs.declared.region.Region.{Region}
 use Rattle.vt_disk.specs.Members.{DiskOf}
 use Rattle.vt_disk.specs.Region.{Inside}
-use Rattle.vt_isect.specs.Layout.{head_place, place_of, IsPlaceOf}
+use Rattle.vt_isect.specs.Layout.{head_place, bucket_place, IsBucketPlace}
 use Rattle.vt_isect.specs.Merging.{IsDamage, IsMerged, Merges}
-use Rattle.vt_isect.specs.Sound.{Known, DiskHolds, StillNames}
-use Rattle.vt_isect.specs.Agreement.{IsCovered, KnownAgrees}
+use Rattle.vt_isect.specs.Sound.{KnownBuckets, DiskHolds, StillNames}
+use Rattle.vt_isect.specs.Agreement.{IsMarkCovered, KnownAgrees}
 use Rattle.vt_model.specs.History.{History}
 use Rattle.vt_model.specs.Places.{Setup}
 
@@ -47,7 +47,7 @@ most_calls (WriteFrame s) t = 6 * later t + length t.group + 8
 most_calls SyncFrames t = 6 * later t + length t.group + 6
 most_calls (WriteSelector j) t = 6 * later t + (length t.group - j) + 5
 most_calls SyncSelectors t = 6 * later t + 5
-most_calls ChangeHead t = 4 - calls_made t.head_twin
+most_calls ChangeHead t = 4 - twin_calls_made t.head_twin
 
 abbrev pub calls_left : {D : Type 0} → SectionState D → ℕ
 calls_left t = most_calls t.phase t
@@ -79,28 +79,28 @@ pub record EndsWith {D : Type 0} (head : Head) (old new : SectionState D) : Type
   pub stopped : new.stopped ≡ None
 
 -- the same is under way
-pub record GoesOn {D : Type 0} (old new : SectionState D) : Type 0 where
+pub record SectionGoesOn {D : Type 0} (old new : SectionState D) : Type 0 where
   pub section : IsOfSection old new
   pub head_is : new.head ≡ old.head
   pub next_is : new.next ≡ old.next
   pub calls : new.calls ≡ one_more old.calls
 
 -- the next call reads
-abbrev pub IsRead : Phase → Type 0
-IsRead Rest = ⊥
-IsRead ReadSelector = ⊤
-IsRead (ReadFrame s) = ⊤
-IsRead (WriteFrame s) = ⊥
-IsRead SyncFrames = ⊥
-IsRead (WriteSelector j) = ⊥
-IsRead SyncSelectors = ⊥
-IsRead ChangeHead = ⊥
+abbrev pub NextCallReads : Phase → Type 0
+NextCallReads Rest = ⊥
+NextCallReads ReadSelector = ⊤
+NextCallReads (ReadFrame s) = ⊤
+NextCallReads (WriteFrame s) = ⊥
+NextCallReads SyncFrames = ⊥
+NextCallReads (WriteSelector j) = ⊥
+NextCallReads SyncSelectors = ⊥
+NextCallReads ChangeHead = ⊥
 
 -- Behind the first so many entries, which are written or in frames of the group, the bucket of the
 -- next ones is under way. It takes some, and all that there are. Its selector is read first or,
 -- where its current frame is remembered, that frame.
 abbrev pub BeginsBucket : {D : Type 0} → (from : ℕ) → SectionState D → Type 0
-BeginsBucket from t = IsRead t.phase × (t.framed ≡ from) × (from < t.begun)
+BeginsBucket from t = NextCallReads t.phase × (t.framed ≡ from) × (from < t.begun)
     × AreNext t.head.total t.bucket t.framed t.begun (entries_of t)
 
 -- So many entries are written, and the next group begins.
@@ -111,7 +111,7 @@ BeginsGroup from t = BeginsBucket from t × (t.written ≡ from) × (t.group ≡
 -- that is written of the next one.
 abbrev pub BeginsHead : {D : Type 0} → (from : ℕ) → SectionState D → Type 0
 BeginsHead from t = (t.phase ≡ ChangeHead) × (t.written ≡ from) × (t.group ≡ [])
-    × (length (entries_of t) ≡ from) × (calls_made t.head_twin ≡ 0)
+    × (length (entries_of t) ≡ from) × (twin_calls_made t.head_twin ≡ 0)
     × (next_frame t.head_twin ≡ encoded t.name t.next)
 
 -- behind the first so many entries the next ones are under way or, where there are none, the head
@@ -119,7 +119,7 @@ abbrev pub BeginsBehind : {D : Type 0} → (from : ℕ) → SectionState D → T
 BeginsBehind from t = BeginsGroup from t ⊎ BeginsHead from t
 
 -- The bucket under way, whose current frame has this number, is one of the group now.
-pub record Joins {D : Type 0} (current : ℕ) (old new : SectionState D) : Type 0 where
+pub record JoinsGroup {D : Type 0} (current : ℕ) (old new : SectionState D) : Type 0 where
   pub group : new.group ≡ old.group ++ record { bucket = old.bucket; current = current } ∷ []
   pub written : new.written ≡ old.written
 
@@ -136,7 +136,7 @@ NextPhase Rest old new = ⊥
 NextPhase ReadSelector old new =
     ((s : ℕ) × (new.phase ≡ ReadFrame s)) × SameGroup old new
 NextPhase (ReadFrame s) old new = (new.phase ≡ WriteFrame (s % 2)) × SameGroup old new
-NextPhase (WriteFrame s) old new = Joins s old new
+NextPhase (WriteFrame s) old new = JoinsGroup s old new
     × (((length new.group < new.most) × BeginsBucket old.begun new)
     ⊎ ((new.phase ≡ SyncFrames) × (new.framed ≡ old.begun) × (new.begun ≡ old.begun)
     × IsFull new))
@@ -146,12 +146,12 @@ NextPhase (WriteSelector j) old new = SameGroup old new
     ⊎ ((j + 1 ≡ length new.group) × (new.phase ≡ SyncSelectors)))
 NextPhase SyncSelectors old new = BeginsBehind old.begun new
 NextPhase ChangeHead old new =
-    (calls_made old.head_twin ≢ 3) × (new.phase ≡ ChangeHead)
+    (twin_calls_made old.head_twin ≢ 3) × (new.phase ≡ ChangeHead)
     × (new.head_twin ≡ after_call old.head_twin) × SameGroup old new
 
 -- the place of bucket n
 abbrev pub InBucket : {D : Type 0} → SectionState D → (n i : ℕ) → Type 0
-InBucket t n i = (region : Region) × IsPlaceOf (n - t.head.first) region × Inside region i
+InBucket t n i = (region : Region) × IsBucketPlace (n - t.head.first) region × Inside region i
 
 -- what the next call may write: the place of the bucket under way, that of a bucket of the group,
 -- or that of the head
@@ -169,82 +169,87 @@ MayWrite ChangeHead t i = Inside head_place i
 -- what a read gives after the next call of the change under way in this region
 abbrev pub read_after : TwinState → Region → (read : List ℕ) → List ℕ
 read_after twin region read =
-    bytes_after (call_at (calls_made twin) region FRAME_LEN twin.current (next_frame twin)) read
+    bytes_after (call_at (twin_calls_made twin) region FRAME_LEN twin.current (next_frame twin))
+    read
 
 -- What the next call writes, where it succeeds: an idle frame, the selector that names it, or what
 -- the change of the head writes.
-abbrev pub Writes : {D : Type 0} → Phase → SectionState D → (read reads : List ℕ) → Type 0
-Writes Rest t read reads = ⊥
-Writes ReadSelector t read reads = reads ≡ read
-Writes (ReadFrame s) t read reads = reads ≡ read
-Writes (WriteFrame s) t read reads = (region : Region) → IsPlaceOf (t.bucket - t.head.first) region
+abbrev pub NextCallWrites : {D : Type 0} → Phase → SectionState D → (read reads : List ℕ) → Type 0
+NextCallWrites Rest t read reads = ⊥
+NextCallWrites ReadSelector t read reads = reads ≡ read
+NextCallWrites (ReadFrame s) t read reads = reads ≡ read
+NextCallWrites (WriteFrame s) t read reads =
+    (region : Region) → IsBucketPlace (t.bucket - t.head.first) region
     → reads ≡ with_frame region FRAME_LEN (1 - s) t.frame read
-Writes SyncFrames t read reads = reads ≡ read
-Writes (WriteSelector j) t read reads = (member : Member) (region : Region)
-    → slice_get t.group j ≡ Some member → IsPlaceOf (member.bucket - t.head.first) region
+NextCallWrites SyncFrames t read reads = reads ≡ read
+NextCallWrites (WriteSelector j) t read reads = (member : Member) (region : Region)
+    → slice_get t.group j ≡ Some member → IsBucketPlace (member.bucket - t.head.first) region
     → reads ≡ with_selector region FRAME_LEN (1 - member.current) read
-Writes SyncSelectors t read reads = reads ≡ read
-Writes ChangeHead t read reads = reads ≡ read_after t.head_twin head_place read
+NextCallWrites SyncSelectors t read reads = reads ≡ read
+NextCallWrites ChangeHead t read reads = reads ≡ read_after t.head_twin head_place read
 
 -- the next call is a sync: of the group's frames, of its selectors, or one of the head's change
-abbrev pub Syncs : {D : Type 0} → Phase → SectionState D → Type 0
-Syncs Rest t = ⊥
-Syncs ReadSelector t = ⊥
-Syncs (ReadFrame s) t = ⊥
-Syncs (WriteFrame s) t = ⊥
-Syncs SyncFrames t = ⊤
-Syncs (WriteSelector j) t = ⊥
-Syncs SyncSelectors t = ⊤
-Syncs ChangeHead t = (calls_made t.head_twin ≡ 1) ⊎ (calls_made t.head_twin ≡ 3)
+abbrev pub NextCallSyncs : {D : Type 0} → Phase → SectionState D → Type 0
+NextCallSyncs Rest t = ⊥
+NextCallSyncs ReadSelector t = ⊥
+NextCallSyncs (ReadFrame s) t = ⊥
+NextCallSyncs (WriteFrame s) t = ⊥
+NextCallSyncs SyncFrames t = ⊤
+NextCallSyncs (WriteSelector j) t = ⊥
+NextCallSyncs SyncSelectors t = ⊤
+NextCallSyncs ChangeHead t = (twin_calls_made t.head_twin ≡ 1) ⊎ (twin_calls_made t.head_twin ≡ 3)
 
 -- the write of the selector that names the idle frame of a member of the group (there is one)
 abbrev pub selector_write : {D : Type 0} → SectionState D → Option Member → DeviceCall
 selector_write t None = sync
 selector_write t (Some member) =
-    write (selector_start (place_of (member.bucket - t.head.first)) FRAME_LEN)
+    write (selector_start (bucket_place (member.bucket - t.head.first)) FRAME_LEN)
     (selector_bytes (1 - member.current) SECTOR_LEN)
 
 -- The next call, where it is a write or a sync. Of a read, and at rest, it tells nothing.
-abbrev pub next_call : {D : Type 0} → Phase → SectionState D → DeviceCall
-next_call Rest t = sync
-next_call ReadSelector t = sync
-next_call (ReadFrame s) t = sync
-next_call (WriteFrame s) t =
-    write (frame_start (place_of (t.bucket - t.head.first)) FRAME_LEN (1 - s)) t.frame
-next_call SyncFrames t = sync
-next_call (WriteSelector j) t = selector_write t (slice_get t.group j)
-next_call SyncSelectors t = sync
-next_call ChangeHead t = twin_call t.head_twin head_place
+abbrev pub next_section_call : {D : Type 0} → Phase → SectionState D → DeviceCall
+next_section_call Rest t = sync
+next_section_call ReadSelector t = sync
+next_section_call (ReadFrame s) t = sync
+next_section_call (WriteFrame s) t =
+    write (frame_start (bucket_place (t.bucket - t.head.first)) FRAME_LEN (1 - s)) t.frame
+next_section_call SyncFrames t = sync
+next_section_call (WriteSelector j) t = selector_write t (slice_get t.group j)
+next_section_call SyncSelectors t = sync
+next_section_call ChangeHead t = twin_call t.head_twin head_place
 
 -- A fault in a read ends the writeback. One in a write or sync stops the section at that call.
 abbrev pub EndsOrStops : {D : Type 0} → (old new : SectionState D) → Type 0
 EndsOrStops old new =
-    (IsRead old.phase × EndsWith old.head old new)
-    ⊎ (¬ IsRead old.phase × GoesOn old new × (new.phase ≡ old.phase)
+    (NextCallReads old.phase × EndsWith old.head old new)
+    ⊎ (¬ NextCallReads old.phase × SectionGoesOn old new × (new.phase ≡ old.phase)
     × SameGroup old new × (new.stopped ≡ Some old.calls))
 
 -- what `advance` makes of a section
-abbrev pub Advances : {D : Type 0} → Result Step ShardErr → (old new : SectionState D) → Type 0
-Advances (Ok More) old new = GoesOn old new × (new.stopped ≡ None) × NextPhase old.phase old new
-Advances (Ok Done) old new =
-    (old.phase ≡ ChangeHead) × (calls_made old.head_twin ≡ 3) × EndsWith old.next old new
-Advances (Err Fault) old new = EndsOrStops old new
-Advances (Err (Damaged bucket want found)) old new =
+abbrev pub SectionAdvances : {D : Type 0} → Result Step ShardErr → (old new : SectionState D)
+    → Type 0
+SectionAdvances (Ok More) old new =
+    SectionGoesOn old new × (new.stopped ≡ None) × NextPhase old.phase old new
+SectionAdvances (Ok Done) old new =
+    (old.phase ≡ ChangeHead) × (twin_calls_made old.head_twin ≡ 3) × EndsWith old.next old new
+SectionAdvances (Err Fault) old new = EndsOrStops old new
+SectionAdvances (Err (Damaged bucket want found)) old new =
     ((s : ℕ) × (old.phase ≡ ReadFrame s)) × EndsWith old.head old new
-Advances (Err (Stopped n)) old new = (old.stopped ≡ Some n) × (new ≡ old)
+SectionAdvances (Err (Stopped n)) old new = (old.stopped ≡ Some n) × (new ≡ old)
 
 -- the sync of the selectors, where it succeeds: the changes of all buckets of the group end
 abbrev pub Completes : {D : Type 0} → Result Step ShardErr → SectionState D → (n : ℕ) → Type 0
 Completes result old n = (result ≡ Ok More) × (old.phase ≡ SyncSelectors) × IsChanging old n
 
 -- the step put this entry into its bucket, where it is whatever a crash leaves
-abbrev pub WritesBack : {D : Type 0} → (old new : SectionState D) → Entry → Type 0
-WritesBack old new entry = Contains (drop old.written (take new.written (entries_of old))) entry
+abbrev pub WritesEntryBack : {D : Type 0} → (old new : SectionState D) → Entry → Type 0
+WritesEntryBack old new entry =
+    Contains (drop old.written (take new.written (entries_of old))) entry
 
 -- What is known after a step, while the section has the same buckets: each bucket that it completed
 -- has the group's entries in it, and each other one what it had.
 pub record Follows {D : Type 0} (result : Result Step ShardErr) (old new : SectionState D)
-    (known knows : Known) : Type 0 where
+    (known knows : KnownBuckets) : Type 0 where
   pub kept : (n : ℕ) → new.head.first ≡ old.head.first → ¬ Completes result old n
       → knows n ≡ known n
   pub merged : (n : ℕ) (entries : List Entry) → new.head.first ≡ old.head.first
@@ -253,29 +258,31 @@ pub record Follows {D : Type 0} (result : Result Step ShardErr) (old new : Secti
 
 -- The disk stays sound for the section, and what is known goes on to agree with each history that
 -- it agreed with.
-abbrev pub Keeps : {D : Type 0} → DiskOf D → Result Step ShardErr → (old new : SectionState D)
+abbrev pub KeepsDiskSound : {D : Type 0} → DiskOf D → Result Step ShardErr
+    → (old new : SectionState D)
     → Type 0
-Keeps disk result old new = (known : Known) → DiskHolds disk old known
-    → (knows : Known) × Follows result old new known knows × DiskHolds disk new knows
+KeepsDiskSound disk result old new = (known : KnownBuckets) → DiskHolds disk old known
+    → (knows : KnownBuckets) × Follows result old new known knows × DiskHolds disk new knows
     × ((score : List ℕ → List ℕ) (c : Setup) (h : History)
     → KnownAgrees score c h old known → KnownAgrees score c h new knows)
 
 -- A mark that is covered with the help of some entries stays so. Where the step succeeds, so does
 -- one that is covered with the help of those that are still to be put into their buckets.
 abbrev pub KeepsCovered : {D : Type 0} → (List ℕ → List ℕ) → Setup → History
-    → Result Step ShardErr → (old new : SectionState D) → (known knows : Known) → Type 0
+    → Result Step ShardErr → (old new : SectionState D) → (known knows : KnownBuckets) → Type 0
 KeepsCovered score c h result old new known knows = (mark : ℕ)
-    → ((others : List Entry) → IsCovered score c h old known (Contains others) mark
-    → IsCovered score c h new knows (Contains others) mark)
-    × OnOk result (IsCovered score c h old known (IsTodo old) mark
-    → IsCovered score c h new knows (IsTodo new) mark)
+    → ((others : List Entry) → IsMarkCovered score c h old known (Contains others) mark
+    → IsMarkCovered score c h new knows (Contains others) mark)
+    × OnOk result (IsMarkCovered score c h old known (IsTodo old) mark
+    → IsMarkCovered score c h new knows (IsTodo new) mark)
 
 -- ---- the parts of a step
 
 -- the next call of what is under way was made, and counted, and nothing else has changed
 pub record MakesNext {D E : Type 0} (disk : DiskOf D) (result : Result Unit E)
     (old new : SectionState D) : Type 0 where
-  pub makes : CallMade disk (next_call old.phase old) result (count_of old) (count_of new)
+  pub makes : CallMade disk (next_section_call old.phase old) result (call_count old)
+      (call_count new)
       old.disk new.disk
   pub same : new ≡ record old { disk = new.disk; calls = new.calls; stopped = new.stopped }
 
@@ -297,7 +304,7 @@ pub record ComesNext {D : Type 0} (disk : DiskOf D) (old new : SectionState D) :
 -- this is the frame of the bucket under way that a selector with this first byte names
 abbrev pub IsNamedFrame : {D : Type 0} → DiskOf D → SectionState D → (selector : ℕ) → List ℕ → Type 0
 IsNamedFrame disk t selector read = (region : Region) → IsTrue disk.tells
-    → IsPlaceOf (t.bucket - t.head.first) region
+    → IsBucketPlace (t.bucket - t.head.first) region
     → read ≡ frame_of region FRAME_LEN (selector % 2) (disk.bytes t.disk)
 
 -- the frame that the bucket under way gets has the entries of that one, and those put into it
@@ -313,13 +320,13 @@ FindsDamage disk selector t bad = (read : List ℕ)
     × IsDamage t.bucket (entering t) read bad × IsNamedFrame disk t selector read
 
 -- What a step does, which makes one call: to what is known and what is under way, and to the disk.
-pub record TakesStep {D : Type 0} (disk : DiskOf D) (result : Result Step ShardErr)
+pub record SectionTakesStep {D : Type 0} (disk : DiskOf D) (result : Result Step ShardErr)
     (old new : SectionState D) : Type 0 where
-  pub sound : IsTrue disk.tells → Keeps disk result old new
-  pub steps : Advances result old new
+  pub sound : IsTrue disk.tells → KeepsDiskSound disk result old new
+  pub steps : SectionAdvances result old new
   pub written : IsTrue disk.tells
-      → OnOk result (Writes old.phase old (disk.bytes old.disk) (disk.bytes new.disk))
-  pub settled : Syncs old.phase old → OnOk result (IsSynced disk new.disk)
+      → OnOk result (NextCallWrites old.phase old (disk.bytes old.disk) (disk.bytes new.disk))
+  pub settled : NextCallSyncs old.phase old → OnOk result (IsSynced disk new.disk)
   pub writes : WritesAt disk (MayWrite old.phase old) 1 old.disk new.disk
   pub calls : MadeCalls disk 1 old.disk new.disk
-  pub faults : CountsFault is_fault result (disk.faults old.disk) (disk.faults new.disk)
+  pub faults : CountsFault is_section_fault result (disk.faults old.disk) (disk.faults new.disk)

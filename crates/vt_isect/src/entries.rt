@@ -1,7 +1,7 @@
 //! A list of entries.
 
 ghost use Rattle.std.specs.Prelude.{◌≡◌, vec_capacity};
-ghost use Rattle.vt_isect.specs.Entries.{items_of, turn};
+ghost use Rattle.vt_isect.specs.Entries.{listed_entries, turn};
 
 use crate::place::bucket_number;
 use std::marker::Model;
@@ -74,7 +74,7 @@ fn turn(behind: Option<u32>, bucket: u32) -> u64
 
 /// The entries, or none where there is no list.
 pub fn items(entries: &Option<Entries>) -> &[Entry]
-    ensures { result.now ≡ items_of entries.now }
+    ensures { result.now ≡ listed_entries entries.now }
 {
     match entries {
         Some(list) => list.as_slice(),

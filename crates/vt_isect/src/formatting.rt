@@ -5,18 +5,18 @@ ghost use Rattle.vt_base.specs.Faults.{CountsFault};
 ghost use Rattle.vt_disk.specs.Calls.{WritesWithin, MadeCalls, IsSynced};
 ghost use Rattle.vt_twin.specs.Formatting.{EndsFormat};
 ghost use Rattle.vt_twin.specs.Frames.{selector_of, selector_bytes, current_frame};
-ghost use Rattle.vt_fields.specs.Filled.{filled};
-ghost use Rattle.vt_isect.specs.Faults.{RefusesFormat, refuses_by_fault};
+ghost use Rattle.vt_base.specs.Filled.{filled};
+ghost use Rattle.vt_isect.specs.Faults.{RefusesSectionFormat, refuses_by_fault};
 ghost use Rattle.vt_isect.specs.Head.{encoded, IsHeadFrame};
 ghost use Rattle.vt_isect.specs.Layout.{head_place, buckets_in, formatted};
 
-use crate::bad::SectBad;
+use crate::error::SectBad;
 use crate::head::{Head, encode_head};
 use crate::place::{buckets_in, head_place};
 use crate::{FRAME_LEN, LEAST_LEN};
 use vt_base::Text;
+use vt_base::fields::filled;
 use vt_disk::{BLOCK_LEN, Disk, NAME_LEN};
-use vt_fields::filled;
 
 /// Makes the disk a section in state 0, with mark 0 and without a place among others: writes its
 /// head and syncs it. Gives the count of its buckets.
@@ -40,7 +40,7 @@ pub fn format<D: Disk>(disk: &mut D, name: &Text) -> Result<u32, SectBad>
     ensures settled { OnOk result (IsSynced D.Disk disk.new) }
 
     ensures room { OnOk result (LEAST_LEN ≤ D.size disk.old) }
-    ensures refused { IfErr result (RefusesFormat (D.size disk.old)) }
+    ensures refused { IfErr result (RefusesSectionFormat (D.size disk.old)) }
     ensures untouched { D.size disk.old < LEAST_LEN → disk.new ≡ disk.old }
 
     // Nothing behind the head changes, and nothing is written behind a call that fails.

@@ -5,7 +5,7 @@ ghost use Rattle.std.specs.List.{Contains};
 ghost use Rattle.vt_base.specs.declared.place.Entry.{Entry};
 ghost use Rattle.vt_model.specs.Places.{bucket_of};
 ghost use Rattle.vt_isect.specs.declared.groups.Member.{Member};
-ghost use Rattle.vt_isect.specs.Entries.{IsOrdered, items_of};
+ghost use Rattle.vt_isect.specs.Entries.{IsOrdered, listed_entries};
 ghost use Rattle.vt_isect.specs.Section.{AreNext};
 
 use crate::entries::{Entries, items};
@@ -40,12 +40,13 @@ pub fn bucket_end(entries: &[Entry], total: u32, bucket: u32, first: usize) -> u
 
 /// The bucket of the entry that stands here, and the place behind the entries that belong to it.
 pub fn bucket_behind(entries: &Option<Entries>, total: u32, from: usize) -> Option<(u32, usize)>
-    requires ordered { (behind : Option ℕ) × IsOrdered total behind (items_of entries.now) }
+    requires ordered { (behind : Option ℕ) × IsOrdered total behind (listed_entries entries.now) }
     ensures next { IfSome result (λ it. (from < it.1)
-        × AreNext total it.0 from it.1 (items_of entries.now)) }
-    ensures first { IfSome result (λ it. (entry : Entry) × Contains (items_of entries.now) entry
+        × AreNext total it.0 from it.1 (listed_entries entries.now)) }
+    ensures first { IfSome result (λ it. (entry : Entry)
+        × Contains (listed_entries entries.now) entry
         × (bucket_of total entry.key.score.0 ≡ it.0)) }
-    ensures none { result ≡ None → length (items_of entries.now) ≤ from }
+    ensures none { result ≡ None → length (listed_entries entries.now) ≤ from }
 {
     let entries = items(entries);
     let entry = entries.get(from)?;

@@ -3,13 +3,13 @@
 ghost use Rattle.std.specs.Prelude.{◌≡◌, ◌≢◌, ◌+◌, ◌++◌, ◌≤◌, ℕ, None, Some, codes, length, take, IfOk, IfErr, MatchResult};
 ghost use Rattle.byteorder.specs.Endian.{big_bytes};
 ghost use Rattle.vt_base.specs.Faults.{CountsFault};
-ghost use Rattle.vt_isect.specs.Faults.{first_bad, NamesItsCause, TellsOfHead, refuses_by_fault};
-ghost use Rattle.vt_isect.specs.Head.{IsHead, IsHeadFrame, encoded, spelled};
+ghost use Rattle.vt_isect.specs.Faults.{first_bad_section, NamesSectionCause, TellsOfHead, refuses_by_fault};
+ghost use Rattle.vt_isect.specs.Head.{IsHead, IsHeadFrame, encoded, section_head_bytes};
 
-use crate::bad::{Field, SectBad};
+use crate::error::{Field, SectBad};
 use crate::{FIELDS_LEN, FRAME_LEN, LEAST_LEN};
+use vt_base::fields::{put, put_u8, put_u16, put_u32, put_u64, u16_at, u32_at, u64_at};
 use vt_disk::NAME_LEN;
-use vt_fields::{put, put_u8, put_u16, put_u32, put_u64, u16_at, u32_at, u64_at};
 
 /// What a section's head says.
 #[derive(Clone, Copy, Debug, PartialEq, Eq)]
@@ -33,9 +33,9 @@ pub fn decode_head(frame: &[u8], len: u64) -> Result<([u8; NAME_LEN], Head), Sec
     requires room { LEAST_LEN ≤ len }
     ensures spelling { IfOk result (λ it. IsHeadFrame it.0 it.1 frame.now) }
     ensures name { IfOk result (λ it. length it.0 ≡ NAME_LEN) }
-    ensures refused { MatchResult result (λ _. first_bad len frame.now ≡ None)
-        (λ bad. first_bad len frame.now ≡ Some bad) }
-    ensures differs { IfErr result (NamesItsCause len) }
+    ensures refused { MatchResult result (λ _. first_bad_section len frame.now ≡ None)
+        (λ bad. first_bad_section len frame.now ≡ Some bad) }
+    ensures differs { IfErr result (NamesSectionCause len) }
     ensures told { IfErr result TellsOfHead }
     ensures cause { (faults : ℕ) → CountsFault refuses_by_fault result faults faults }
 {
@@ -77,7 +77,7 @@ pub fn encode_head(name: &[u8; NAME_LEN], head: &Head, frame: &mut [u8])
 fn put_fields(name: &[u8; NAME_LEN], head: &Head, frame: &mut [u8]) -> usize
     requires whole { length frame.old ≡ FRAME_LEN }
     requires name { length name.now ≡ NAME_LEN }
-    ensures written { take FIELDS_LEN frame.new ≡ spelled name.now head.now }
+    ensures written { take FIELDS_LEN frame.new ≡ section_head_bytes name.now head.now }
     ensures end { result ≡ FIELDS_LEN }
     ensures fits { IsHead head.now }
 {

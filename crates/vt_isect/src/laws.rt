@@ -10,12 +10,12 @@ ghost use Rattle.vt_model.specs.Legal.{HasOtherKey};
 ghost use Rattle.vt_model.specs.Places.{Setup, bucket_count, bucket_of, crowd};
 ghost use Rattle.vt_twin.specs.Frames.{current_frame};
 ghost use Rattle.vt_isect.specs.declared.head.Head.{Head};
-ghost use Rattle.vt_isect.specs.Agreement.{IsEntryOf, IsOfBlock, HasBlock, IsInBucket, IsCovered, NoOthers, AgreesWith, KnownAgrees, LeavesAgreeing};
-ghost use Rattle.vt_isect.specs.Filling.{Reads};
+ghost use Rattle.vt_isect.specs.Agreement.{IsEntryOf, IsEntryOfBlock, HasBlock, IsInBucket, IsMarkCovered, NoOthers, AgreesWith, KnownAgrees, LeavesAgreeing};
+ghost use Rattle.vt_isect.specs.Filling.{ReadsKnown};
 ghost use Rattle.vt_isect.specs.Head.{IsHeadFrame};
 ghost use Rattle.vt_isect.specs.Layout.{head_place, InRange, IsSection};
 ghost use Rattle.vt_isect.specs.Section.{SectionState, IsAtRest, IsTodo, PutsEntries};
-ghost use Rattle.vt_isect.specs.Sound.{Known, IsWhole, DiskHolds, LeavesHead, LeavesSection};
+ghost use Rattle.vt_isect.specs.Sound.{KnownBuckets, KnowsEachBucket, DiskHolds, LeavesHead, LeavesSection};
 ghost use Rattle.vt_base.specs.declared.place.Entry.{Entry};
 
 use crate::FRAME_LEN;
@@ -26,16 +26,16 @@ use vt_disk::Disk;
 /// state 1 it agrees with each history with which what is known does. Whatever is known, its head
 /// is one of the two, and the next one only behind a sync.
 pub fn images_agree<D: Disk>()
-    ensures crash { (t : SectionState D) (known : Known)
+    ensures crash { (t : SectionState D) (known : KnownBuckets)
         → DiskHolds D.Disk t known
-        → IsWhole t known → t.next.first ≡ t.head.first
+        → KnowsEachBucket t known → t.next.first ≡ t.head.first
         → (file : List ℕ) → D.images t.disk file → LeavesSection t known file }
     ensures agrees { (score : List ℕ → List ℕ) (c : Setup) (h : History)
-        (t : SectionState D) (known : Known)
+        (t : SectionState D) (known : KnownBuckets)
         → DiskHolds D.Disk t known
         → KnownAgrees score c h t known → (file : List ℕ) → D.images t.disk file
         → LeavesAgreeing score c h t known file }
-    ensures head { (t : SectionState D) (known : Known)
+    ensures head { (t : SectionState D) (known : KnownBuckets)
         → DiskHolds D.Disk t known
         → (file : List ℕ) → D.images t.disk file → (head : Head)
         × LeavesHead t head
@@ -45,18 +45,18 @@ pub fn images_agree<D: Disk>()
 /// A disk stays sound for a section by a read or a sync, and where less is known. Where each bucket
 /// was cleared while the mark doesn't count, what is known agrees with any history.
 pub fn soundness_is_kept<D: Disk>()
-    ensures read_or_sync { (t : SectionState D) (known : Known) (after : D) (most : ℕ)
+    ensures read_or_sync { (t : SectionState D) (known : KnownBuckets) (after : D) (most : ℕ)
         → OnlyReads D.Disk most t.disk after → DiskHolds D.Disk t known
         → DiskHolds D.Disk (record t { disk = after }) known }
-    ensures idle { (t : SectionState D) (known : Known) → IsAtRest t
+    ensures idle { (t : SectionState D) (known : KnownBuckets) → IsAtRest t
         → DiskHolds D.Disk t known
         → DiskHolds D.Disk (record t { entries = None }) known }
-    ensures forget { (t : SectionState D) (known knows : Known)
+    ensures forget { (t : SectionState D) (known knows : KnownBuckets)
         → ((n : ℕ) (entries : List Entry) → knows n ≡ Some entries → known n ≡ Some entries)
         → DiskHolds D.Disk t known
         → DiskHolds D.Disk t knows }
     ensures cleared { (score : List ℕ → List ℕ) (c : Setup) (h : History)
-        (t : SectionState D) (known : Known)
+        (t : SectionState D) (known : KnownBuckets)
         → AllPairs (HasOtherKey score) h → t.head.total ≡ bucket_count c
         → IsAtRest t → t.next ≡ t.head → t.head.state ≢ 1
         → ((n : ℕ) → InRange t.head t.buckets n → known n ≡ Some [])
@@ -67,18 +67,19 @@ pub fn soundness_is_kept<D: Disk>()
 /// is read is known. A change of the head leaves what is read, so that its first sync settles all
 /// buckets that were filled before it.
 pub fn what_is_read_is_settled<D: Disk>()
-    ensures read { (t : SectionState D) (known : Known) → IsTrue D.tells → ¬ PutsEntries t.phase
+    ensures read { (t : SectionState D) (known : KnownBuckets) → IsTrue D.tells
+        → ¬ PutsEntries t.phase
         → DiskHolds D.Disk t known
-        → Reads D.Disk t known }
-    ensures settled { (t : SectionState D) (known knows : Known) → ¬ PutsEntries t.phase
+        → ReadsKnown D.Disk t known }
+    ensures settled { (t : SectionState D) (known knows : KnownBuckets) → ¬ PutsEntries t.phase
         → IsTrue D.tells → IsSynced D.Disk t.disk
         → DiskHolds D.Disk t known
-        → Reads D.Disk t knows
+        → ReadsKnown D.Disk t knows
         → DiskHolds D.Disk t knows }
-    ensures head { (t u : SectionState D) (known : Known)
+    ensures head { (t u : SectionState D) (known : KnownBuckets)
         → u.head ≡ t.head → u.buckets ≡ t.buckets
         → SameBut (Inside head_place) (D.bytes t.disk) (D.bytes u.disk)
-        → Reads D.Disk t known → Reads D.Disk u known }
+        → ReadsKnown D.Disk t known → ReadsKnown D.Disk u known }
 {}
 
 /// What is known goes on to agree with a history whatever becomes of the disk, and when the entries
@@ -86,22 +87,22 @@ pub fn what_is_read_is_settled<D: Disk>()
 /// while the section has its buckets, and at rest with none that are still to be put.
 pub fn agreement_is_kept<D: Disk>()
     ensures disk { (score : List ℕ → List ℕ) (c : Setup) (h : History)
-        (t : SectionState D) (known : Known) (disk : D)
+        (t : SectionState D) (known : KnownBuckets) (disk : D)
         → KnownAgrees score c h t known → KnownAgrees score c h (record t { disk = disk }) known }
     ensures idle { (score : List ℕ → List ℕ) (c : Setup) (h : History)
-        (t : SectionState D) (known : Known) → IsAtRest t
+        (t : SectionState D) (known : KnownBuckets) → IsAtRest t
         → KnownAgrees score c h t known
         → KnownAgrees score c h (record t { entries = None }) known }
     ensures covered { (score : List ℕ → List ℕ) (c : Setup) (h : History)
-        (t u : SectionState D) (known : Known) (entries more : List Entry) (mark : ℕ)
+        (t u : SectionState D) (known : KnownBuckets) (entries more : List Entry) (mark : ℕ)
         → u.head ≡ t.head → u.buckets ≡ t.buckets
         → ((entry : Entry) → Contains entries entry → Contains more entry)
-        → IsCovered score c h t known (Contains entries) mark
-        → IsCovered score c h u known (Contains more) mark }
+        → IsMarkCovered score c h t known (Contains entries) mark
+        → IsMarkCovered score c h u known (Contains more) mark }
     ensures filed { (score : List ℕ → List ℕ) (c : Setup) (h : History)
-        (t : SectionState D) (known : Known) (mark : ℕ) → IsAtRest t
-        → IsCovered score c h t known (IsTodo t) mark
-        → IsCovered score c h t known NoOthers mark }
+        (t : SectionState D) (known : KnownBuckets) (mark : ℕ) → IsAtRest t
+        → IsMarkCovered score c h t known (IsTodo t) mark
+        → IsMarkCovered score c h t known NoOthers mark }
 {}
 
 /// What agrees with a history goes on to agree with it when blocks are added: an entry stays that
@@ -109,16 +110,16 @@ pub fn agreement_is_kept<D: Disk>()
 /// that of one of the first blocks is one of these.
 pub fn agreement_grows<D: Disk>()
     ensures entry { (score : List ℕ → List ℕ) (c : Setup) (h more : History) (entry : Entry)
-        → IsOfBlock score c h entry → IsOfBlock score c (h ++ more) entry }
+        → IsEntryOfBlock score c h entry → IsEntryOfBlock score c (h ++ more) entry }
     ensures beginning { (score : List ℕ → List ℕ) (c : Setup) (h more : History) (i : ℕ)
         (entry : Entry) → i < length h → IsEntryOf score c (h ++ more) i entry
         → IsEntryOf score c h i entry }
     ensures covered { (score : List ℕ → List ℕ) (c : Setup) (h more : History)
-        (t : SectionState D) (known : Known) (entries : List Entry) (mark : ℕ)
-        → IsCovered score c h t known (Contains entries) mark
-        → IsCovered score c (h ++ more) t known (Contains entries) mark }
+        (t : SectionState D) (known : KnownBuckets) (entries : List Entry) (mark : ℕ)
+        → IsMarkCovered score c h t known (Contains entries) mark
+        → IsMarkCovered score c (h ++ more) t known (Contains entries) mark }
     ensures known { (score : List ℕ → List ℕ) (c : Setup) (h more : History)
-        (t : SectionState D) (known : Known)
+        (t : SectionState D) (known : KnownBuckets)
         → AllPairs (HasOtherKey score) (h ++ more)
         → KnownAgrees score c h t known → KnownAgrees score c (h ++ more) t known }
     ensures section { (score : List ℕ → List ℕ) (c : Setup) (h more : History) (buckets : ℕ)
@@ -152,13 +153,13 @@ pub fn one_key_has_one_entry()
 pub fn blocks_are_counted()
     ensures most { (score : List ℕ → List ℕ) (c : Setup) (h : History) (n : ℕ)
         (entries : List Entry) → AllPairs (λ a b. a.key ≢ b.key) entries
-        → ((entry : Entry) → Contains entries entry → IsOfBlock score c h entry
+        → ((entry : Entry) → Contains entries entry → IsEntryOfBlock score c h entry
         × (bucket_of (bucket_count c) entry.key.score.0 ≡ n))
         → length entries ≤ crowd score (bucket_count c) h n }
     ensures all { (score : List ℕ → List ℕ) (c : Setup) (h : History) (n : ℕ)
         (entries : List Entry) → AllPairs (HasOtherKey score) h
         → AllPairs (λ a b. a.key ≢ b.key) entries
-        → ((entry : Entry) → Contains entries entry → IsOfBlock score c h entry
+        → ((entry : Entry) → Contains entries entry → IsEntryOfBlock score c h entry
         × (bucket_of (bucket_count c) entry.key.score.0 ≡ n))
         → ((i : ℕ) → IsInBucket score c h n i → HasBlock score c h (Contains entries) i)
         → length entries ≡ crowd score (bucket_count c) h n }

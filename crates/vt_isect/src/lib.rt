@@ -4,8 +4,8 @@
 // Tests: crates/vt_index_tests/src/isect.rt.
 #![tactic(auto)]
 
-mod bad;
 mod entries;
+mod error;
 mod filling;
 mod formatting;
 mod groups;
@@ -19,8 +19,8 @@ mod remembered;
 mod section;
 mod writeback;
 
-pub use bad::{Field, SectBad, ShardErr};
 pub use entries::Entries;
+pub use error::{Field, SectBad, ShardErr};
 pub use formatting::format;
 pub use groups::Member;
 pub use head::Head;

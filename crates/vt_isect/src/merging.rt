@@ -3,17 +3,17 @@
 ghost use Rattle.std.specs.Prelude.{◌≡◌, ◌≢◌, ◌⊎◌, ◌↔◌, ℕ, ◌+◌, ◌%◌, ◌<◌, ◌≤◌, List, length, IsTrue, IsOkAnd, IfOk, IfErr, OnOk, IfSome, MatchOption, Some, Err};
 ghost use Rattle.std.specs.List.{Contains};
 ghost use Rattle.vt_base.specs.declared.place.Entry.{Entry};
-ghost use Rattle.vt_bucket.specs.Buckets.{number_of, entries_of};
-ghost use Rattle.vt_bucket.specs.Frame.{IsFrame};
+ghost use Rattle.vt_bucket.specs.Buckets.{number_of_bucket, bucket_entries};
+ghost use Rattle.vt_bucket.specs.Frame.{IsBucketFrame};
 ghost use Rattle.vt_bucket.specs.Faults.{FaultIs};
 ghost use Rattle.vt_base.specs.Faults.{CountsFault};
 ghost use Rattle.vt_disk.specs.Calls.{OnlyReads, MadeCalls};
-ghost use Rattle.vt_twin.specs.Frames.{HasRoom, frame_of};
-ghost use Rattle.vt_isect.specs.Faults.{damage_of, is_fault};
-ghost use Rattle.vt_isect.specs.Merging.{Merges, HasKey, HasKeys, IsAbsent, Joined, IsMerged, IsFaulty, IsDamage};
+ghost use Rattle.vt_twin.specs.Frames.{FitsTwin, frame_of};
+ghost use Rattle.vt_isect.specs.Faults.{damage_of_bucket, is_section_fault};
+ghost use Rattle.vt_isect.specs.Merging.{Merges, HasKey, HasKeys, IsAbsentEntry, Joined, IsMerged, IsFaultyFrame, IsDamage};
 
 use crate::FRAME_LEN;
-use crate::bad::ShardErr;
+use crate::error::ShardErr;
 use vt_base::{Entry, FieldValue, Key};
 use vt_bucket::{Bucket, BucketBad, Full, decode};
 use vt_disk::{Disk, Region};
@@ -23,11 +23,11 @@ use vt_model::BUCKET_ROOM;
 /// told as the section's damage.
 pub fn decode_bucket(frame: &[u8], number: u32) -> Result<Bucket, ShardErr>
     requires { length frame.now ≡ FRAME_LEN }
-    ensures number { IfOk result (λ bucket. number_of bucket ≡ number) }
-    ensures found { IfOk result (λ bucket. IsFrame number (entries_of bucket) frame.now) }
-    ensures all_are_read { (entries : List Entry) → IsFrame number entries frame.now
-        → IsOkAnd result (λ bucket. entries_of bucket ≡ entries) }
-    ensures refused { IfErr result (IsFaulty number frame.now) }
+    ensures number { IfOk result (λ bucket. number_of_bucket bucket ≡ number) }
+    ensures found { IfOk result (λ bucket. IsBucketFrame number (bucket_entries bucket) frame.now) }
+    ensures all_are_read { (entries : List Entry) → IsBucketFrame number entries frame.now
+        → IsOkAnd result (λ bucket. bucket_entries bucket ≡ entries) }
+    ensures refused { IfErr result (IsFaultyFrame number frame.now) }
 {
     match decode(frame, number) {
         Ok(bucket) => Ok(bucket),
@@ -37,7 +37,7 @@ pub fn decode_bucket(frame: &[u8], number: u32) -> Result<Bucket, ShardErr>
 
 /// What a fault of a bucket's frame is told as.
 fn damage(bucket: u32, bad: BucketBad) -> ShardErr
-    ensures { result ≡ damage_of bucket bad }
+    ensures { result ≡ damage_of_bucket bucket bad }
 {
     let (want, found) = match bad {
         BucketBad::Magic(found) => (FieldValue::Magic(*b"VBKT"), FieldValue::Magic(found)),
@@ -76,7 +76,7 @@ pub fn read_merged<D: Disk>(
     frame: &mut [u8],
 ) -> Result<(), ShardErr>
     requires whole { length frame.old ≡ FRAME_LEN }
-    requires room { HasRoom place FRAME_LEN (D.size disk.old) }
+    requires room { FitsTwin place FRAME_LEN (D.size disk.old) }
     ensures merged { OnOk result ((read : List ℕ) × IsMerged number group.now read frame.new
         × (IsTrue D.tells → read ≡ frame_of place FRAME_LEN (selector % 2) (D.bytes disk.old))) }
     ensures damaged { IfErr result (λ bad. bad ≢ ShardErr.Fault → (read : List ℕ)
@@ -84,7 +84,7 @@ pub fn read_merged<D: Disk>(
         × (IsTrue D.tells → read ≡ frame_of place FRAME_LEN (selector % 2) (D.bytes disk.old))) }
     ensures reads { OnlyReads D.Disk 1 disk.old disk.new }
     ensures calls { MadeCalls D.Disk 1 disk.old disk.new }
-    ensures faults { CountsFault is_fault result (D.faults disk.old) (D.faults disk.new) }
+    ensures faults { CountsFault is_section_fault result (D.faults disk.old) (D.faults disk.new) }
     ensures stopped { (n : ℕ) → ¬ (result ≡ Err (ShardErr.Stopped n)) }
 {
     place.read_at(disk, FRAME_LEN as u64 * u64::from(selector % 2), frame)?;
@@ -115,10 +115,10 @@ fn merge_frame(frame: &mut [u8], number: u32, group: &[Entry]) -> Result<(), Sha
 /// it would have.
 fn merge(bucket: &mut Bucket, group: &[Entry]) -> Result<(), u128>
     ensures merged { OnOk result
-        (Merges (entries_of bucket.old) (Contains group.now) (entries_of bucket.new)) }
-    ensures number { number_of bucket.new ≡ number_of bucket.old }
+        (Merges (bucket_entries bucket.old) (Contains group.now) (bucket_entries bucket.new)) }
+    ensures number { number_of_bucket bucket.new ≡ number_of_bucket bucket.old }
     ensures full { IfErr result (λ found. (BUCKET_ROOM < found)
-        × HasKeys (Joined (entries_of bucket.old) (Contains group.now)) found) }
+        × HasKeys (Joined (bucket_entries bucket.old) (Contains group.now)) found) }
 {
     for i in 0..group.len() {
         if let Err(Full) = bucket.with(group[i]) {
@@ -130,7 +130,8 @@ fn merge(bucket: &mut Bucket, group: &[Entry]) -> Result<(), u128>
 
 /// How many keys these entries have, and a bucket lacks.
 fn count_absent(bucket: &Bucket, entries: &[Entry]) -> u128
-    ensures keys { HasKeys (IsAbsent (entries_of bucket.now) (Contains entries.now)) result }
+    ensures keys { HasKeys (IsAbsentEntry (bucket_entries bucket.now) (Contains entries.now))
+        result }
     ensures most { result ≤ length entries.now }
 {
     let mut absent = 0;
@@ -144,7 +145,7 @@ fn count_absent(bucket: &Bucket, entries: &[Entry]) -> u128
 
 /// Whether a bucket lacks this key.
 fn is_absent(bucket: &Bucket, key: &Key) -> bool
-    ensures { IsTrue result ↔ ¬ HasKey (Contains (entries_of bucket.now)) key.now }
+    ensures { IsTrue result ↔ ¬ HasKey (Contains (bucket_entries bucket.now)) key.now }
 {
     bucket.find(key).is_none()
 }

@@ -3,23 +3,23 @@
 ghost use Rattle.std.specs.Prelude.{◌≡◌, ◌⊎◌, ⊤, ◌+◌, ◌-◌, ◌*◌, ◌<◌, ◌≤◌, ℕ, List, [], None, Some, IsTrue, IfOk, IfErr, OnOk, MatchResult, length, replicate, slice_get, vec_capacity};
 ghost use Rattle.vt_base.specs.Faults.{HasCause, CountsFault};
 ghost use Rattle.vt_base.specs.declared.place.Entry.{Entry};
-ghost use Rattle.vt_bucket.specs.Frame.{IsFrame};
+ghost use Rattle.vt_bucket.specs.Frame.{IsBucketFrame};
 ghost use Rattle.vt_disk.specs.Calls.{OnlyReads, MadeCalls, IsSynced};
 ghost use Rattle.vt_disk.specs.declared.region.Region.{Region};
 ghost use Rattle.vt_model.specs.History.{History};
 ghost use Rattle.vt_model.specs.Places.{Setup};
 ghost use Rattle.vt_twin.specs.Frames.{current_frame};
-ghost use Rattle.vt_twin.specs.Sound.{IsSound};
+ghost use Rattle.vt_twin.specs.Sound.{IsSoundTwin};
 ghost use Rattle.vt_twin.specs.Twin.{fresh};
 ghost use Rattle.vt_isect.specs.Agreement.{AgreesWith, KnownAgrees};
 ghost use Rattle.vt_isect.specs.declared.head.Head.{Head};
-ghost use Rattle.vt_isect.specs.Faults.{first_bad, RefusesMount, NamesItsCause, TellsOfHead, refuses_by_fault};
+ghost use Rattle.vt_isect.specs.Faults.{first_bad_section, RefusesSectionMount, NamesSectionCause, TellsOfHead, refuses_by_fault};
 ghost use Rattle.vt_isect.specs.Head.{IsHeadFrame};
-ghost use Rattle.vt_isect.specs.Layout.{head_place, IsPlaceOf, InRange, IsSection, buckets_in};
-ghost use Rattle.vt_isect.specs.Section.{mounted, disk_after};
-ghost use Rattle.vt_isect.specs.Sound.{Known, all_known, DiskHolds};
+ghost use Rattle.vt_isect.specs.Layout.{head_place, IsBucketPlace, InRange, IsSection, buckets_in};
+ghost use Rattle.vt_isect.specs.Section.{mounted_section, disk_after};
+ghost use Rattle.vt_isect.specs.Sound.{KnownBuckets, all_known, DiskHolds};
 
-use crate::bad::SectBad;
+use crate::error::SectBad;
 use crate::groups::Member;
 use crate::head::{Head, decode_head};
 use crate::phase::Phase;
@@ -42,13 +42,13 @@ pub fn mount<D: Disk>(alloc: Global, mut disk: D) -> Result<Section<D>, (SectBad
     ensures head { IfOk result (λ it. IsTrue D.tells
         → IsHeadFrame it.name it.head (current_frame head_place FRAME_LEN (D.bytes disk))) }
     ensures fresh { IfOk result (λ it. it
-        ≡ mounted it.disk (buckets_in (D.size disk)) it.name it.head it.head_twin.current) }
+        ≡ mounted_section it.disk (buckets_in (D.size disk)) it.name it.head it.head_twin.current) }
 
     // The disk is sound for it, whatever is known of the buckets that are read.
-    ensures sound { (known : Known) → IfOk result (λ it. IsTrue D.tells
+    ensures sound { (known : KnownBuckets) → IfOk result (λ it. IsTrue D.tells
         → ((n : ℕ) (region : Region) (entries : List Entry) → InRange it.head it.buckets n
-        → IsPlaceOf (n - it.head.first) region → known n ≡ Some entries
-        → IsFrame n entries (current_frame region FRAME_LEN (D.bytes disk)))
+        → IsBucketPlace (n - it.head.first) region → known n ≡ Some entries
+        → IsBucketFrame n entries (current_frame region FRAME_LEN (D.bytes disk)))
         → DiskHolds D.Disk it known) }
 
     // Where the bytes are a section that agrees with a history, so does what is known.
@@ -66,10 +66,11 @@ pub fn mount<D: Disk>(alloc: Global, mut disk: D) -> Result<Section<D>, (SectBad
     ensures failed { IfErr result (λ refusal. refusal.0 ≡ SectBad.Fault
         → MadeCalls D.Disk 1 disk refusal.1 ⊎ IsSynced D.Disk refusal.1) }
     ensures refused { IfErr result (λ refusal. IsTrue D.tells
-        → RefusesMount (D.size disk)
+        → RefusesSectionMount (D.size disk)
         (current_frame head_place FRAME_LEN (D.bytes disk)) refusal.0) }
     ensures accepted { IfOk result (λ _. IsTrue D.tells
-        → first_bad (D.size disk) (current_frame head_place FRAME_LEN (D.bytes disk)) ≡ None) }
+        → first_bad_section (D.size disk) (current_frame head_place FRAME_LEN (D.bytes disk))
+        ≡ None) }
 
     // Each section is found, unless a call of the disk fails or memory runs out.
     ensures all_are_found { (name : List ℕ) (head : Head) → IsTrue D.tells → LEAST_LEN ≤ D.size disk
@@ -79,7 +80,7 @@ pub fn mount<D: Disk>(alloc: Global, mut disk: D) -> Result<Section<D>, (SectBad
 
     // So much is known of a disk that doesn't tell what it holds, too.
     ensures room { OnOk result (LEAST_LEN ≤ D.size disk) }
-    ensures differs { IfErr result (λ refusal. NamesItsCause (D.size disk) refusal.0) }
+    ensures differs { IfErr result (λ refusal. NamesSectionCause (D.size disk) refusal.0) }
 
     // It takes its memory first, syncs, and makes two reads, and changes nothing.
     ensures untouched { D.size disk < LEAST_LEN → disk_after result ≡ disk }
@@ -122,7 +123,7 @@ fn open<D: Disk>(alloc: Global, disk: &mut D) -> Result<Opened, SectBad>
         → IsHeadFrame it.name it.head (current_frame head_place FRAME_LEN (D.bytes disk.old))) }
     ensures twin { IfOk result (λ it. it.twin ≡ fresh FRAME_LEN it.twin.current) }
     ensures sound { IfOk result (λ it. IsTrue D.tells
-        → IsSound it.twin head_place (current_frame head_place FRAME_LEN (D.bytes disk.old))
+        → IsSoundTwin it.twin head_place (current_frame head_place FRAME_LEN (D.bytes disk.old))
         (D.bytes disk.new) (D.images disk.new)) }
     ensures frames { IfOk result (λ it. (length it.head_frame.items ≡ FRAME_LEN)
         × (it.frame.items ≡ replicate FRAME_LEN 0)) }
@@ -137,11 +138,12 @@ fn open<D: Disk>(alloc: Global, disk: &mut D) -> Result<Opened, SectBad>
     ensures failed { IfErr result (λ bad. bad ≡ SectBad.Fault
         → MadeCalls D.Disk 1 disk.old disk.new ⊎ IsSynced D.Disk disk.new) }
     ensures accepted { OnOk result (IsTrue D.tells
-        → first_bad (D.size disk.old) (current_frame head_place FRAME_LEN (D.bytes disk.old))
+        → first_bad_section (D.size disk.old)
+        (current_frame head_place FRAME_LEN (D.bytes disk.old))
         ≡ None) }
-    ensures refused { IfErr result (λ bad. IsTrue D.tells → RefusesMount (D.size disk.old)
+    ensures refused { IfErr result (λ bad. IsTrue D.tells → RefusesSectionMount (D.size disk.old)
         (current_frame head_place FRAME_LEN (D.bytes disk.old)) bad) }
-    ensures differs { IfErr result (NamesItsCause (D.size disk.old)) }
+    ensures differs { IfErr result (NamesSectionCause (D.size disk.old)) }
     ensures untouched { D.size disk.old < LEAST_LEN → disk.new ≡ disk.old }
     ensures memory_first { IfErr result (λ bad. bad ≡ SectBad.NoMemory → disk.new ≡ disk.old) }
     ensures calls { MatchResult result (λ _. ⊤) TellsOfHead → MadeCalls D.Disk 3 disk.old disk.new }
@@ -185,7 +187,7 @@ fn read_head<D: Disk>(disk: &mut D, frame: &mut [u8]) -> Result<Twin, Failed>
         → frame.new ≡ current_frame head_place FRAME_LEN (D.bytes disk.old)) }
     ensures twin { IfOk result (λ twin. twin ≡ fresh FRAME_LEN twin.current) }
     ensures sound { IfOk result (λ twin. IsTrue D.tells
-        → IsSound twin head_place (current_frame head_place FRAME_LEN (D.bytes disk.old))
+        → IsSoundTwin twin head_place (current_frame head_place FRAME_LEN (D.bytes disk.old))
         (D.bytes disk.new) (D.images disk.new)) }
     ensures settled { MadeCalls D.Disk 1 disk.old disk.new ⊎ IsSynced D.Disk disk.new }
     ensures synced { OnOk result (IsSynced D.Disk disk.new) }

@@ -4,8 +4,8 @@ ghost use Rattle.std.specs.Prelude.{◌≡◌, ◌+◌, ◌*◌, ◌^◌, ◌<�
 ghost use Rattle.vt_model.specs.Places.{bucket_of};
 ghost use Rattle.vt_disk.specs.DeviceCalls.{call_of};
 ghost use Rattle.vt_disk.specs.DeviceCalls.DeviceCall.{write};
-ghost use Rattle.vt_twin.specs.Frames.{HasRoom, frame_start, selector_start};
-ghost use Rattle.vt_isect.specs.Layout.{head_place, place_of, IsPlaceOf, buckets_in};
+ghost use Rattle.vt_twin.specs.Frames.{FitsTwin, frame_start, selector_start};
+ghost use Rattle.vt_isect.specs.Layout.{head_place, bucket_place, IsBucketPlace, buckets_in};
 
 use crate::{BUCKET_PLACE_LEN, FRAME_LEN, HEAD_PLACE_LEN};
 use vt_base::Score;
@@ -33,9 +33,9 @@ pub fn head_place() -> Region
 
 /// The place of a bucket, which is counted from 0 in its section.
 pub fn bucket_place(bucket: u32) -> Region
-    ensures place { IsPlaceOf bucket result }
+    ensures place { IsBucketPlace bucket result }
     ensures room { (size : ℕ) → HEAD_PLACE_LEN + BUCKET_PLACE_LEN * bucket + BUCKET_PLACE_LEN ≤ size
-        → HasRoom result FRAME_LEN size }
+        → FitsTwin result FRAME_LEN size }
 {
     Region {
         start: HEAD_PLACE_LEN + BUCKET_PLACE_LEN * u64::from(bucket),
@@ -45,14 +45,14 @@ pub fn bucket_place(bucket: u32) -> Region
 
 /// The call that writes a frame of a bucket, which is counted from 0 in its section.
 pub fn frame_write<'a>(bucket: u32, number: u8, frame: &'a [u8]) -> Call<'a>
-    ensures { call_of result ≡ write (frame_start (place_of bucket) FRAME_LEN number) frame.now }
+    ensures { call_of result ≡ write (frame_start (bucket_place bucket) FRAME_LEN number) frame.now }
 {
     bucket_place(bucket).write_call(FRAME_LEN as u64 * u64::from(number), frame)
 }
 
 /// The call that writes its selector.
 pub fn selector_write<'a>(bucket: u32, selector: &'a [u8; SECTOR_LEN]) -> Call<'a>
-    ensures { call_of result ≡ write (selector_start (place_of bucket) FRAME_LEN) selector.now }
+    ensures { call_of result ≡ write (selector_start (bucket_place bucket) FRAME_LEN) selector.now }
 {
     // (the selector, behind both frames)
     bucket_place(bucket).write_call(2 * FRAME_LEN as u64, selector)

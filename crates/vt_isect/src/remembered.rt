@@ -3,7 +3,7 @@
 ghost use Rattle.std.specs.Prelude.{◌≡◌, ℕ, ◌+◌, ◌<◌, ◌≤◌, length, slice_get, slice_set, slice_index, IsTrue, IfOk, OnErr, IfSome, Some, None, Ok};
 ghost use Rattle.vt_base.specs.Faults.{HasCause};
 ghost use Rattle.vt_disk.specs.Calls.{OnlyReads, MadeCalls};
-ghost use Rattle.vt_twin.specs.Frames.{HasRoom, named_number};
+ghost use Rattle.vt_twin.specs.Frames.{FitsTwin, named_number};
 ghost use Rattle.vt_isect.specs.Remembered.{pairs_of, told_by, told_in};
 
 use crate::FRAME_LEN;
@@ -31,7 +31,7 @@ impl Model for Remembered {
 }
 
 impl Remembered {
-    ghost use Rattle.vt_isect.specs.Layout.{IsPlaceOf};
+    ghost use Rattle.vt_isect.specs.Layout.{IsBucketPlace};
     ghost use Rattle.vt_isect.specs.Remembered.{Remembers};
 
     /// Room for so many buckets, of none of which anything is remembered.
@@ -76,7 +76,7 @@ impl Remembered {
     /// frame that it names.
     pub fn read<D: Disk>(&mut self, disk: &mut D, place: Region, bucket: u32) -> Result<u8, Failed>
         requires bucket { bucket < length self.old }
-        requires room { HasRoom place FRAME_LEN (D.size disk.old) }
+        requires room { FitsTwin place FRAME_LEN (D.size disk.old) }
         ensures named { IfOk result (λ number. IsTrue D.tells
             → number ≡ named_number place FRAME_LEN (D.bytes disk.old)) }
         ensures bound { IfOk result (λ number. number < 2) }
@@ -98,8 +98,8 @@ impl Remembered {
     /// read where that isn't remembered, and then it is.
     pub fn find<D: Disk>(&mut self, disk: &mut D, place: Region, bucket: u32) -> Result<u8, Failed>
         requires bucket { bucket < length self.old }
-        requires room { HasRoom place FRAME_LEN (D.size disk.old) }
-        requires place { IsPlaceOf bucket place }
+        requires room { FitsTwin place FRAME_LEN (D.size disk.old) }
+        requires place { IsBucketPlace bucket place }
         ensures named { (buckets : ℕ) → IfOk result (λ number.
             Remembers D.Disk disk.old buckets self.old → IsTrue D.tells
             → number ≡ named_number place FRAME_LEN (D.bytes disk.old)) }

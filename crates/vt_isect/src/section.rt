@@ -4,24 +4,24 @@ ghost use Rattle.std.specs.Prelude.{◌≡◌, ◌≢◌, ◌⊎◌, ◌↔◌, 
 ghost use Rattle.std.specs.List.{Contains};
 ghost use Rattle.vt_base.specs.Faults.{HasCause, CountsFault};
 ghost use Rattle.vt_base.specs.declared.place.Entry.{Entry};
-ghost use Rattle.vt_bucket.specs.Buckets.{number_of, entries_of as entries_in};
-ghost use Rattle.vt_bucket.specs.Frame.{IsFrame};
+ghost use Rattle.vt_bucket.specs.Buckets.{number_of_bucket, bucket_entries};
+ghost use Rattle.vt_bucket.specs.Frame.{IsBucketFrame};
 ghost use Rattle.vt_disk.specs.Calls.{OnlyReads, MadeCalls};
 ghost use Rattle.vt_disk.specs.declared.region.Region.{Region};
 ghost use Rattle.vt_model.specs.History.{History};
 ghost use Rattle.vt_model.specs.Places.{Setup};
 ghost use Rattle.vt_twin.specs.Frames.{current_frame, named_number};
-ghost use Rattle.vt_twin.specs.Twin.{fresh, calls_made, next_frame};
+ghost use Rattle.vt_twin.specs.Twin.{fresh, twin_calls_made, next_frame};
 ghost use Rattle.vt_isect.specs.declared.groups.Member.{Member};
-ghost use Rattle.vt_isect.specs.Agreement.{KnownAgrees, IsCovered, IsOfBlock, NoOthers};
+ghost use Rattle.vt_isect.specs.Agreement.{KnownAgrees, IsMarkCovered, IsEntryOfBlock, NoOthers};
 ghost use Rattle.vt_isect.specs.Head.{IsHeadFrame, encoded};
-ghost use Rattle.vt_isect.specs.Layout.{IsPlaceOf, InRange};
+ghost use Rattle.vt_isect.specs.Layout.{IsBucketPlace, InRange};
 ghost use Rattle.vt_isect.specs.Entries.{EntriesState, Orders};
-ghost use Rattle.vt_isect.specs.Faults.{NamesDamage, is_fault};
-ghost use Rattle.vt_isect.specs.Merging.{IsFaulty};
+ghost use Rattle.vt_isect.specs.Faults.{NamesDamage, is_section_fault};
+ghost use Rattle.vt_isect.specs.Merging.{IsFaultyFrame};
 
-use crate::bad::ShardErr;
 use crate::entries::{Entries, items};
+use crate::error::ShardErr;
 use crate::groups::{Member, member_of};
 use crate::head::Head;
 use crate::merging::decode_bucket;
@@ -32,10 +32,9 @@ use crate::remembered::Remembered;
 use crate::{BUCKET_PLACE_LEN, FRAME_LEN, GROUP_MAX, HEAD_PLACE_LEN};
 use std::marker::Model;
 use std::sync::ledger::Ledger;
-use vt_base::{Entry, Failed};
+use vt_base::{Entry, Failed, Steps};
 use vt_bucket::Bucket;
 use vt_disk::{CallCount, Disk, NAME_LEN};
-use vt_steps::Steps;
 use vt_twin::Twin;
 
 /// An index section on its disk: a head, and buckets of entries by their scores.
@@ -94,8 +93,8 @@ impl<D: Disk> Model for Section<D> {
 
 impl<D: Disk> Section<D> {
     ghost use Rattle.vt_isect.specs.declared.phase.Phase.TheVariants.{Rest, ReadSelector, ChangeHead};
-    ghost use Rattle.vt_isect.specs.Section.{SectionState, AreInRange, IsAtRest, IsChanging, IsIdle, IsMember, IsTodo, PutsEntries, bucket_under_way, entries_of, most_after, mounted};
-    ghost use Rattle.vt_isect.specs.Sound.{Known, DiskHolds, IsReadFrom};
+    ghost use Rattle.vt_isect.specs.Section.{SectionState, AreInRange, IsAtRest, IsChanging, IsIdleSection, IsMember, IsTodo, PutsEntries, bucket_under_way, entries_of, most_after, mounted_section};
+    ghost use Rattle.vt_isect.specs.Sound.{KnownBuckets, DiskHolds, IsReadFrom};
     ghost use Rattle.vt_isect.specs.Writeback.{BeginsBehind, calls_left, later};
 
     /// A section as it was found.
@@ -109,7 +108,7 @@ impl<D: Disk> Section<D> {
         requires frames { (j : ℕ) → j < length opened.frames
             → slice_get opened.frames j ≡ Some None }
         requires twin { opened.twin ≡ fresh FRAME_LEN opened.twin.current }
-        ensures { result ≡ mounted disk buckets opened.name opened.head opened.twin.current }
+        ensures { result ≡ mounted_section disk buckets opened.name opened.head opened.twin.current }
     {
         let Opened {
             twin,
@@ -196,7 +195,7 @@ impl<D: Disk> Section<D> {
     pub fn is_changing(&self) -> bool
         ensures under_way { IsTrue result ↔ ¬ IsAtRest self.now }
         ensures left { IsTrue result ↔ (0 < calls_left self.now) }
-        ensures idle { IsAtRest self.now → IsIdle self.now }
+        ensures idle { IsAtRest self.now → IsIdleSection self.now }
     {
         self.phase != Phase::Rest
     }
@@ -287,27 +286,27 @@ impl<D: Disk> Section<D> {
 
         // It gives exactly what is known of the bucket, and where something is known it finds no
         // damage.
-        ensures found { (known : Known) (entries : List Entry) → IfOk result (λ bucket.
+        ensures found { (known : KnownBuckets) (entries : List Entry) → IfOk result (λ bucket.
             IsTrue D.tells → DiskHolds D.Disk self.old known
-            → known number ≡ Some entries → entries_in bucket ≡ entries) }
-        ensures undamaged { (known : Known) (entries : List Entry) → IsTrue D.tells
+            → known number ≡ Some entries → bucket_entries bucket ≡ entries) }
+        ensures undamaged { (known : KnownBuckets) (entries : List Entry) → IsTrue D.tells
             → DiskHolds D.Disk self.old known → known number ≡ Some entries
             → IfErr result (λ bad. bad ≡ ShardErr.Fault) }
 
         // Else too it gives what the frame that it reads spells, and damage is a fault of that.
-        ensures number { IfOk result (λ bucket. number_of bucket ≡ number) }
+        ensures number { IfOk result (λ bucket. number_of_bucket bucket ≡ number) }
         ensures spelled { IfOk result (λ bucket. (frame : List ℕ)
-            × IsFrame number (entries_in bucket) frame
+            × IsBucketFrame number (bucket_entries bucket) frame
             × ((region : Region) → IsTrue D.tells
-            → IsPlaceOf (number - self.old.head.first) region
+            → IsBucketPlace (number - self.old.head.first) region
             → IsReadFrom self.old number region (D.bytes self.old.disk) frame)) }
         ensures differs { IfErr result NamesDamage }
         ensures damaged { IfErr result (λ bad. bad ≢ ShardErr.Fault → (frame : List ℕ)
-            × IsFaulty number frame bad
+            × IsFaultyFrame number frame bad
             × ((region : Region) → IsTrue D.tells
-            → IsPlaceOf (number - self.old.head.first) region
+            → IsBucketPlace (number - self.old.head.first) region
             → IsReadFrom self.old number region (D.bytes self.old.disk) frame)) }
-        ensures faults { CountsFault is_fault result
+        ensures faults { CountsFault is_section_fault result
             (D.faults self.old.disk) (D.faults self.new.disk) }
 
         // It changes nothing, and reads one bucket frame at most.
@@ -367,22 +366,22 @@ impl<D: Disk> Section<D> {
           head_twin = self.new.head_twin;
         } }
         ensures most { self.new.most ≡ most_after behind }
-        ensures sound { (known : Known) → IsTrue D.tells → DiskHolds D.Disk self.old known
+        ensures sound { (known : KnownBuckets) → IsTrue D.tells → DiskHolds D.Disk self.old known
             → DiskHolds D.Disk self.new known }
 
         // What is known goes on to agree with a history where each entry is that of a block, and
         // each block below the mark is in its bucket or among the entries.
-        ensures agrees { (score : List ℕ → List ℕ) (c : Setup) (h : History) (known : Known)
+        ensures agrees { (score : List ℕ → List ℕ) (c : Setup) (h : History) (known : KnownBuckets)
             → KnownAgrees score c h self.old known
-            → ((entry : Entry) → Contains entries.items entry → IsOfBlock score c h entry)
+            → ((entry : Entry) → Contains entries.items entry → IsEntryOfBlock score c h entry)
             → (self.old.head.state ≡ 1
-            → IsCovered score c h self.old known (Contains entries.items) mark)
+            → IsMarkCovered score c h self.old known (Contains entries.items) mark)
             → KnownAgrees score c h self.new known }
 
         // Whatever the state, a mark that is covered by what is known and the entries stays so.
-        ensures covers { (score : List ℕ → List ℕ) (c : Setup) (h : History) (known : Known)
-            (covered : ℕ) → IsCovered score c h self.old known (Contains entries.items) covered
-            → IsCovered score c h self.new known (IsTodo self.new) covered }
+        ensures covers { (score : List ℕ → List ℕ) (c : Setup) (h : History) (known : KnownBuckets)
+            (covered : ℕ) → IsMarkCovered score c h self.old known (Contains entries.items) covered
+            → IsMarkCovered score c h self.new known (IsTodo self.new) covered }
     {
         let next = Head { mark, ..self.head };
         entries.order(self.head.total, behind);
@@ -397,7 +396,7 @@ impl<D: Disk> Section<D> {
     pub fn begin_head(&mut self, state: u8, first: u32, total: u32, mark: u64)
         requires rest { IsAtRest self.old }
         requires numbers { first + self.old.buckets ≤ 2 ^ 32 }
-        ensures begins { (self.new.phase ≡ ChangeHead) × (calls_made self.new.head_twin ≡ 0)
+        ensures begins { (self.new.phase ≡ ChangeHead) × (twin_calls_made self.new.head_twin ≡ 0)
             × (next_frame self.new.head_twin ≡ encoded self.old.name self.new.next) }
         ensures left { calls_left self.new ≡ 4 }
         ensures next { self.new.next ≡ record {
@@ -412,12 +411,12 @@ impl<D: Disk> Section<D> {
           phase = self.new.phase;
           head_twin = self.new.head_twin;
         } }
-        ensures sound { (known : Known) → IsTrue D.tells → DiskHolds D.Disk self.old known
+        ensures sound { (known : KnownBuckets) → IsTrue D.tells → DiskHolds D.Disk self.old known
             → DiskHolds D.Disk self.new known }
-        ensures agrees { (score : List ℕ → List ℕ) (c : Setup) (h : History) (known : Known)
+        ensures agrees { (score : List ℕ → List ℕ) (c : Setup) (h : History) (known : KnownBuckets)
             → KnownAgrees score c h self.old known
             → first ≡ self.old.head.first → total ≡ self.old.head.total
-            → (state ≡ 1 → IsCovered score c h self.old known NoOthers mark)
+            → (state ≡ 1 → IsMarkCovered score c h self.old known NoOthers mark)
             → KnownAgrees score c h self.new known }
     {
         let next = Head {
@@ -451,7 +450,7 @@ impl<D: Disk> Section<D> {
         ensures changing { (member : Member) → IfOk result (λ current.
             IsMember self.old number member → current ≡ member.current) }
         ensures named { IfOk result (λ current. IsTrue D.tells → ¬ IsChanging self.old number
-            → (region : Region) → IsPlaceOf (number - self.old.head.first) region
+            → (region : Region) → IsBucketPlace (number - self.old.head.first) region
             → current ≡ named_number region FRAME_LEN (D.bytes self.old.disk)) }
         ensures same { self.new ≡ record self.old { disk = self.new.disk } }
         ensures reads { OnlyReads D.Disk 1 self.old.disk self.new.disk }

@@ -10,20 +10,20 @@ ghost use Rattle.vt_disk.specs.declared.region.Region.{Region};
 ghost use Rattle.vt_model.specs.History.{History};
 ghost use Rattle.vt_model.specs.Places.{Setup, bucket_count, crowd};
 ghost use Rattle.vt_twin.specs.Frames.{frame_of as twin_frame, selector_bytes};
-ghost use Rattle.vt_twin.specs.Twin.{calls_made, with_change};
+ghost use Rattle.vt_twin.specs.Twin.{twin_calls_made, with_change};
 ghost use Rattle.vt_isect.specs.declared.phase.Phase.TheVariants.{WriteSelector, SyncSelectors};
 ghost use Rattle.vt_isect.specs.Agreement.{KnownAgrees, LeavesAgreeing};
 ghost use Rattle.vt_isect.specs.Entries.{IsOrdered};
-ghost use Rattle.vt_isect.specs.Faults.{NamesDamage, is_fault};
+ghost use Rattle.vt_isect.specs.Faults.{NamesDamage, is_section_fault};
 ghost use Rattle.vt_isect.specs.Head.{IsHead, encoded};
-ghost use Rattle.vt_isect.specs.Layout.{IsPlaceOf};
+ghost use Rattle.vt_isect.specs.Layout.{IsBucketPlace};
 ghost use Rattle.vt_isect.specs.Merging.{IsMerged, IsDamage};
 ghost use Rattle.vt_isect.specs.Remembered.{first_read};
-ghost use Rattle.vt_isect.specs.Writeback.{IsRead};
+ghost use Rattle.vt_isect.specs.Writeback.{NextCallReads};
 
 use crate::FRAME_LEN;
-use crate::bad::ShardErr;
 use crate::entries::items;
+use crate::error::ShardErr;
 use crate::groups::{Member, bucket_behind};
 use crate::head::{Head, encode_head};
 use crate::merging::read_merged;
@@ -38,8 +38,8 @@ use vt_twin::Step;
 impl<D: Disk> Section<D> {
     ghost use Rattle.vt_isect.specs.declared.phase.Phase.TheVariants.{Rest, ReadSelector, ReadFrame, WriteFrame, SyncFrames, WriteSelector, SyncSelectors, ChangeHead};
     ghost use Rattle.vt_isect.specs.Section.{AreInRange, ChangesGroup, IsAtRest, IsOfGroup, PutsEntries, bucket_number as number_of, entering, entries_of};
-    ghost use Rattle.vt_isect.specs.Sound.{Known, DiskHolds, LeavesSection, IsWhole, StillNames};
-    ghost use Rattle.vt_isect.specs.Writeback.{Advances, BeginsBehind, ComesNext, Completes, FindsDamage, Follows, GetsFrame, Joins, Keeps, KeepsCovered, MakesNext, MayWrite, NextPhase, Syncs, TakesStep, Writes, WritesBack, calls_left};
+    ghost use Rattle.vt_isect.specs.Sound.{KnownBuckets, DiskHolds, LeavesSection, KnowsEachBucket, StillNames};
+    ghost use Rattle.vt_isect.specs.Writeback.{SectionAdvances, BeginsBehind, ComesNext, Completes, FindsDamage, Follows, GetsFrame, JoinsGroup, KeepsDiskSound, KeepsCovered, MakesNext, MayWrite, NextPhase, NextCallSyncs, SectionTakesStep, NextCallWrites, WritesEntryBack, calls_left};
 
     /// Makes one device call of what is under way. Of a writeback, for each bucket of a group: it
     /// reads the selector, unless the frame that this names is remembered, reads that frame, and
@@ -56,48 +56,48 @@ impl<D: Disk> Section<D> {
 
         // The disk stays sound: each bucket that the step completes has its entries in it, and each
         // other one is known as before.
-        ensures sound { IsTrue D.tells → Keeps D.Disk result self.old self.new }
+        ensures sound { IsTrue D.tells → KeepsDiskSound D.Disk result self.old self.new }
 
         // A crash at any moment of it leaves a section as it is before the step or after it.
-        ensures crash { (known : Known) → IsTrue D.tells
+        ensures crash { (known : KnownBuckets) → IsTrue D.tells
             → DiskHolds D.Disk self.old known
-            → IsWhole self.old known → self.old.next.first ≡ self.old.head.first
-            → (knows : Known) × Follows result self.old self.new known knows
+            → KnowsEachBucket self.old known → self.old.next.first ≡ self.old.head.first
+            → (knows : KnownBuckets) × Follows result self.old self.new known knows
             × ((file : List ℕ) → WithinCall (D.images self.old.disk) (D.images self.new.disk) file
             → LeavesSection self.old known file ⊎ LeavesSection self.new knows file) }
 
         // In state 1 that agrees with a history, as what is known does.
-        ensures agrees { (score : List ℕ → List ℕ) (c : Setup) (h : History) (known : Known)
+        ensures agrees { (score : List ℕ → List ℕ) (c : Setup) (h : History) (known : KnownBuckets)
             → IsTrue D.tells
             → DiskHolds D.Disk self.old known
             → KnownAgrees score c h self.old known
-            → (knows : Known) × Follows result self.old self.new known knows
+            → (knows : KnownBuckets) × Follows result self.old self.new known knows
             × ((file : List ℕ) → WithinCall (D.images self.old.disk) (D.images self.new.disk) file
             → LeavesAgreeing score c h self.old known file
             ⊎ LeavesAgreeing score c h self.new knows file) }
 
         // Whatever mark is covered stays so, with what is known after the step.
         ensures covers { (score : List ℕ → List ℕ) (c : Setup) (h : History)
-            (known knows : Known) → KnownAgrees score c h self.old known
+            (known knows : KnownBuckets) → KnownAgrees score c h self.old known
             → Follows result self.old self.new known knows
             → KeepsCovered score c h result self.old self.new known knows }
 
         // What it writes, and that it syncs: behind that a crash leaves what a read gives.
-        ensures written { IsTrue D.tells → OnOk result (Writes self.old.phase self.old
+        ensures written { IsTrue D.tells → OnOk result (NextCallWrites self.old.phase self.old
             (D.bytes self.old.disk) (D.bytes self.new.disk)) }
-        ensures settled { Syncs self.old.phase self.old
+        ensures settled { NextCallSyncs self.old.phase self.old
             → OnOk result (IsSynced D.Disk self.new.disk) }
 
-        ensures steps { Advances result self.old self.new }
+        ensures steps { SectionAdvances result self.old self.new }
         ensures done { IfOk result (λ step. (step ≡ Step.Done)
-            ↔ ((self.old.phase ≡ ChangeHead) × (calls_made self.old.head_twin ≡ 3))) }
+            ↔ ((self.old.phase ≡ ChangeHead) × (twin_calls_made self.old.head_twin ≡ 3))) }
         ensures left { OnOk result (calls_left self.new < calls_left self.old) }
         ensures ended { IfErr result (λ _. self.new.stopped ≡ None → calls_left self.new ≡ 0) }
         ensures stopped { (n : ℕ)
             → (result ≡ Err (ShardErr.Stopped n)) ↔ (self.old.stopped ≡ Some n) }
 
         // The entries that it puts into their buckets are those of the buckets that it completes.
-        ensures wrote { (entry : Entry) → WritesBack self.old self.new entry
+        ensures wrote { (entry : Entry) → WritesEntryBack self.old self.new entry
             ↔ (Completes result self.old (number_of self.old entry)
             × IsOfGroup self.old (number_of self.old entry) entry) }
 
@@ -106,18 +106,19 @@ impl<D: Disk> Section<D> {
         ensures merged { (s : ℕ) → OnOk result (self.old.phase ≡ ReadFrame s
             → (read : List ℕ) × IsMerged self.old.bucket (entering self.old) read self.new.frame
             × ((region : Region) → IsTrue D.tells
-            → IsPlaceOf (self.old.bucket - self.old.head.first) region
+            → IsBucketPlace (self.old.bucket - self.old.head.first) region
             → read ≡ twin_frame region FRAME_LEN (s % 2) (D.bytes self.old.disk))) }
         ensures differs { IfErr result NamesDamage }
         ensures damaged { (s : ℕ) → IfErr result (λ bad. bad ≢ ShardErr.Fault
             → self.old.stopped ≡ None → self.old.phase ≡ ReadFrame s
             → (read : List ℕ) × IsDamage self.old.bucket (entering self.old) read bad
             × ((region : Region) → IsTrue D.tells
-            → IsPlaceOf (self.old.bucket - self.old.head.first) region
+            → IsBucketPlace (self.old.bucket - self.old.head.first) region
             → read ≡ twin_frame region FRAME_LEN (s % 2) (D.bytes self.old.disk))) }
 
         // While no bucket has more blocks than it has room for, it finds no damage.
-        ensures undamaged { (score : List ℕ → List ℕ) (c : Setup) (h : History) (known : Known)
+        ensures undamaged { (score : List ℕ
+            → List ℕ) (c : Setup) (h : History) (known : KnownBuckets)
             → IsTrue D.tells
             → DiskHolds D.Disk self.old known
             → KnownAgrees score c h self.old known
@@ -125,7 +126,7 @@ impl<D: Disk> Section<D> {
             → IfErr result (λ bad. (bad ≡ ShardErr.Fault)
             ⊎ ((n : ℕ) × (bad ≡ ShardErr.Stopped n))) }
 
-        ensures faults { CountsFault is_fault result
+        ensures faults { CountsFault is_section_fault result
             (D.faults self.old.disk) (D.faults self.new.disk) }
 
         // It makes one call or, where it is stopped, none.
@@ -148,7 +149,7 @@ impl<D: Disk> Section<D> {
     fn make_call(&mut self) -> Result<Step, ShardErr>
         requires under_way { ¬ IsAtRest self.old }
         requires goes { self.old.stopped ≡ None }
-        ensures step { TakesStep D.Disk result self.old self.new }
+        ensures step { SectionTakesStep D.Disk result self.old self.new }
         ensures merged { (s : ℕ) → OnOk result (self.old.phase ≡ ReadFrame s
             → GetsFrame D.Disk s self.old self.new) }
         ensures damaged { (s : ℕ) → IfErr result (λ bad. bad ≢ ShardErr.Fault
@@ -170,7 +171,7 @@ impl<D: Disk> Section<D> {
     fn read_selector(&mut self) -> Result<Step, ShardErr>
         requires phase { self.old.phase ≡ ReadSelector }
         requires goes { self.old.stopped ≡ None }
-        ensures { TakesStep D.Disk result self.old self.new }
+        ensures { SectionTakesStep D.Disk result self.old self.new }
     {
         self.calls.count();
         let index = self.bucket - self.head.first;
@@ -190,7 +191,7 @@ impl<D: Disk> Section<D> {
     fn read_frame(&mut self, selector: u8) -> Result<Step, ShardErr>
         requires phase { self.old.phase ≡ ReadFrame selector }
         requires goes { self.old.stopped ≡ None }
-        ensures step { TakesStep D.Disk result self.old self.new }
+        ensures step { SectionTakesStep D.Disk result self.old self.new }
         ensures merged { OnOk result (GetsFrame D.Disk selector self.old self.new) }
         ensures damaged { IfErr result (λ bad. bad ≢ ShardErr.Fault
             → FindsDamage D.Disk selector self.old bad) }
@@ -220,7 +221,7 @@ impl<D: Disk> Section<D> {
     fn change_group(&mut self) -> Result<Step, ShardErr>
         requires phase { ChangesGroup self.old.phase }
         requires goes { self.old.stopped ≡ None }
-        ensures { TakesStep D.Disk result self.old self.new }
+        ensures { SectionTakesStep D.Disk result self.old self.new }
     {
         // (so that what the section keeps is known here)
         let _ = &self.calls;
@@ -296,7 +297,7 @@ impl<D: Disk> Section<D> {
     fn change_head(&mut self) -> Result<Step, ShardErr>
         requires phase { self.old.phase ≡ ChangeHead }
         requires goes { self.old.stopped ≡ None }
-        ensures { TakesStep D.Disk result self.old self.new }
+        ensures { SectionTakesStep D.Disk result self.old self.new }
     {
         match self
             .head_twin
@@ -336,7 +337,7 @@ impl<D: Disk> Section<D> {
         ensures begins { BeginsBehind from self.new }
         ensures named { (s : ℕ) → IsTrue D.tells → self.new.phase ≡ ReadFrame s
             → StillNames self.new (s % 2) (D.bytes self.new.disk) }
-        ensures same { (IsRead self.new.phase × (self.new ≡ record self.old {
+        ensures same { (NextCallReads self.new.phase × (self.new ≡ record self.old {
           next = next;
           phase = self.new.phase;
           written = from;
@@ -414,7 +415,7 @@ impl<D: Disk> Section<D> {
 /// that frame.
 fn first_read(current: Option<u8>) -> Phase
     ensures first { result ≡ first_read current }
-    ensures reads { IsRead result }
+    ensures reads { NextCallReads result }
 {
     match current {
         Some(number) => Phase::ReadFrame(number),

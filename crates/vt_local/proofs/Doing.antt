@@ -6,19 +6,19 @@ use Rattle.vt_base.specs.declared.TheConstants.{MAX_BLOCK}
 use Rattle.vt_base.specs.declared.score.Score.{Score}
 use Rattle.vt_base.specs.declared.why.Why.{Why}
 use Rattle.vt_model.specs.History.{History}
-use Rattle.vt_answer.specs.Condition.{GoesOn}
+use Rattle.vt_handler.specs.Condition.{ConditionGoesOn}
 use Rattle.vt_local.specs.Members.{StoreOf}
-use Rattle.vt_answer.specs.Serving.{Serves, TellsCause}
-use Rattle.vt_tree.specs.declared.err.BlockErr.{BlockErr}
-use Rattle.vt_tree.specs.Calls.{get, put, sync, counted}
+use Rattle.vt_handler.specs.Serving.{ServesOperation, TellsCause}
+use Rattle.vt_tree.specs.declared.error.BlockErr.{BlockErr}
+use Rattle.vt_tree.specs.Calls.{get, put, sync, with_refusal}
 use Rattle.vt_local.specs.Local.{LocalState, DoesLocal, IsToldAs}
 
 module _ {S : Type 0} (T : StoreOf S) (l l' : LocalState S)
-    (goes : GoesOn (T.condition l.store) (T.condition l'.store)) where
+    (goes : ConditionGoesOn (T.condition l.store) (T.condition l'.store)) where
   -- the store answers an operation so, of each history that it holds
   abbrev pub Replies : Operation → Result RMessage Why → Type 0
   Replies m reply = (h : History) → T.holds l.store h
-      → Serves T.score_of (T.condition l.store) (T.condition l'.store) (T.holds l'.store) h m
+      → ServesOperation T.score_of (T.condition l.store) (T.condition l'.store) (T.holds l'.store) h m
       (λ r. r) reply
 
   pub got : (kind wire : ℕ) (s bytes : List ℕ) → wire ≡ kind → IsKind wire
@@ -42,7 +42,7 @@ module _ {S : Type 0} (T : StoreOf S) (l l' : LocalState S)
       → IsKind wire → IsToldAs why err → Replies (read s wire MAX_BLOCK) (Err why)
       → TellsCause {X = RMessage} (T.condition l.store) (T.condition l'.store) (Err why)
       → T.does l.store (read s wire MAX_BLOCK) (Err why) l'.store
-      → l'.counts ≡ counted (Some err) l.counts → l'.refused ≡ Some why
+      → l'.counts ≡ with_refusal (Some err) l.counts → l'.refused ≡ Some why
       → DoesLocal T l (get kind s (Err err)) l'
   not_got kind wire s why err is known told serves cause once counts refused =
       subst (λ (k : ℕ). DoesLocal T l (get k s (Err err)) l') is (record {
@@ -80,7 +80,7 @@ module _ {S : Type 0} (T : StoreOf S) (l l' : LocalState S)
       → IsKind wire → IsToldAs why err → Replies (write wire bytes) (Err why)
       → TellsCause {X = RMessage} (T.condition l.store) (T.condition l'.store) (Err why)
       → T.does l.store (write wire bytes) (Err why) l'.store
-      → l'.counts ≡ counted (Some err) l.counts → l'.refused ≡ Some why
+      → l'.counts ≡ with_refusal (Some err) l.counts → l'.refused ≡ Some why
       → DoesLocal T l (put (record { kind = kind; bytes = bytes }) (Err err)) l'
   not_taken kind wire bytes why err is known told serves cause once counts refused =
       subst (λ (k : ℕ). DoesLocal T l (put (record { kind = k; bytes = bytes }) (Err err)) l') is
@@ -114,7 +114,7 @@ module _ {S : Type 0} (T : StoreOf S) (l l' : LocalState S)
   pub not_synced : (why : Why) (err : BlockErr) → IsToldAs why err → Replies sync_all (Err why)
       → TellsCause {X = RMessage} (T.condition l.store) (T.condition l'.store) (Err why)
       → T.does l.store sync_all (Err why) l'.store
-      → l'.counts ≡ counted (Some err) l.counts → l'.refused ≡ Some why
+      → l'.counts ≡ with_refusal (Some err) l.counts → l'.refused ≡ Some why
       → DoesLocal T l (sync (Err err)) l'
   not_synced why err told serves cause once counts refused = record {
     reply = Err why;

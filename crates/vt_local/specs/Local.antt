@@ -1,17 +1,17 @@
 -- A store as a store of blocks: what it says of a call, and which maps it holds.
 use Rattle.std.specs.Prelude.{ℕ, ◌≡◌, ◌≤◌, ◌⊎◌, ⊤, IsTrue, Option, Some, Result, Ok, Err, List, take}
 use Rattle.vt_base.specs.Kind.{IsKind}
-use Rattle.vt_base.specs.Protocol.{RMessage, r_read, r_write, r_sync, text_of}
+use Rattle.vt_base.specs.Protocol.{RMessage, r_read, r_write, r_sync, why_words}
 use Rattle.vt_base.specs.declared.why.Why.{Why}
 use Rattle.vt_base.specs.declared.why.Why.TheVariants as whys
 use Rattle.vt_model.specs.History.{History, held as held_by}
 use Rattle.vt_model.specs.Legal.{IsLegal}
-use Rattle.vt_answer.specs.Condition.{GoesOn}
+use Rattle.vt_handler.specs.Condition.{ConditionGoesOn}
 use Rattle.vt_local.specs.Members.{StoreOf}
-use Rattle.vt_answer.specs.Serving.{Serves, TellsCause}
-use Rattle.vt_tree.specs.declared.err.BlockErr.{BlockErr}
-use Rattle.vt_tree.specs.declared.err.BlockErr.TheVariants.{Fault, Refused, WrongScore, Damaged, NoMemory}
-use Rattle.vt_tree.specs.Calls.{Call, get, put, sync, asked_of, refusal_of, Counts, counted}
+use Rattle.vt_handler.specs.Serving.{ServesOperation, TellsCause}
+use Rattle.vt_tree.specs.declared.error.BlockErr.{BlockErr}
+use Rattle.vt_tree.specs.declared.error.BlockErr.TheVariants.{Fault, Refused, WrongScore, Damaged, NoMemory}
+use Rattle.vt_tree.specs.Calls.{Call, get, put, sync, asked_of, refusal_of, Counts, with_refusal}
 use Rattle.vt_tree.specs.Maps.{Maps}
 
 -- the store; how many of its calls have failed, and how many were refused; and why the store said
@@ -29,7 +29,7 @@ abbrev pub err_of : Why → BlockErr
 err_of whys.DiskFault = Fault
 err_of (whys.Damaged site want found) = Damaged want found
 err_of whys.NoMemory = NoMemory
-err_of why = Refused (text_of why)
+err_of why = Refused (why_words why)
 
 -- it is told with a text
 abbrev pub HasText : BlockErr → Type 0
@@ -76,11 +76,11 @@ pub record DoesLocal {S : Type 0} (T : StoreOf S) (l : LocalState S) (call : Cal
   pub kind : HasKind call
   pub once : T.does l.store (asked_of call) reply l'.store
   pub serves : (h : History) → T.holds l.store h
-      → Serves T.score_of (T.condition l.store) (T.condition l'.store) (T.holds l'.store) h
+      → ServesOperation T.score_of (T.condition l.store) (T.condition l'.store) (T.holds l'.store) h
       (asked_of call) (λ r. r) reply
   pub cause : TellsCause (T.condition l.store) (T.condition l'.store) reply
-  pub goes_on : GoesOn (T.condition l.store) (T.condition l'.store)
-  pub counts : l'.counts ≡ counted (refusal_of call) l.counts
+  pub goes_on : ConditionGoesOn (T.condition l.store) (T.condition l'.store)
+  pub counts : l'.counts ≡ with_refusal (refusal_of call) l.counts
   pub refused : l'.refused ≡ refused_after reply l.refused
 
 -- ---- what it holds

@@ -10,7 +10,7 @@ use Rattle.std.proofs.lemmas.List.Elements.{All-get_or}
 use Rattle.std.proofs.lemmas.Option.{slice_get_within, get_or_from_slice_get}
 use Rattle.std.proofs.lemmas.Slice.Eq.{bytes_eq-Decides}
 use Rattle.vt_base.specs.Kind.{IsKind, is_kind}
-use Rattle.vt_base.specs.Protocol.{Operation, read, write, sync as sync_all, RMessage, r_read, r_write, r_sync, r_error, text_of}
+use Rattle.vt_base.specs.Protocol.{Operation, read, write, sync as sync_all, RMessage, r_read, r_write, r_sync, r_error, why_words}
 use Rattle.vt_base.specs.declared.TheConstants.{MAX_BLOCK}
 use Rattle.vt_base.specs.declared.why.Why.{Why}
 use Rattle.vt_base.specs.declared.why.Why.TheVariants as whys
@@ -24,11 +24,11 @@ use Rattle.vt_model.proofs.Adding.{IsLegal-with_added}
 use Rattle.vt_model.proofs.Keys.{equal_bytes}
 use Rattle.vt_model.proofs.Numbers.{held-zero, held-by, held-first, collides-free}
 use Rattle.vt_model.specs.Causes.{IsCauseFor, Cause, disk_fault, stopped, damaged, no_memory, why_of}
-use Rattle.vt_answer.specs.Condition.{Condition, GoesOn, IsNoDamage}
+use Rattle.vt_handler.specs.Condition.{Condition, ConditionGoesOn, IsNoDamage}
 use Rattle.vt_local.specs.Members.{StoreOf}
-use Rattle.vt_answer.specs.Serving.{Answers, Serves, IsCovered}
-use Rattle.vt_tree.specs.declared.err.BlockErr.{BlockErr}
-use Rattle.vt_tree.specs.Calls.{Call, get, put, sync, asked_of, after, Tells, IsRefusal}
+use Rattle.vt_handler.specs.Serving.{AnswersAsModel, ServesOperation, IsOfDurable}
+use Rattle.vt_tree.specs.declared.error.BlockErr.{BlockErr}
+use Rattle.vt_tree.specs.Calls.{Call, get, put, sync, asked_of, after, TellsOfMap, IsBlockRefusal}
 use Rattle.vt_tree.specs.MapLaws.{block_again, block_same}
 use Rattle.vt_tree.specs.Maps.{Maps, with_block, HasNoOther, IsWithin, IsWriteOnce}
 use Rattle.vt_local.specs.Local.{LocalState, DoesLocal, HoldsLocal, StandsFor, HasKind, IsToldAs, err_of}
@@ -183,10 +183,10 @@ module _ {S : Type 0} (T : StoreOf S)
   where
     -- an answer is about the whole history, which goes on by what it adds alone
     alone_answers : (c c' : Condition) (holds : History → Type 0) (h : History) (m : Operation)
-        (reply : RMessage) → IsTrue c.alone → Answers T.score_of c c' holds h m reply
+        (reply : RMessage) → IsTrue c.alone → AnswersAsModel T.score_of c c' holds h m reply
         → ((answer T.score_of c.setup h m).reply ≡ reply)
         × holds (with_added h (answer T.score_of c.setup h m).added)
-        × IsCovered m (length h) c'.durable
+        × IsOfDurable m (length h) c'.durable
     alone_answers c c' holds h m reply alone a =
         let own = a.lengthens.alone_is alone in
         let front : take a.number a.new ≡ h =
@@ -196,11 +196,11 @@ module _ {S : Type 0} (T : StoreOf S)
           subst holds (own.1
               ∙ ap (λ (l : History). with_added h (answer T.score_of c.setup l m).added) front)
               a.holds_it,
-          subst (λ (n : ℕ). IsCovered m n c'.durable) own.0 a.covered,
+          subst (λ (n : ℕ). IsOfDurable m n c'.durable) own.0 a.covered,
         )
 
     module _ (l l' : LocalState S) (m : Maps) (hold : HoldsLocal T T.score_of l m)
-        (goes : GoesOn (T.condition l.store) (T.condition l'.store)) where
+        (goes : ConditionGoesOn (T.condition l.store) (T.condition l'.store)) where
       -- the history stays
       stays : (h : History) → T.holds l'.store h → h ≡ hold.history → HoldsLocal T T.score_of l' m
       stays h has same = record {
@@ -286,13 +286,14 @@ module _ {S : Type 0} (T : StoreOf S)
 
       -- a call that is refused leaves the history
       refused_stays : (op : Operation) (why : Why)
-          → Serves T.score_of (T.condition l.store) (T.condition l'.store) (T.holds l'.store)
+          → ServesOperation T.score_of (T.condition l.store) (T.condition l'.store)
+          (T.holds l'.store)
           hold.history op (λ r. r) (Err why)
           → HoldsLocal T T.score_of l' m
       refused_stays op why (inl served) =
           let own = alone_answers (T.condition l.store) (T.condition l'.store) (T.holds l'.store)
-          hold.history op (r_error (text_of why)) hold.alone served.1 in
-          let none = added-refused T.score_of (T.condition l.store).setup hold.history op (text_of
+          hold.history op (r_error (why_words why)) hold.alone served.1 in
+          let none = added-refused T.score_of (T.condition l.store).setup hold.history op (why_words
           why)
           own.0 in
           stays (with_added hold.history (answer T.score_of (T.condition l.store).setup hold.history
@@ -313,7 +314,8 @@ module _ {S : Type 0} (T : StoreOf S)
       -- ---- call by call
 
       gets : (s : List ℕ) (kind : ℕ) (bytes : List ℕ)
-          → Answers T.score_of (T.condition l.store) (T.condition l'.store) (T.holds l'.store)
+          → AnswersAsModel T.score_of (T.condition l.store) (T.condition l'.store)
+          (T.holds l'.store)
           hold.history (read s kind MAX_BLOCK) (r_read bytes)
           → (m.held s kind ≡ Some bytes) × HoldsLocal T T.score_of l' m
       gets s kind bytes a =
@@ -331,16 +333,17 @@ module _ {S : Type 0} (T : StoreOf S)
       -- a block that isn't given isn't there, unless a call failed or memory was short
       refused_get : (s : List ℕ) (kind : ℕ) (why : Why) (err : BlockErr) → IsKind kind
           → IsToldAs why err
-          → Serves T.score_of (T.condition l.store) (T.condition l'.store) (T.holds l'.store)
+          → ServesOperation T.score_of (T.condition l.store) (T.condition l'.store)
+          (T.holds l'.store)
           hold.history (read s kind MAX_BLOCK) (λ r. r) (Err why)
-          → IsRefusal err → m.held s kind ≡ None
+          → IsBlockRefusal err → m.held s kind ≡ None
       refused_get s kind why err known (inr short) serves refusal =
-          absurd (subst IsRefusal short.1 refusal)
+          absurd (subst IsBlockRefusal short.1 refusal)
       refused_get s kind why err known (inl told) (inl served) refusal =
           let own = alone_answers (T.condition l.store) (T.condition l'.store) (T.holds l'.store)
-          hold.history (read s kind MAX_BLOCK) (r_error (text_of why)) hold.alone served.1 in
+          hold.history (read s kind MAX_BLOCK) (r_error (why_words why)) hold.alone served.1 in
           hold.held s kind
-          ∙ read_absent T.score_of hold.history s kind MAX_BLOCK (text_of why) known
+          ∙ read_absent T.score_of hold.history s kind MAX_BLOCK (why_words why) known
           (held_most T.score_of hold.history hold.legal.blocks s kind) own.0
       refused_get s kind why err known (inl told) (inr failed) refusal =
           absurd (of failed.cause failed.why_is failed.may.1 failed.undamaged)
@@ -349,14 +352,15 @@ module _ {S : Type 0} (T : StoreOf S)
               → IsCauseFor T.score_of (T.condition l.store).setup (read s kind MAX_BLOCK) cause
               → IsNoDamage cause → ⊥
           of (disk_fault before behind) is may undamaged =
-              subst IsRefusal (told ∙ ap err_of is) refusal
+              subst IsBlockRefusal (told ∙ ap err_of is) refusal
           of (stopped part first) is may undamaged = may
           of (damaged site want found) is may undamaged = undamaged
-          of no_memory is may undamaged = subst IsRefusal (told ∙ ap err_of is) refusal
+          of no_memory is may undamaged = subst IsBlockRefusal (told ∙ ap err_of is) refusal
 
       -- a block that is taken in collides with none, and is there afterwards
       puts : (b : Block) (score : List ℕ)
-          → Answers T.score_of (T.condition l.store) (T.condition l'.store) (T.holds l'.store)
+          → AnswersAsModel T.score_of (T.condition l.store) (T.condition l'.store)
+          (T.holds l'.store)
           hold.history (write b.kind b.bytes) (r_write score)
           → HasNoOther T.score_of m.held b
           × HoldsLocal T T.score_of l' (record m { held = with_block T.score_of b m.held })
@@ -369,7 +373,7 @@ module _ {S : Type 0} (T : StoreOf S)
           own : ((answer T.score_of (T.condition l.store).setup hold.history (write b.kind
               b.bytes)).reply ≡ r_write score) × T.holds l'.store (with_added hold.history (answer
               T.score_of (T.condition l.store).setup hold.history (write b.kind b.bytes)).added)
-              × IsCovered (write b.kind b.bytes) (length hold.history) (T.condition
+              × IsOfDurable (write b.kind b.bytes) (length hold.history) (T.condition
               l'.store).durable
           own = alone_answers (T.condition l.store) (T.condition l'.store) (T.holds l'.store)
               hold.history (write b.kind b.bytes) (r_write score) hold.alone a
@@ -452,7 +456,8 @@ module _ {S : Type 0} (T : StoreOf S)
               (IsLegal-with_added T.score_of (T.condition l.store).setup hold.history
               (write b.kind b.bytes) hold.legal))
 
-      syncs : Answers T.score_of (T.condition l.store) (T.condition l'.store) (T.holds l'.store)
+      syncs : AnswersAsModel T.score_of (T.condition l.store) (T.condition l'.store)
+          (T.holds l'.store)
           hold.history sync_all r_sync
           → HoldsLocal T T.score_of l' (record m { synced = m.held })
       syncs a =
@@ -462,48 +467,53 @@ module _ {S : Type 0} (T : StoreOf S)
 
     told : (l l' : LocalState S) (call : Call) (m : Maps) → DoesLocal T l call l'
         → HoldsLocal T T.score_of l m
-        → Tells T.score_of m.held call × HoldsLocal T T.score_of l' (after T.score_of call m)
+        → TellsOfMap T.score_of m.held call × HoldsLocal T T.score_of l' (after T.score_of call m)
     told l l' call m does hold =
         of call does.stands does.kind (does.serves hold.history hold.holds_it)
       where
         of : (x : Call) → StandsFor x does.reply → HasKind x
-            → Serves T.score_of (T.condition l.store) (T.condition l'.store) (T.holds l'.store)
+            → ServesOperation T.score_of (T.condition l.store) (T.condition l'.store)
+            (T.holds l'.store)
             hold.history (asked_of x) (λ r. r) does.reply
-            → Tells T.score_of m.held x × HoldsLocal T T.score_of l' (after T.score_of x m)
+            → TellsOfMap T.score_of m.held x × HoldsLocal T T.score_of l' (after T.score_of x m)
         of (get kind s (Ok bytes)) stands known serves =
             gets l l' m hold does.goes_on s kind bytes
-            (subst (Serves T.score_of (T.condition l.store) (T.condition l'.store) (T.holds
+            (subst (ServesOperation T.score_of (T.condition l.store) (T.condition l'.store) (T.holds
             l'.store)
             hold.history (read s kind MAX_BLOCK) (λ r. r)) stands serves)
         of (get kind s (Err err)) stands known serves =
-            let here = subst (Serves T.score_of (T.condition l.store) (T.condition l'.store)
+            let here = subst
+            (ServesOperation T.score_of (T.condition l.store) (T.condition l'.store)
             (T.holds l'.store) hold.history (read s kind MAX_BLOCK) (λ r. r)) stands.1 serves in (
               refused_get l l' m hold does.goes_on s kind stands.0 err known stands.2 here,
               refused_stays l l' m hold does.goes_on (read s kind MAX_BLOCK) stands.0 here,
             )
         of (put b (Ok score)) stands known serves =
             puts l l' m hold does.goes_on b score.0
-            (subst (Serves T.score_of (T.condition l.store) (T.condition l'.store) (T.holds
+            (subst (ServesOperation T.score_of (T.condition l.store) (T.condition l'.store) (T.holds
             l'.store)
             hold.history (write b.kind b.bytes) (λ r. r)) stands serves)
         of (put b (Err err)) stands known serves = (
           tt,
           refused_stays l l' m hold does.goes_on (write b.kind b.bytes) stands.0
-              (subst (Serves T.score_of (T.condition l.store) (T.condition l'.store) (T.holds
+              (subst (ServesOperation T.score_of (T.condition l.store) (T.condition l'.store)
+              (T.holds
               l'.store)
               hold.history (write b.kind b.bytes) (λ r. r)) stands.1 serves),
         )
         of (sync (Ok done)) stands known serves = (
           tt,
           syncs l l' m hold does.goes_on
-              (subst (Serves T.score_of (T.condition l.store) (T.condition l'.store) (T.holds
+              (subst (ServesOperation T.score_of (T.condition l.store) (T.condition l'.store)
+              (T.holds
               l'.store)
               hold.history sync_all (λ r. r)) stands serves),
         )
         of (sync (Err err)) stands known serves = (
           tt,
           refused_stays l l' m hold does.goes_on sync_all stands.0
-              (subst (Serves T.score_of (T.condition l.store) (T.condition l'.store) (T.holds
+              (subst (ServesOperation T.score_of (T.condition l.store) (T.condition l'.store)
+              (T.holds
               l'.store)
               hold.history sync_all (λ r. r)) stands.1 serves),
         )
@@ -516,11 +526,11 @@ module _ {S : Type 0} (T : StoreOf S)
 
     store_tells : (score_of : List ℕ → List ℕ) (l l' : LocalState S) (call : Call) (m : Maps)
         → DoesLocal T l call l' → HoldsLocal T score_of l m
-        → Tells score_of m.held call × HoldsLocal T score_of l' (after score_of call m)
+        → TellsOfMap score_of m.held call × HoldsLocal T score_of l' (after score_of call m)
     store_tells score_of l l' call m does hold =
         let same = same_scorer score_of hold.scores in
         subst (λ (f : List ℕ → List ℕ).
-        Tells f m.held call × HoldsLocal T f l' (after f call m)) (sym same)
+        TellsOfMap f m.held call × HoldsLocal T f l' (after f call m)) (sym same)
         (told l l' call m does
         (subst (λ (f : List ℕ → List ℕ). HoldsLocal T f l m) same hold))
 
@@ -593,7 +603,7 @@ pub tells : {S : Type 0} {T : StoreOf S}
     (law : (s : S) (h : History) → T.holds s h → (T.condition s).durable ≤ length h)
     (score_of : List ℕ → List ℕ) (l l' : LocalState S) (call : Call) (m : Maps)
     → DoesLocal T l call l' → HoldsLocal T score_of l m
-    → Tells score_of m.held call × HoldsLocal T score_of l' (after score_of call m)
+    → TellsOfMap score_of m.held call × HoldsLocal T score_of l' (after score_of call m)
 tells {S} {T} law score_of l l' call m does hold =
     store_tells T law score_of l l' call m does hold
 

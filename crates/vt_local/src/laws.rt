@@ -6,8 +6,8 @@ ghost use Rattle.vt_tree.specs.Maps.{Maps};
 ghost use Rattle.vt_local.specs.Local.{LocalState, DoesLocal, HoldsLocal};
 
 use crate::Local;
-use vt_answer::Store;
 use vt_base::Scorer;
+use vt_handler::Store;
 use vt_tree::Blocks;
 
 /// A store, in the words of stores of blocks.

@@ -5,8 +5,8 @@ ghost use Rattle.vt_local.specs.Local.{IsToldAs};
 
 use std::alloc::{AllocError, Global};
 use std::marker::Model;
-use vt_answer::{Store, read, sync, write};
 use vt_base::{Bytes, Kind, MAX_BLOCK, Score, Scorer, Text, Why, why_text};
+use vt_handler::{Store, read, sync, write};
 use vt_tree::{BlockErr, Blocks};
 
 /// A store, or one share of a store, as a store of blocks. It tells what it holds where nobody else
@@ -35,7 +35,7 @@ impl<T: Store, S: Scorer> Model for Local<T, S> {
 
 impl<T: Store, S: Scorer> Local<T, S> {
     ghost use Rattle.std.specs.Prelude.{◌≡◌, Some};
-    ghost use Rattle.vt_tree.specs.Calls.{counted};
+    ghost use Rattle.vt_tree.specs.Calls.{with_refusal};
 
     /// This store, with the scorer by which it scores its blocks.
     pub fn new(store: T, scorer: S) -> Self
@@ -80,7 +80,7 @@ impl<T: Store, S: Scorer> Local<T, S> {
     fn refuse(&mut self, alloc: Global, why: Why) -> BlockErr
         ensures err { IsToldAs why result }
         ensures left { self.new ≡ record self.old {
-          counts = counted (Some result) self.old.counts;
+          counts = with_refusal (Some result) self.old.counts;
           refused = Some why;
         } }
     {

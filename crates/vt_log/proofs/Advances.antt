@@ -13,24 +13,24 @@ use Rattle.vt_model.specs.History.{History}
 use Rattle.vt_part.specs.declared.layout.ArenaRegion.{ArenaRegion}
 use Rattle.vt_arena.specs.Arena.{is_committing, calls_made, commit_calls}
 use Rattle.vt_arena.specs.declared.head.Found.{Found}
-use Rattle.vt_log.specs.declared.bad.Progress.{Progress}
-use Rattle.vt_log.specs.declared.bad.Progress.TheVariants.{Idle, Step, Durable}
-use Rattle.vt_log.specs.declared.bad.LogErr.{LogErr}
-use Rattle.vt_log.specs.declared.bad.LogErr.TheVariants.{Fault, Stopped}
-use Rattle.vt_log.specs.Answers.{Advances, MakesCall, EndsCommit, CallsArena}
-use Rattle.vt_log.specs.Committing.{TakesAll, TakesStep, Prepares, MakesOrEnds, MakesOneCall}
+use Rattle.vt_log.specs.declared.error.Progress.{Progress}
+use Rattle.vt_log.specs.declared.error.Progress.TheVariants.{Idle, Step, Durable}
+use Rattle.vt_log.specs.declared.error.LogErr.{LogErr}
+use Rattle.vt_log.specs.declared.error.LogErr.TheVariants.{Fault, Stopped}
+use Rattle.vt_log.specs.Answers.{LogAdvances, LogMakesCall, EndsCommit, CallsArena}
+use Rattle.vt_log.specs.Committing.{TakesAllWaiting, LogTakesStep, Prepares, MakesOrEnds, MakesOneCall}
 use Rattle.vt_log.specs.Faults.{CountsFaults, is_fault_now}
 use Rattle.vt_log.specs.declared.filling.Filling.{Filling}
 use Rattle.vt_log.specs.declared.queue.Waiting.{Waiting}
 use Rattle.vt_log.specs.Log.{LogState, queued, front, filled_as, fits_in, next_filling}
 use Rattle.vt_log.specs.Queue.{WaitsFor}
-use Rattle.vt_log.specs.Sound.{AreWithinCall, StandForPrefix}
-use Rattle.vt_log.specs.Whole.{IsWhole, Fill, turned_to}
+use Rattle.vt_log.specs.Sound.{AreWithinCallOf, LogStandsForPrefix}
+use Rattle.vt_log.specs.Whole.{IsWholeLog, Fill, turned_to}
 use Rattle.vt_log.proofs.Disks.{tells_set}
 use Rattle.vt_log.proofs.Fill.{fits_within, turned_arena, fill_arena}
 use Rattle.vt_log.proofs.Owed.{none_made}
 
-makes_call : {D : Type 0} (old m new : LogState D) → Prepares old m → MakesCall m new → MakesCall old new
+makes_call : {D : Type 0} (old m new : LogState D) → Prepares old m → LogMakesCall m new → LogMakesCall old new
 makes_call {D = D} old m new prep it = record {
   calls = it.calls ∙ ap (λ (l : LogState D). one_more l.calls) prep.same;
   heads = it.heads ∙ ap (λ (l : LogState D). l.heads) prep.same;
@@ -41,7 +41,7 @@ makes_call {D = D} old m new prep it = record {
 }
 
 pub advances : {D : Type 0} (old m new : LogState D) (result : Result Progress LogErr) → Prepares old m → MakesOrEnds result m new
-    → ((n : ℕ) → result ≡ Ok (Durable n) → calls_made m.arena + 1 ≡ commit_calls m.arena) → Advances result old new
+    → ((n : ℕ) → result ≡ Ok (Durable n) → calls_made m.arena + 1 ≡ commit_calls m.arena) → LogAdvances result old new
 advances old m new (Ok Idle) prep it last = absurd it
 advances old m new (Ok Step) prep it last = (makes_call old m new prep it.0, it.1, omega (arith, it.2, prep.owed_is))
 advances {D = D} old m new (Ok (Durable n)) prep it last = (ended, it.1, it.2, omega (arith, it.3, prep.owed_is))
@@ -53,28 +53,28 @@ advances {D = D} old m new (Err Fault) prep it last = (makes_call old m new prep
 advances old m new (Err (Stopped n)) prep it last = absurd it
 
 -- the call is the first of a commit, and doesn't end it
-pub batch_begins : {D : Type 0} (old m new : LogState D) → Prepares old m → (TakesAll m → calls_made m.arena + 1 < commit_calls m.arena → TakesAll new) → IsFalse (is_committing old.arena) → TakesAll new
+pub batch_begins : {D : Type 0} (old m new : LogState D) → Prepares old m → (TakesAllWaiting m → calls_made m.arena + 1 < commit_calls m.arena → TakesAllWaiting new) → IsFalse (is_committing old.arena) → TakesAllWaiting new
 batch_begins {D = D} old m new prep stays rest = stays (prep.batch rest) (omega (arith, none_made m.arena rests))
   where
     rests : IsFalse (is_committing m.arena)
     rests = ⊎_elim (λ (same : m ≡ old). subst (λ (l : LogState D). IsFalse (is_committing l.arena)) (sym same) rest) (λ (still : IsFalse (is_committing m.arena)). still) prep.begun
 
 -- where nothing is queued there is no commit to be had
-pub batch_of_none : {D : Type 0} (disk : DiskOf D) (l : LogState D) → IsWhole disk l → queued l ≡ 0 → TakesAll l
+pub batch_of_none : {D : Type 0} (disk : DiskOf D) (l : LogState D) → IsWholeLog disk l → queued l ≡ 0 → TakesAllWaiting l
 batch_of_none disk l whole idle = at l.queue.waiting refl
   where
-    at : (ws : List Waiting) → l.queue.waiting ≡ ws → TakesAll l
+    at : (ws : List Waiting) → l.queue.waiting ≡ ws → TakesAllWaiting l
     at [] none = record {
       blocks = λ waits. subst (WaitsFor l.committing) none waits;
       seal = (λ sealed. absurd (subst (WaitsFor (l.committing + 1)) none (whole.way sealed)), λ some. absurd (omega (arith, some, ap (λ (ws : List Waiting). length ws) none)));
     }
     at (w ∷ ws) some = absurd (omega (arith, whole.places, idle, ap (λ (ws : List Waiting). length ws) some))
 
-pub stand_as_prepared : {D : Type 0} (score_of : List ℕ → List ℕ) (old m : LogState D) (files : List (List ℕ)) (h : History) → Prepares old m → StandForPrefix score_of m files h → StandForPrefix score_of old files h
-stand_as_prepared {D = D} score_of old m files h prep it = subst (λ (k : LogState D). StandForPrefix score_of k files h) prep.same it
+pub stand_as_prepared : {D : Type 0} (score_of : List ℕ → List ℕ) (old m : LogState D) (files : List (List ℕ)) (h : History) → Prepares old m → LogStandsForPrefix score_of m files h → LogStandsForPrefix score_of old files h
+stand_as_prepared {D = D} score_of old m files h prep it = subst (λ (k : LogState D). LogStandsForPrefix score_of k files h) prep.same it
 
-pub within_as_prepared : {D : Type 0} (disk : DiskOf D) (old m : LogState D) (ds : List D) (files : List (List ℕ)) → Prepares old m → AreWithinCall disk old.disks ds files → AreWithinCall disk m.disks ds files
-within_as_prepared {D = D} disk old m ds files prep left = subst (λ (k : LogState D). AreWithinCall disk k.disks ds files) (sym prep.same) left
+pub within_as_prepared : {D : Type 0} (disk : DiskOf D) (old m : LogState D) (ds : List D) (files : List (List ℕ)) → Prepares old m → AreWithinCallOf disk old.disks ds files → AreWithinCallOf disk m.disks ds files
+within_as_prepared {D = D} disk old m ds files prep left = subst (λ (k : LogState D). AreWithinCallOf disk k.disks ds files) (sym prep.same) left
 
 pub calls_as_prepared : {D : Type 0} (disk : DiskOf D) (result : Result Progress LogErr) (old m new : LogState D) → Prepares old m → CallsArena disk result m new → CallsArena disk result old new
 calls_as_prepared {D = D} disk result old m new prep it =
@@ -92,7 +92,7 @@ calls_as_prepared {D = D} disk result old m new prep it =
     }
 
 -- where something is queued, an arena is committed in, and its disk is there
-pub committing_there : {D : Type 0} (disk : DiskOf D) (l : LogState D) → IsWhole disk l → 0 < queued l → l.committing < length l.layout
+pub committing_there : {D : Type 0} (disk : DiskOf D) (l : LogState D) → IsWholeLog disk l → 0 < queued l → l.committing < length l.layout
 committing_there disk l whole some = ⊎_elim
     (λ (past : l.committing ≡ length l.layout). absurd (at l.queue.waiting whole.queue (omega (arith, some, whole.places, ap (λ (ps : List Packed). length ps) (whole.none past).0)) past))
     (λ (other : l.committing ≢ length l.layout). let most = whole.committing in omega (arith, most, other))
@@ -110,7 +110,7 @@ cause_as_called disk result old new it = tells_set disk.faults is_fault_now old.
 
 -- no block is lost, and none comes in: those that a commit ends with leave the queue
 pub front_kept : {D : Type 0} (disk : DiskOf D) (r : Result Progress LogErr) (old new : LogState D)
-    → IsWhole disk old → Advances r old new → front new ≡ front old
+    → IsWholeLog disk old → LogAdvances r old new → front new ≡ front old
 front_kept disk (Ok Idle) old new whole it = ap (λ (l : LogState _). front l) it.1
 front_kept disk (Ok Step) old new whole it =
     omega (arith, it.0.durable, ap (λ (ps : List Place). length ps) it.0.places)
@@ -142,7 +142,7 @@ next_same old new n layout filling head =
     ∙ ap (λ (o : Option Found). next_by old.layout old.filling o n) head
 
 -- no commit reaches the arena behind the one that is being filled
-pub next_kept : {D : Type 0} (disk : DiskOf D) (r : Result Progress LogErr) (old new : LogState D) (n : ℕ) → IsWhole disk old → Advances r old new
+pub next_kept : {D : Type 0} (disk : DiskOf D) (r : Result Progress LogErr) (old new : LogState D) (n : ℕ) → IsWholeLog disk old → LogAdvances r old new
     → new.layout ≡ old.layout → new.filling ≡ old.filling → next_filling new n ≡ next_filling old n
 next_kept disk (Ok Idle) old new n whole it layout filling = ap (λ (l : LogState _). next_filling l n) it.1
 next_kept disk (Ok Step) old new n whole it layout filling =
@@ -156,7 +156,7 @@ next_kept disk (Err (Stopped call)) old new n whole it layout filling = ap (λ (
 
 -- ---- all that a call does, on any disks
 
-pub step_stopped : {D : Type 0} (disk : DiskOf D) (l : LogState D) (n : ℕ) → l.stopped ≡ Some n → TakesStep disk (Err (Stopped n)) l l
+pub step_stopped : {D : Type 0} (disk : DiskOf D) (l : LogState D) (n : ℕ) → l.stopped ≡ Some n → LogTakesStep disk (Err (Stopped n)) l l
 step_stopped disk l n is = record {
   advances = (is, refl);
   stopped = λ k. (λ same. is ∙ cc, λ other. let both : Some n ≡ Some k = sym is ∙ other in cc);
@@ -169,7 +169,7 @@ step_stopped disk l n is = record {
   cause = refl;
 }
 
-pub step_idle : {D : Type 0} (disk : DiskOf D) (l : LogState D) → IsWhole disk l → l.stopped ≡ None → queued l ≡ 0 → TakesStep disk (Ok Idle) l l
+pub step_idle : {D : Type 0} (disk : DiskOf D) (l : LogState D) → IsWholeLog disk l → l.stopped ≡ None → queued l ≡ 0 → LogTakesStep disk (Ok Idle) l l
 step_idle disk l whole runs none = record {
   advances = (none, refl);
   stopped = λ k. (λ same. absurd (cc), λ is. absurd (let both : None ≡ Some k = sym runs ∙ is in cc));
@@ -187,8 +187,8 @@ never_stopped (Ok progress) m new n makes is = cc
 never_stopped (Err Fault) m new n makes is = cc
 never_stopped (Err (Stopped k)) m new n makes is = makes
 
-pub step_made : {D : Type 0} (score_of : List ℕ → List ℕ) (disk : DiskOf D) (result : Result Progress LogErr) (old m new : LogState D) → IsWhole disk old → old.stopped ≡ None → 0 < queued old
-    → Prepares old m → MakesOneCall score_of disk m new result → TakesStep disk result old new
+pub step_made : {D : Type 0} (score_of : List ℕ → List ℕ) (disk : DiskOf D) (result : Result Progress LogErr) (old m new : LogState D) → IsWholeLog disk old → old.stopped ≡ None → 0 < queued old
+    → Prepares old m → MakesOneCall score_of disk m new result → LogTakesStep disk result old new
 step_made {D = D} score_of disk result old m new whole runs some prep made = record {
   advances = moves;
   stopped = λ n. (λ is. absurd (never_stopped result m new n made.makes is), λ is. absurd (let both : None ≡ Some n = sym runs ∙ is in cc));
@@ -201,7 +201,7 @@ step_made {D = D} score_of disk result old m new whole runs some prep made = rec
   cause = cause_as_called disk result old new called;
 }
   where
-    moves : Advances result old new
+    moves : LogAdvances result old new
     moves = advances old m new result prep made.makes made.last
 
     called : CallsArena disk result old new

@@ -12,14 +12,14 @@ use Rattle.vt_clump.specs.declared.reading.Clump.{Clump}
 use Rattle.vt_clump.specs.Spelling.{stored_in}
 use Rattle.vt_model.specs.declared.TheConstants.{ARENA_HEAD_LEN}
 use Rattle.vt_part.specs.declared.layout.ArenaRegion.{ArenaRegion}
-use Rattle.vt_arena.specs.declared.bad.ReadBad.{ReadBad}
-use Rattle.vt_arena.specs.declared.bad.ReadBad.TheVariants.{Fault, Damaged, NoMemory}
+use Rattle.vt_arena.specs.declared.error.ReadBad.{ReadBad}
+use Rattle.vt_arena.specs.declared.error.ReadBad.TheVariants.{Fault, Damaged, NoMemory}
 use Rattle.vt_arena.specs.Reading.{HasHeader, clump_at}
-use Rattle.vt_arena.specs.Reading.{ReadsAs as ReadsClump}
+use Rattle.vt_arena.specs.Reading.{ReadsClumpAs}
 use Rattle.vt_log.specs.Log.{LogState, packed_of}
 use Rattle.vt_log.specs.Queue.{IsFirstAt, IsNowhere}
-use Rattle.vt_log.specs.Reading.{IsOther, IsDamagedBy, GivesPacked, ReadsAs, AnswersRead}
-use Rattle.vt_log.specs.Sound.{IsAt}
+use Rattle.vt_log.specs.Reading.{IsOther, IsDamagedBy, GivesPacked, ReadsBlockAs, AnswersRead}
+use Rattle.vt_log.specs.Sound.{IsArenaAt}
 
 -- a clump with the key that was asked for is not damaged by its key
 pub no_other : (key : Key) (kind : ℕ) (score : List ℕ) (bad : ReadBad) → kind ≡ key.kind → score ≡ key.score.0 → IsDamagedBy key kind score bad → ⊥
@@ -44,19 +44,19 @@ queued_block key p block (Ok b) k s whole is other = is ∙ whole
 queued_block key p block (Err bad) k s whole is other = ⊎_elim (λ (e : bad ≡ NoMemory). inr e) (λ (it : IsDamagedBy key p.kind p.score.0 bad). absurd (no_other key p.kind p.score.0 bad k s it)) other
 
 -- where no clump is read
-pub unread : (score_of : List ℕ → List ℕ) (key : Key) (bytes : List ℕ) (bad : ReadBad) → ReadsClump score_of bytes (Err bad) → ReadsAs score_of key bytes (Err bad)
+pub unread : (score_of : List ℕ → List ℕ) (key : Key) (bytes : List ℕ) (bad : ReadBad) → ReadsClumpAs score_of bytes (Err bad) → ReadsBlockAs score_of key bytes (Err bad)
 unread score_of key bytes Fault reads = tt
 unread score_of key bytes NoMemory reads = tt
 unread score_of key bytes (Damaged want found) reads = inl reads
 
 -- where the clump that is read has that key, and where it has another
-pub reads_block : (score_of : List ℕ → List ℕ) (key : Key) (bytes : List ℕ) (clump : Clump) → ReadsClump score_of bytes (Ok clump) → clump.kind ≡ key.kind → clump.score ≡ key.score
-    → ReadsAs score_of key bytes (Ok clump.bytes)
+pub reads_block : (score_of : List ℕ → List ℕ) (key : Key) (bytes : List ℕ) (clump : Clump) → ReadsClumpAs score_of bytes (Ok clump) → clump.kind ≡ key.kind → clump.score ≡ key.score
+    → ReadsBlockAs score_of key bytes (Ok clump.bytes)
 reads_block score_of key bytes clump reads kind score =
     (reads.0, (sym reads.1.kind ∙ kind, sym reads.1.score ∙ ap (λ (s : _). s.0) score, reads.1.bytes))
 
-pub reads_other : (score_of : List ℕ → List ℕ) (key : Key) (bytes : List ℕ) (clump : Clump) (bad : ReadBad) → ReadsClump score_of bytes (Ok clump) → IsDamagedBy key clump.kind clump.score.0 bad
-    → ReadsAs score_of key bytes (Err bad)
+pub reads_other : (score_of : List ℕ → List ℕ) (key : Key) (bytes : List ℕ) (clump : Clump) (bad : ReadBad) → ReadsClumpAs score_of bytes (Ok clump) → IsDamagedBy key clump.kind clump.score.0 bad
+    → ReadsBlockAs score_of key bytes (Err bad)
 reads_other score_of key bytes clump Fault reads other = tt
 reads_other score_of key bytes clump NoMemory reads other = tt
 reads_other score_of key bytes clump (Damaged want found) reads other =
@@ -129,10 +129,10 @@ pub answers_there : {D : Type 0} (score_of : List ℕ → List ℕ) (disk : Disk
     → ((r : ArenaRegion) → slice_get l.layout place.arena ≡ Some r
     → ¬ HasHeader r.region.len place.offset
     → result ≡ Err (Damaged (Number ARENA_HEAD_LEN) (Number place.offset)))
-    → ((r : ArenaRegion) (device : D) → IsAt l place.arena r device
+    → ((r : ArenaRegion) (device : D) → IsArenaAt l place.arena r device
     → HasHeader r.region.len place.offset → (clump : List ℕ)
     × (IsTrue disk.tells → clump ≡ clump_at r.region place.offset (disk.bytes device))
-    × ReadsAs score_of key clump result)
+    × ReadsBlockAs score_of key clump result)
     → AnswersRead score_of disk l place key result
 answers_there score_of disk l place key result none within outside stored = record {
   queued = λ i here. absurd (none i here.at);

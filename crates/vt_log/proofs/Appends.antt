@@ -20,23 +20,23 @@ use Rattle.vt_model.proofs.Spots.{place_of-append, place_of-push}
 use Rattle.vt_clump.specs.Spelling.{Stored}
 use Rattle.vt_arena.specs.declared.head.ArenaHead.{ArenaHead}
 use Rattle.vt_arena.specs.declared.head.Found.{Found}
-use Rattle.vt_arena.specs.Arena.{added_by}
+use Rattle.vt_arena.specs.Arena.{added_by_commit}
 use Rattle.vt_arena.specs.Places.{block_room}
-use Rattle.vt_arena.specs.Layout.{head_of}
+use Rattle.vt_arena.specs.Layout.{arena_head}
 use Rattle.vt_log.specs.declared.filling.Filling.{Filling}
 use Rattle.vt_log.specs.declared.queue.Waiting.{Waiting}
-use Rattle.vt_log.specs.Log.{LogState, queued, setup_of, found_filling, fits_in, next_filling, has_next, with_room_taken}
-use Rattle.vt_log.specs.Logs.{accepted, IsUntouched}
-use Rattle.vt_log.specs.Queue.{WaitsFor, with_block, waiting_block, spot_of}
-use Rattle.vt_log.specs.Sound.{IsFilledBy, IsSound}
-use Rattle.vt_log.specs.Whole.{IsWhole, turned_to}
+use Rattle.vt_log.specs.Log.{LogState, queued, setup_of_log, found_filling, fits_in, next_filling, has_next, with_room_taken}
+use Rattle.vt_log.specs.Logs.{accepted_in, IsUntouched}
+use Rattle.vt_log.specs.Queue.{WaitsFor, with_waiting_block, waiting_block, spot_of}
+use Rattle.vt_log.specs.Sound.{IsFilledBy, IsSoundLog}
+use Rattle.vt_log.specs.Whole.{IsWholeLog, turned_to}
 use Rattle.vt_log.proofs.Lists.{slice_get_other, at_drop, slice_get_left, slice_get_right}
 use Rattle.vt_log.proofs.Fill.{found_arena, fill_push, fill_arena}
 
 -- the log with one more block
 abbrev pub with_appended : {D : Type 0} → Packed → Place → Filling → LogState D → LogState D
 with_appended packed place f l = record l {
-  queue = with_block (record { arena = place.arena; packed = packed }) place l.queue;
+  queue = with_waiting_block (record { arena = place.arena; packed = packed }) place l.queue;
   filling = with_room_taken packed.len f;
 }
 
@@ -88,8 +88,8 @@ next_is l n f is = at (fits_in l.layout l.filling n) refl (fits_in l.layout next
     at false here false there e = absurd (cc)
 
 -- a log in memory stays whole
-pub append_whole : {D : Type 0} (disk : DiskOf D) (l : LogState D) (packed : Packed) (place : Place) (f : Filling) → IsWhole disk l
-    → queued l < 64 → next_filling l packed.len ≡ Some f → place.arena ≡ f.arena → IsWhole disk (with_appended packed place f l)
+pub append_whole : {D : Type 0} (disk : DiskOf D) (l : LogState D) (packed : Packed) (place : Place) (f : Filling) → IsWholeLog disk l
+    → queued l < 64 → next_filling l packed.len ≡ Some f → place.arena ≡ f.arena → IsWholeLog disk (with_appended packed place f l)
 append_whole disk l packed place f whole room is arena = record {
   many_disks = whole.many_disks;
   layout = whole.layout;
@@ -142,14 +142,14 @@ lengths_none a (e ∷ h) all =
 
 -- the model's test is the log's
 pub fits_same : {D : Type 0} (l : LogState D) (f : Filling) (lengths : List ℕ) (n : ℕ) → IsFilledBy lengths f
-    → fits_in l.layout f n ≡ fits (setup_of l) f.arena (lengths ++ n ∷ [])
+    → fits_in l.layout f n ≡ fits (setup_of_log l) f.arena (lengths ++ n ∷ [])
 fits_same l f lengths n filled =
-    ap (λ (k : ℕ). nat_le k (slice_index (setup_of l).arenas f.arena - ARENA_HEAD_LEN))
+    ap (λ (k : ℕ). nat_le k (slice_index (setup_of_log l).arenas f.arena - ARENA_HEAD_LEN))
     (omega (arith, filled.used, filled.clumps, sum_by-append block_room lengths (n ∷ []), length-append lengths (n ∷ [])))
 
 -- ---- where disks are sound for a history
 
-module _ {D : Type 0} (score_of : List ℕ → List ℕ) (disk : DiskOf D) (l : LogState D) (h : History) (sound : IsSound score_of disk l h) where
+module _ {D : Type 0} (score_of : List ℕ → List ℕ) (disk : DiskOf D) (l : LogState D) (h : History) (sound : IsSoundLog score_of disk l h) where
   -- the next arena is untouched
   pub found_empty : (i : ℕ) → l.committing < i → IsFilledBy [] (found_filling l.heads i)
   found_empty i behind = ⊎_elim
@@ -158,8 +158,8 @@ module _ {D : Type 0} (score_of : List ℕ → List ℕ) (disk : DiskOf D) (l : 
       let a = slice_get_other sound.contents l.layout i r.0 (sym sound.many) r.1 in
       let untouched = at_drop IsUntouched (l.committing + 1) sound.contents i a.0 sound.split.behind (omega (arith, behind)) a.1 in
       let head = sound.heads i r.0 it.0 a.0 r.1 it.2 a.1 in
-      let none : head_of score_of r.0.number a.0 ≡ head_of score_of r.0.number (record { sealed = a.0.sealed; stored = [] }) =
-      ap (λ (stored : List Stored). head_of score_of r.0.number (record { sealed = a.0.sealed; stored = stored })) untouched.1 in
+      let none : arena_head score_of r.0.number a.0 ≡ arena_head score_of r.0.number (record { sealed = a.0.sealed; stored = [] }) =
+      ap (λ (stored : List Stored). arena_head score_of r.0.number (record { sealed = a.0.sealed; stored = stored })) untouched.1 in
       record {
         used = rw it.2 (ap (λ (it : ArenaHead). it.used) (head ∙ none));
         clumps = rw it.2 (ap (λ (it : ArenaHead). it.clumps) (head ∙ none));
@@ -181,19 +181,19 @@ module _ {D : Type 0} (score_of : List ℕ → List ℕ) (disk : DiskOf D) (l : 
       next.which
 
   -- the next arena of the model is the one that is found
-  pub next_arena_is : (n : ℕ) → next_arena (setup_of l) h n ≡ option_map (λ f. f.arena) (next_filling l n)
+  pub next_arena_is : (n : ℕ) → next_arena (setup_of_log l) h n ≡ option_map (λ f. f.arena) (next_filling l n)
   next_arena_is n =
       let a = l.filling.arena in
       let next : Filling = found_filling l.heads (a + 1) in
       let below = fill_arena l.layout l.heads _ l.filling l.queue.waiting sound.whole.queue in
       let here = fits_same l l.filling (lengths_in a h) n sound.filling in
-      let there : fits_in l.layout next n ≡ fits (setup_of l) (a + 1) (n ∷ []) =
+      let there : fits_in l.layout next n ≡ fits (setup_of_log l) (a + 1) (n ∷ []) =
       fits_same l next [] n (found_empty (a + 1) (omega (arith, below.0)))
-      ∙ ap (λ (k : ℕ). fits (setup_of l) k (n ∷ [])) (found_arena l.heads (a + 1)) in
-      let start : next_arena (setup_of l) h n ≡ cond (fits (setup_of l) a (lengths_in a h ++ n ∷ [])) (Some a) (cond (fits (setup_of l) (a + 1) (n ∷ [])) (Some (a + 1)) None) =
-      ap (λ (k : ℕ). cond (fits (setup_of l) k (lengths_in k h ++ n ∷ [])) (Some k) (cond (fits (setup_of l) (k + 1) (n ∷ [])) (Some (k + 1)) None)) (sym sound.last) in
+      ∙ ap (λ (k : ℕ). fits (setup_of_log l) k (n ∷ [])) (found_arena l.heads (a + 1)) in
+      let start : next_arena (setup_of_log l) h n ≡ cond (fits (setup_of_log l) a (lengths_in a h ++ n ∷ [])) (Some a) (cond (fits (setup_of_log l) (a + 1) (n ∷ [])) (Some (a + 1)) None) =
+      ap (λ (k : ℕ). cond (fits (setup_of_log l) k (lengths_in k h ++ n ∷ [])) (Some k) (cond (fits (setup_of_log l) (k + 1) (n ∷ [])) (Some (k + 1)) None)) (sym sound.last) in
       start
-      ∙ ap (λ (b : Bool). cond b (Some a) (cond (fits (setup_of l) (a + 1) (n ∷ [])) (Some (a + 1)) None)) (sym here)
+      ∙ ap (λ (b : Bool). cond b (Some a) (cond (fits (setup_of_log l) (a + 1) (n ∷ [])) (Some (a + 1)) None)) (sym here)
       ∙ ap (λ (b : Bool). cond (fits_in l.layout l.filling n) (Some a) (cond b (Some (a + 1)) None)) (sym there)
       ∙ ap (λ (k : ℕ). cond (fits_in l.layout l.filling n) (Some a) (cond (fits_in l.layout next n) (Some k) None)) (sym (found_arena l.heads (a + 1)))
       ∙ at (fits_in l.layout l.filling n) (fits_in l.layout next n) next
@@ -203,7 +203,7 @@ module _ {D : Type 0} (score_of : List ℕ → List ℕ) (disk : DiskOf D) (l : 
       at false true next = refl
       at false false next = refl
 
-  pub has_next_is : (n : ℕ) → has_next l n ≡ is_some (next_arena (setup_of l) h n)
+  pub has_next_is : (n : ℕ) → has_next l n ≡ is_some (next_arena (setup_of_log l) h n)
   has_next_is n =
       at (next_filling l n) ∙ sym (ap (λ (o : Option ℕ). is_some o) (next_arena_is n))
     where
@@ -213,11 +213,11 @@ module _ {D : Type 0} (score_of : List ℕ → List ℕ) (disk : DiskOf D) (l : 
 
 -- the disks stay sound, for the history with the block
 pub append_sound : {D : Type 0} (score_of : List ℕ → List ℕ) (disk : DiskOf D) (l : LogState D) (h : History)
-    (packed : Packed) (place : Place) (f : Filling) → IsPacked score_of packed → IsSound score_of disk l h
+    (packed : Packed) (place : Place) (f : Filling) → IsPacked score_of packed → IsSoundLog score_of disk l h
     → queued l < 64 → next_filling l packed.len ≡ Some f → place ≡ record { arena = f.arena; offset = 24576 + f.used }
-    → (next_arena (setup_of l) h packed.len ≡ Some f.arena)
-    × (place_of (setup_of l) (h ++ accepted place.arena (stored_of packed) ∷ []) (length h) ≡ Some (spot_of place))
-    × IsSound score_of disk (with_appended packed place f l) (h ++ accepted place.arena (stored_of packed) ∷ [])
+    → (next_arena (setup_of_log l) h packed.len ≡ Some f.arena)
+    × (place_of (setup_of_log l) (h ++ accepted_in place.arena (stored_of packed) ∷ []) (length h) ≡ Some (spot_of place))
+    × IsSoundLog score_of disk (with_appended packed place f l) (h ++ accepted_in place.arena (stored_of packed) ∷ [])
 append_sound score_of disk l h packed place f well sound room is place_is = (
   next_arena_is score_of disk l h sound packed.len ∙ ap (λ (o : Option Filling). option_map (λ (f : Filling). f.arena) o) is,
   stands,
@@ -232,8 +232,8 @@ append_sound score_of disk l h packed place f well sound room is place_is = (
     selectors = λ i r device found behind at has. sound.selectors i r device found behind (record { arena = at.arena; disk_is = at.disk_is }) has;
     committed = take-append-le l.durable h (e ∷ []) inside ∙ sound.committed;
     queued = drop-append-le l.durable h (e ∷ []) inside ∙ ap (λ (q : History). q ++ e ∷ []) sound.queued
-        ∙ append_assoc (map (accepted l.committing) (added_by l.arena)) (map waiting_block l.queue.waiting) (e ∷ [])
-        ∙ ap (λ (q : History). map (accepted l.committing) (added_by l.arena) ++ q) (sym (map-append waiting_block l.queue.waiting (w ∷ [])));
+        ∙ append_assoc (map (accepted_in l.committing) (added_by_commit l.arena)) (map waiting_block l.queue.waiting) (e ∷ [])
+        ∙ ap (λ (q : History). map (accepted_in l.committing) (added_by_commit l.arena) ++ q) (sym (map-append waiting_block l.queue.waiting (w ∷ [])));
     front = omega (arith, sound.front, length_push l.queue.places place, length_push h e);
     packed = All-push (λ (w : Waiting). IsPacked score_of w.packed) l.queue.waiting w sound.packed well;
     places = λ i p at. places i p at;
@@ -245,7 +245,7 @@ append_sound score_of disk l h packed place f well sound room is place_is = (
 )
   where
     e : Accepted
-    e = accepted place.arena (stored_of packed)
+    e = accepted_in place.arena (stored_of packed)
 
     w : Waiting
     w = record { arena = place.arena; packed = packed }
@@ -265,11 +265,11 @@ append_sound score_of disk l h packed place f well sound room is place_is = (
     fills : IsFilledBy (lengths_in f.arena h) f
     fills = next_filled score_of disk l h sound packed.len f next
 
-    stands : place_of (setup_of l) (h ++ e ∷ []) (length h) ≡ Some (spot_of place)
-    stands = place_of-push (setup_of l) h e
+    stands : place_of (setup_of_log l) (h ++ e ∷ []) (length h) ≡ Some (spot_of place)
+    stands = place_of-push (setup_of_log l) h e
         ∙ ap (λ (s : Spot). Some s) (λ i. record { arena = place.arena; offset = offset i })
       where
-        offset : offset_behind (setup_of l) place.arena (lengths_in place.arena h) ≡ place.offset
+        offset : offset_behind (setup_of_log l) place.arena (lengths_in place.arena h) ≡ place.offset
         offset = omega (arith, ap (λ (a : ℕ). sum_by block_room (lengths_in a h)) arena, fills.used, ap (λ (p : Place). p.offset) place_is)
 
     filled : IsFilledBy (lengths_in f.arena (h ++ e ∷ [])) (with_room_taken packed.len f)
@@ -283,14 +283,14 @@ append_sound score_of disk l h packed place f well sound room is place_is = (
             ∙ ap (λ (ls : List ℕ). lengths_in f.arena h ++ ls)
             (ap (λ (a : ℕ). lengths_in a (e ∷ [])) (sym arena) ∙ lengths_in-this e ∙ ap (λ (n : ℕ). n ∷ []) (sym well.len))
 
-    places : (i : ℕ) (p : Place) → slice_get (l.queue.places ++ place ∷ []) i ≡ Some p → place_of (setup_of l) (h ++ e ∷ []) (l.durable + i) ≡ Some (spot_of p)
+    places : (i : ℕ) (p : Place) → slice_get (l.queue.places ++ place ∷ []) i ≡ Some p → place_of (setup_of_log l) (h ++ e ∷ []) (l.durable + i) ≡ Some (spot_of p)
     places i p at = ⊎_elim
         (λ (before : i < length l.queue.places).
-        place_of-append (setup_of l) h (e ∷ []) (l.durable + i) (omega (arith, before, sound.front))
+        place_of-append (setup_of_log l) h (e ∷ []) (l.durable + i) (omega (arith, before, sound.front))
         ∙ sound.places i p (sym (slice_get_left l.queue.places (place ∷ []) i before) ∙ at))
         (λ (last : i ≡ length l.queue.places).
         let same : place ≡ p = same_Some place p (sym (ap (slice_get (l.queue.places ++ place ∷ [])) (omega (arith, last)) ∙ slice_get_right l.queue.places (place ∷ []) 0) ∙ at) in
-        ap (place_of (setup_of l) (h ++ e ∷ [])) (omega (arith, last, sound.front)) ∙ stands ∙ ap (λ (q : Place). Some (spot_of q)) same)
+        ap (place_of (setup_of_log l) (h ++ e ∷ [])) (omega (arith, last, sound.front)) ∙ stands ∙ ap (λ (q : Place). Some (spot_of q)) same)
         (cases i (slice_get_within (l.queue.places ++ place ∷ []) i p at))
       where
         cases : (i : ℕ) → i < length (l.queue.places ++ place ∷ []) → (i < length l.queue.places) ⊎ (i ≡ length l.queue.places)
@@ -301,11 +301,11 @@ append_sound score_of disk l h packed place f well sound room is place_is = (
 
 -- the same of a log that is known by its fields
 pub append_at : {D : Type 0} (score_of : List ℕ → List ℕ) (disk : DiskOf D) (l m : LogState D) (h : History)
-    (packed : Packed) (place : Place) (f : Filling) → l ≡ m → IsPacked score_of packed → IsSound score_of disk m h
+    (packed : Packed) (place : Place) (f : Filling) → l ≡ m → IsPacked score_of packed → IsSoundLog score_of disk m h
     → queued m < 64 → next_filling m packed.len ≡ Some f → place ≡ record { arena = f.arena; offset = 24576 + f.used }
-    → (next_arena (setup_of m) h packed.len ≡ Some f.arena)
-    × (place_of (setup_of m) (h ++ accepted place.arena (stored_of packed) ∷ []) (length h) ≡ Some (spot_of place))
-    × IsSound score_of disk (with_appended packed place f l) (h ++ accepted place.arena (stored_of packed) ∷ [])
+    → (next_arena (setup_of_log m) h packed.len ≡ Some f.arena)
+    × (place_of (setup_of_log m) (h ++ accepted_in place.arena (stored_of packed) ∷ []) (length h) ≡ Some (spot_of place))
+    × IsSoundLog score_of disk (with_appended packed place f l) (h ++ accepted_in place.arena (stored_of packed) ∷ [])
 append_at {D = D} score_of disk l m h packed place f same well sound room is place_is =
     let it = append_sound score_of disk m h packed place f well sound room is place_is in
-    (it.0, it.1, subst (λ (k : LogState D). IsSound score_of disk (with_appended packed place f k) (h ++ accepted place.arena (stored_of packed) ∷ [])) (sym same) it.2)
+    (it.0, it.1, subst (λ (k : LogState D). IsSoundLog score_of disk (with_appended packed place f k) (h ++ accepted_in place.arena (stored_of packed) ∷ [])) (sym same) it.2)

@@ -8,27 +8,27 @@ use Rattle.vt_base.specs.Faults.{CountsFault}
 use Rattle.vt_disk.specs.Members.{DiskOf}
 use Rattle.vt_disk.specs.Calls.{OnlyReads, IsSynced}
 use Rattle.vt_disk.specs.Disk.{AreAmong, IsOneMore}
-use Rattle.vt_part.specs.declared.bad.PartBad.{PartBad}
+use Rattle.vt_part.specs.declared.error.PartBad.{PartBad}
 use Rattle.vt_part.specs.declared.layout.ArenaRegion.{ArenaRegion}
 use Rattle.vt_part.specs.declared.part.Part.{Part}
 use Rattle.vt_part.specs.Parts.{disk_of}
-use Rattle.vt_arena.specs.declared.bad.ArenaBad.{ArenaBad}
-use Rattle.vt_arena.specs.declared.bad.ArenaBad.TheVariants.{Fault as ArenaFault, NotFormatted, Torn, NoMemory as ArenaNoMemory}
-use Rattle.vt_arena.specs.declared.bad.Field.TheVariants.{Sealed}
+use Rattle.vt_arena.specs.declared.error.ArenaBad.{ArenaBad}
+use Rattle.vt_arena.specs.declared.error.ArenaBad.TheVariants.{Fault as ArenaFault, NotFormatted, Torn, NoMemory as ArenaNoMemory}
+use Rattle.vt_arena.specs.declared.error.Field.TheVariants.{Sealed}
 use Rattle.vt_arena.specs.declared.head.ArenaHead.{ArenaHead}
 use Rattle.vt_arena.specs.declared.head.Found.{Found}
 use Rattle.vt_arena.specs.Arena.{ArenaState, fresh_arena}
-use Rattle.vt_arena.specs.Faults.{first_bad as first_bad_in, Finds, CanStand, is_fault as is_arena_fault}
-use Rattle.vt_arena.specs.Heads.{fields_of, flag_of, sealed_in, clumps_in}
+use Rattle.vt_arena.specs.Faults.{first_bad_head, FindsArena, CanStand, is_arena_fault}
+use Rattle.vt_arena.specs.Heads.{fields_of, flag_of, sealed_in, clump_count_in}
 use Rattle.vt_arena.specs.Layout.{fields_at}
 use Rattle.vt_arena.specs.Places.{IsArenaLen}
 use Rattle.vt_arena.specs.Sound.{IsRegion}
-use Rattle.vt_log.specs.declared.bad.LogBad.{LogBad}
-use Rattle.vt_log.specs.declared.bad.LogBad.TheVariants.{Part as PartRefused, Arena, Order, Fault, NoMemory}
+use Rattle.vt_log.specs.declared.error.LogBad.{LogBad}
+use Rattle.vt_log.specs.declared.error.LogBad.TheVariants.{Part as PartRefused, Arena, Order, Fault, NoMemory}
 use Rattle.vt_log.specs.Answers.{HoldTheSame}
-use Rattle.vt_log.specs.Faults.{AreFields, CountsFaults, OneHasRisen, is_fault, bad_arena, first_of_two, out_of_order, first_bad}
+use Rattle.vt_log.specs.Faults.{AreFields, CountsFaults, OneHasRisen, is_log_fault, bad_arena, first_of_two, out_of_order, first_bad_log}
 use Rattle.vt_log.specs.Log.{disks_of}
-use Rattle.vt_log.specs.Mounting.{IsTold, IsEarly, AreSettled, StopsSyncing, AreRead, AreFieldsAt, FindsNext, refused_by, IsFound, AreFound, RefusesArenas, ArePassed, IsRoomFor}
+use Rattle.vt_log.specs.Mounting.{TellsOfSettled, IsBeforeCalls, AreSettled, StopsSyncing, OnlyReadsParts, AreFieldsAt, FindsNext, arena_refusal, IsFoundArena, AreFound, RefusesArenas, ArePassed, IsRoomFor}
 use Rattle.vt_log.specs.Whole.{IsOnDisk}
 use Rattle.vt_log.proofs.Disks.{parts_disks, parts_tables, calls_set, hold_set, tells_as, tells_set}
 use Rattle.vt_log.proofs.Lists.{map_long, map_there, slice_get_other, at_slice, slice_get_left, slice_get_right, slice_get_set_same, slice_get_set_other}
@@ -85,22 +85,22 @@ module _ {D : Type 0} (disk : DiskOf D) where
         λ c left. one.images_are i before mid.0 was mid.1 c (two.images_are i mid.0 after mid.1 is c left);
   }
 
-  pub read_refl : (ps : List (Part D)) → AreRead disk 0 ps ps
+  pub read_refl : (ps : List (Part D)) → OnlyReadsParts disk 0 ps ps
   read_refl ps = record { tables = refl; disks = hold_refl (disks_of ps); calls_most = λ told. omega arith }
 
-  pub read_then : (m n k : ℕ) (ps qs rs : List (Part D)) → m + n ≤ k → AreRead disk m ps qs → AreRead disk n qs rs
-      → AreRead disk k ps rs
+  pub read_then : (m n k : ℕ) (ps qs rs : List (Part D)) → m + n ≤ k → OnlyReadsParts disk m ps qs → OnlyReadsParts disk n qs rs
+      → OnlyReadsParts disk k ps rs
   read_then m n k ps qs rs most one two = record {
     tables = two.tables ∙ one.tables;
     disks = hold_then (disks_of ps) (disks_of qs) (disks_of rs) one.disks two.disks;
     calls_most = λ told. omega (arith, most, one.calls_most told, two.calls_most told);
   }
 
-  pub read_more : (m k : ℕ) (ps qs : List (Part D)) → m ≤ k → AreRead disk m ps qs → AreRead disk k ps qs
+  pub read_more : (m k : ℕ) (ps qs : List (Part D)) → m ≤ k → OnlyReadsParts disk m ps qs → OnlyReadsParts disk k ps qs
   read_more m k ps qs most read = record { tables = read.tables; disks = read.disks; calls_most = λ told. omega (arith, most, read.calls_most told) }
 
   -- one disk is read or synced
-  pub read_set : (n i : ℕ) (ps : List (Part D)) (p : Part D) (d : D) → slice_get ps i ≡ Some p → OnlyReads disk n (disk_of p) d → AreRead disk n ps (set ps i (record p { disk = d }))
+  pub read_set : (n i : ℕ) (ps : List (Part D)) (p : Part D) (d : D) → slice_get ps i ≡ Some p → OnlyReads disk n (disk_of p) d → OnlyReadsParts disk n ps (set ps i (record p { disk = d }))
   read_set n i ps p d at reads =
       let was : slice_get (disks_of ps) i ≡ Some (disk_of p) = slice_get-map (λ (part : Part D). disk_of part) ps i ∙ rw at in
       let is = parts_disks ps i p d in
@@ -117,7 +117,7 @@ module _ {D : Type 0} (disk : DiskOf D) where
 
   -- a sync that fails is the last call
   pub sync_stops : (old ps : List (Part D)) (i : ℕ) (p : Part D) (d : D) → slice_get ps i ≡ Some p
-      → ((k : ℕ) → i ≤ k → slice_get ps k ≡ slice_get old k) → AreRead disk i old ps
+      → ((k : ℕ) → i ≤ k → slice_get ps k ≡ slice_get old k) → OnlyReadsParts disk i old ps
       → (IsTrue disk.tells → disk.calls d ≤ disk.calls (disk_of p) + 1)
       → StopsSyncing disk old (set ps i (record p { disk = d }))
   sync_stops old ps i p d at rest read most =
@@ -186,14 +186,14 @@ fields_for disk ps r p fields at is file file_is = is ∙ ap (fields_at r.region
 
 -- what finding it gives
 pub found_for : {D : Type 0} (disk : DiskOf D) (ps : List (Part D)) (r : ArenaRegion) (p : Part D) (found : Found) → slice_get ps r.part ≡ Some p
-    → IsFound disk.tells r (disk.bytes (disk_of p)) found → (device : D) → slice_get (disks_of ps) r.part ≡ Some device → IsFound disk.tells r (disk.bytes device) found
+    → IsFoundArena disk.tells r (disk.bytes (disk_of p)) found → (device : D) → slice_get (disks_of ps) r.part ≡ Some device → IsFoundArena disk.tells r (disk.bytes device) found
 found_for {D = D} disk ps r p found at finds device is =
-    subst (λ (d : D). IsFound disk.tells r (disk.bytes d) found) (disk_at ps r.part p device at is) finds
+    subst (λ (d : D). IsFoundArena disk.tells r (disk.bytes d) found) (disk_at ps r.part p device at is) finds
 
-pub finds_ok : (arena : ℕ) (r : ArenaRegion) (fields : List ℕ) (found : Found) → Finds r.number r.region.len fields (Ok found) → FindsNext false arena r fields (Ok found)
+pub finds_ok : (arena : ℕ) (r : ArenaRegion) (fields : List ℕ) (found : Found) → FindsArena r.number r.region.len fields (Ok found) → FindsNext false arena r fields (Ok found)
 finds_ok arena r fields found is = (ap (λ (o : Option ArenaBad). bad_arena false arena o fields) is.0, is.1)
 
-pub finds_err : (arena : ℕ) (r : ArenaRegion) (fields : List ℕ) (bad : ArenaBad) → Finds r.number r.region.len fields (Err bad) → FindsNext false arena r fields (Err (refused_by arena bad))
+pub finds_err : (arena : ℕ) (r : ArenaRegion) (fields : List ℕ) (bad : ArenaBad) → FindsArena r.number r.region.len fields (Err bad) → FindsNext false arena r fields (Err (arena_refusal arena bad))
 finds_err arena r fields ArenaFault is = tt
 finds_err arena r fields NotFormatted is = ap (λ (o : Option ArenaBad). bad_arena false arena o fields) is
 finds_err arena r fields (Torn field found want) is = ap (λ (o : Option ArenaBad). bad_arena false arena o fields) is
@@ -213,7 +213,7 @@ counts_from disk is_fault ds es fs result same cause =
     tells_as is_fault result (λ rose. subst (λ (ns : List ℕ). OneHasRisen ns (map disk.faults fs)) same rose) (λ stayed. stayed ∙ same) cause
 
 -- what is told of a log is a fault where what is told of its arena is
-refused_fault : (arena : ℕ) (bad : ArenaBad) → is_fault (refused_by arena bad) ≡ is_arena_fault bad
+refused_fault : (arena : ℕ) (bad : ArenaBad) → is_log_fault (arena_refusal arena bad) ≡ is_arena_fault bad
 refused_fault arena ArenaFault = refl
 refused_fault arena NotFormatted = refl
 refused_fault arena (Torn field found want) = refl
@@ -221,7 +221,7 @@ refused_fault arena ArenaNoMemory = refl
 
 pub counts_refused : {D : Type 0} (disk : DiskOf D) (ps : List (Part D)) (i arena : ℕ) (p : Part D) (d : D) (bad : ArenaBad) → slice_get ps i ≡ Some p
     → CountsFault {T = Found} is_arena_fault (Err bad) (disk.faults (disk_of p)) (disk.faults d)
-    → CountsFaults {T = Found} disk is_fault (Err (refused_by arena bad)) (disks_of ps) (disks_of (set ps i (record p { disk = d })))
+    → CountsFaults {T = Found} disk is_log_fault (Err (arena_refusal arena bad)) (disks_of ps) (disks_of (set ps i (record p { disk = d })))
 counts_refused {D = D} disk ps i arena p d bad at cause =
     let new : List (Part D) = set ps i (record p { disk = d }) in
     subst (λ (b : Bool). MatchBool b (OneHasRisen (map disk.faults (disks_of ps)) (map disk.faults (disks_of new))) (map disk.faults (disks_of new) ≡ map disk.faults (disks_of ps)))
@@ -236,8 +236,8 @@ behind_same behind arena None fields bad is = absurd (cc)
 -- an arena that can't be mounted is told of before its place is looked at
 pub next_refused : (behind : Bool) (arena : ℕ) (r : ArenaRegion) (fields : List ℕ) (bad : LogBad) → FindsNext false arena r fields (Err bad) → FindsNext behind arena r fields (Err bad)
 next_refused behind arena r fields (PartRefused bad) is = is
-next_refused behind arena r fields (Arena i bad) is = behind_same behind arena (first_bad_in r.number r.region.len fields) fields (Arena i bad) is
-next_refused behind arena r fields (Order i clumps) is = behind_same behind arena (first_bad_in r.number r.region.len fields) fields (Order i clumps) is
+next_refused behind arena r fields (Arena i bad) is = behind_same behind arena (first_bad_head r.number r.region.len fields) fields (Arena i bad) is
+next_refused behind arena r fields (Order i clumps) is = behind_same behind arena (first_bad_head r.number r.region.len fields) fields (Order i clumps) is
 next_refused behind arena r fields Fault is = tt
 next_refused behind arena r fields NoMemory is = is
 
@@ -248,7 +248,7 @@ behind_open arena None fields is = refl
 pub order_passes : (arena : ℕ) (r : ArenaRegion) (fields : List ℕ) (found : Found) → FindsNext false arena r fields (Ok found) → out_of_order arena (fields_of found.head) ≡ None
     → FindsNext true arena r fields (Ok found)
 order_passes arena r fields found is none =
-    (behind_open arena (first_bad_in r.number r.region.len fields) fields is.0 ∙ ap (out_of_order arena) (sym is.1) ∙ none, is.1)
+    (behind_open arena (first_bad_head r.number r.region.len fields) fields is.0 ∙ ap (out_of_order arena) (sym is.1) ∙ none, is.1)
 
 never_part : (arena clumps : ℕ) (none unsealed : Bool) (it : ArenaBad) (bad : PartBad) → cond none (cond unsealed None (Some (Arena arena it))) (Some (Order arena clumps)) ≡ Some (PartRefused bad) → ⊥
 never_part arena clumps true true it bad is = cc
@@ -263,14 +263,14 @@ never_memory arena clumps false unsealed it is = cc
 pub order_refused : (arena : ℕ) (r : ArenaRegion) (fields : List ℕ) (found : Found) (bad : LogBad) → FindsNext false arena r fields (Ok found) → out_of_order arena (fields_of found.head) ≡ Some bad
     → FindsNext true arena r fields (Err bad)
 order_refused arena r fields found (PartRefused bad) is order =
-    absurd (never_part arena (clumps_in (fields_of found.head)) (clumps_in (fields_of found.head) == 0) (sealed_in (fields_of found.head) == 0) (Torn Sealed 1 0) bad order)
+    absurd (never_part arena (clump_count_in (fields_of found.head)) (clump_count_in (fields_of found.head) == 0) (sealed_in (fields_of found.head) == 0) (Torn Sealed 1 0) bad order)
 order_refused arena r fields found (Arena i bad) is order =
-    behind_open arena (first_bad_in r.number r.region.len fields) fields is.0 ∙ ap (out_of_order arena) (sym is.1) ∙ order
+    behind_open arena (first_bad_head r.number r.region.len fields) fields is.0 ∙ ap (out_of_order arena) (sym is.1) ∙ order
 order_refused arena r fields found (Order i clumps) is order =
-    behind_open arena (first_bad_in r.number r.region.len fields) fields is.0 ∙ ap (out_of_order arena) (sym is.1) ∙ order
+    behind_open arena (first_bad_head r.number r.region.len fields) fields is.0 ∙ ap (out_of_order arena) (sym is.1) ∙ order
 order_refused arena r fields found Fault is order = tt
 order_refused arena r fields found NoMemory is order =
-    absurd (never_memory arena (clumps_in (fields_of found.head)) (clumps_in (fields_of found.head) == 0) (sealed_in (fields_of found.head) == 0) (Torn Sealed 1 0) order)
+    absurd (never_memory arena (clump_count_in (fields_of found.head)) (clump_count_in (fields_of found.head) == 0) (sealed_in (fields_of found.head) == 0) (Torn Sealed 1 0) order)
 
 -- ---- all arenas
 
@@ -302,7 +302,7 @@ fields_of_all heads = map (λ found. fields_of found.head) heads
 -- what is refused is what the rest refuses
 abbrev pub Passes : List ArenaRegion → (heads : List Found) → (behind : Bool) → (i : ℕ) → Type 0
 Passes layout heads behind i =
-    (rest : List (List ℕ)) → first_bad false 0 layout (fields_of_all heads ++ rest) ≡ first_bad behind i (drop i layout) rest
+    (rest : List (List ℕ)) → first_bad_log false 0 layout (fields_of_all heads ++ rest) ≡ first_bad_log behind i (drop i layout) rest
 
 drop_at : {X : Type 0} (xs : List X) (i : ℕ) (x : X) → slice_get xs i ≡ Some x → drop i xs ≡ x ∷ drop (i + 1) xs
 drop_at {X = X} xs i x at = drop_more xs i x (slice_get_within xs i x at) ∙ ap (λ (y : X). y ∷ drop (i + 1) xs) (get_or_from_slice_get xs i x x at)
@@ -312,38 +312,38 @@ flag_is_none : (b : Bool) → (flag_of b == 0) ≡ not b
 flag_is_none true = refl
 flag_is_none false = refl
 
-at_step : (behind : Bool) (i : ℕ) (r : ArenaRegion) (rest : List ArenaRegion) (f : List ℕ) (fs : List (List ℕ)) → bad_arena behind i (first_bad_in r.number r.region.len f) f ≡ None
-    → first_bad behind i (r ∷ rest) (f ∷ fs) ≡ first_bad (behind || sealed_in f == 0) (i + 1) rest fs
-at_step behind i r rest f fs none = ap (λ (o : Option LogBad). first_of_two o (first_bad (behind || sealed_in f == 0) (i + 1) rest fs)) none
+at_step : (behind : Bool) (i : ℕ) (r : ArenaRegion) (rest : List ArenaRegion) (f : List ℕ) (fs : List (List ℕ)) → bad_arena behind i (first_bad_head r.number r.region.len f) f ≡ None
+    → first_bad_log behind i (r ∷ rest) (f ∷ fs) ≡ first_bad_log (behind || sealed_in f == 0) (i + 1) rest fs
+at_step behind i r rest f fs none = ap (λ (o : Option LogBad). first_of_two o (first_bad_log (behind || sealed_in f == 0) (i + 1) rest fs)) none
 
-at_stop : (behind : Bool) (i : ℕ) (r : ArenaRegion) (rest : List ArenaRegion) (f : List ℕ) (fs : List (List ℕ)) (bad : LogBad) → bad_arena behind i (first_bad_in r.number r.region.len f) f ≡ Some bad
-    → first_bad behind i (r ∷ rest) (f ∷ fs) ≡ Some bad
-at_stop behind i r rest f fs bad is = ap (λ (o : Option LogBad). first_of_two o (first_bad (behind || sealed_in f == 0) (i + 1) rest fs)) is
+at_stop : (behind : Bool) (i : ℕ) (r : ArenaRegion) (rest : List ArenaRegion) (f : List ℕ) (fs : List (List ℕ)) (bad : LogBad) → bad_arena behind i (first_bad_head r.number r.region.len f) f ≡ Some bad
+    → first_bad_log behind i (r ∷ rest) (f ∷ fs) ≡ Some bad
+at_stop behind i r rest f fs bad is = ap (λ (o : Option LogBad). first_of_two o (first_bad_log (behind || sealed_in f == 0) (i + 1) rest fs)) is
 
 pub passes_more : (layout : List ArenaRegion) (heads : List Found) (behind next : Bool) (i : ℕ) (r : ArenaRegion) (found : Found) → Passes layout heads behind i → slice_get layout i ≡ Some r
-    → bad_arena behind i (first_bad_in r.number r.region.len (fields_of found.head)) (fields_of found.head) ≡ None
+    → bad_arena behind i (first_bad_head r.number r.region.len (fields_of found.head)) (fields_of found.head) ≡ None
     → next ≡ (behind || not found.head.sealed) → Passes layout (heads ++ found ∷ []) next (i + 1)
 passes_more layout heads behind next i r found passes at none next_is rest =
     let f : List ℕ = fields_of found.head in
     let spelled : fields_of_all (heads ++ found ∷ []) ++ rest ≡ fields_of_all heads ++ f ∷ rest =
     ap (λ (l : List (List ℕ)). l ++ rest) (map-append (λ (x : Found). fields_of x.head) heads (found ∷ [])) ∙ append_assoc (fields_of_all heads) (f ∷ []) rest in
-    ap (first_bad false 0 layout) spelled
+    ap (first_bad_log false 0 layout) spelled
     ∙ passes (f ∷ rest)
-    ∙ ap (λ (rs : List ArenaRegion). first_bad behind i rs (f ∷ rest)) (drop_at layout i r at)
+    ∙ ap (λ (rs : List ArenaRegion). first_bad_log behind i rs (f ∷ rest)) (drop_at layout i r at)
     ∙ at_step behind i r (drop (i + 1) layout) f rest none
-    ∙ ap (λ (b : Bool). first_bad b (i + 1) (drop (i + 1) layout) rest) (ap (λ (b : Bool). behind || b) (flag_is_none found.head.sealed) ∙ sym next_is)
+    ∙ ap (λ (b : Bool). first_bad_log b (i + 1) (drop (i + 1) layout) rest) (ap (λ (b : Bool). behind || b) (flag_is_none found.head.sealed) ∙ sym next_is)
 
 pub passes_stop : (layout : List ArenaRegion) (heads : List Found) (behind : Bool) (i : ℕ) (r : ArenaRegion) (f : List ℕ) (rest : List (List ℕ)) (bad : LogBad) → Passes layout heads behind i → slice_get layout i ≡ Some r
-    → bad_arena behind i (first_bad_in r.number r.region.len f) f ≡ Some bad → first_bad false 0 layout (fields_of_all heads ++ f ∷ rest) ≡ Some bad
+    → bad_arena behind i (first_bad_head r.number r.region.len f) f ≡ Some bad → first_bad_log false 0 layout (fields_of_all heads ++ f ∷ rest) ≡ Some bad
 passes_stop layout heads behind i r f rest bad passes at is =
     passes (f ∷ rest)
-    ∙ ap (λ (rs : List ArenaRegion). first_bad behind i rs (f ∷ rest)) (drop_at layout i r at)
+    ∙ ap (λ (rs : List ArenaRegion). first_bad_log behind i rs (f ∷ rest)) (drop_at layout i r at)
     ∙ at_stop behind i r (drop (i + 1) layout) f rest bad is
 
 -- all pass
 pub passes_all : (layout : List ArenaRegion) (heads : List Found) (behind : Bool) (i : ℕ) → Passes layout heads behind i → length layout ≤ i → ArePassed layout (fields_of_all heads) heads
 passes_all layout heads behind i passes past = record {
-  passed = ap (first_bad false 0 layout) (sym (append-nil (fields_of_all heads))) ∙ passes [] ∙ ap (λ (rs : List ArenaRegion). first_bad behind i rs []) (drop_all i layout past);
+  passed = ap (first_bad_log false 0 layout) (sym (append-nil (fields_of_all heads))) ∙ passes [] ∙ ap (λ (rs : List ArenaRegion). first_bad_log behind i rs []) (drop_all i layout past);
   heads_are = refl;
 }
 
@@ -379,7 +379,7 @@ stops {D = D} disk ds layout heads behind i r bad regions passes so_far at answe
 
 -- and what is found of them
 pub found_more : (tells : Bool) (layout : List ArenaRegion) (files : List (List ℕ)) (heads : List Found) (i : ℕ) (r : ArenaRegion) (found : Found) → AreFound tells (take i layout) files heads → slice_get layout i ≡ Some r
-    → ((file : List ℕ) → slice_get files r.part ≡ Some file → IsFound tells r file found) → AreFound tells (take (i + 1) layout) files (heads ++ found ∷ [])
+    → ((file : List ℕ) → slice_get files r.part ≡ Some file → IsFoundArena tells r file found) → AreFound tells (take (i + 1) layout) files (heads ++ found ∷ [])
 found_more tells layout files heads i r found are at finds = record {
   many = length_push heads found ∙ omega (arith, are.many, length-take-le i layout (omega (arith, within)), length-take-le (i + 1) layout (omega (arith, within)));
   each = λ k q file other at_q file_is at_other.
@@ -389,8 +389,8 @@ found_more tells layout files heads i r found are at finds = record {
       let same_q : r ≡ q = same_Some r q (sym at
       ∙ ap (slice_get layout) (let e : i ≡ k = omega (arith, here, many) in e) ∙ in_all k q at_q) in
       let same_found : found ≡ other = same_Some found other (sym (slice_get_right heads (found ∷ []) 0) ∙ ap (slice_get (heads ++ found ∷ [])) (omega (arith, here)) ∙ at_other) in
-      subst (λ (x : Found). IsFound tells q file x) same_found
-      (subst (λ (x : ArenaRegion). IsFound tells x file found) same_q (finds file (ap (λ (x : ArenaRegion). slice_get files x.part) same_q ∙ file_is))))
+      subst (λ (x : Found). IsFoundArena tells q file x) same_found
+      (subst (λ (x : ArenaRegion). IsFoundArena tells x file found) same_q (finds file (ap (λ (x : ArenaRegion). slice_get files x.part) same_q ∙ file_is))))
       (λ (other_place : k ≢ length heads).
       let before : k < i = omega (arith, other_place, many, below, length-take-le (i + 1) layout (omega (arith, within))) in
       are.each k q file other (take_there layout i k q before (in_all k q at_q)) file_is
@@ -437,11 +437,11 @@ on_held disk ds es r hold on =
 
 -- what is found is told by the file
 pub found_file : {D : Type 0} (disk : DiskOf D) (ds : List D) (files : List (List ℕ)) (r : ArenaRegion) (found : Found) → map disk.bytes ds ≡ files
-    → ((device : D) → slice_get ds r.part ≡ Some device → IsFound disk.tells r (disk.bytes device) found) → (file : List ℕ) → slice_get files r.part ≡ Some file → IsFound disk.tells r file found
+    → ((device : D) → slice_get ds r.part ≡ Some device → IsFoundArena disk.tells r (disk.bytes device) found) → (file : List ℕ) → slice_get files r.part ≡ Some file → IsFoundArena disk.tells r file found
 found_file {D = D} disk ds files r found same finds file at =
     let device = slice_get_other ds files r.part file (ap (λ (fs : List (List ℕ)). length fs) (sym same) ∙ length-map ds disk.bytes) at in
     let is : disk.bytes device.0 ≡ file = same_Some (disk.bytes device.0) file (sym (slice_get-map disk.bytes ds r.part ∙ ap (option_map disk.bytes) device.1) ∙ ap (λ (fs : List (List ℕ)). slice_get fs r.part) same ∙ at) in
-    subst (λ (f : List ℕ). IsFound disk.tells r f found) is (finds device.0 device.1)
+    subst (λ (f : List ℕ). IsFoundArena disk.tells r f found) is (finds device.0 device.1)
 
 pub fields_more : {D : Type 0} (disk : DiskOf D) (ds : List D) (layout : List ArenaRegion) (heads : List Found) (i : ℕ) (r : ArenaRegion) (found : Found) → All (IsOnDisk disk ds) layout
     → slice_get layout i ≡ Some r → AreFieldsAt (map disk.bytes ds) r (fields_of found.head) → fields_of_all heads ≡ map (fields_there (map disk.bytes ds)) (take i layout)
@@ -463,7 +463,7 @@ found_stands {D = D} disk ds rs heads i r found regions are at at_found =
 -- ---- what is told
 
 -- a refusal that comes before any call, and one that comes behind the syncs
-pub told_early : {D : Type 0} (disk : DiskOf D) (ps : List (Part D)) (bad : LogBad) → IsEarly bad → IsTold disk ps ps bad
+pub told_early : {D : Type 0} (disk : DiskOf D) (ps : List (Part D)) (bad : LogBad) → IsBeforeCalls bad → TellsOfSettled disk ps ps bad
 told_early disk ps (PartRefused bad) early = refl
 told_early disk ps (Arena i bad) early = absurd early
 told_early disk ps (Order i clumps) early = absurd early
@@ -471,7 +471,7 @@ told_early disk ps Fault early = absurd early
 told_early disk ps NoMemory early = inl refl
 
 pub told_behind : {D : Type 0} (disk : DiskOf D) (old new : List (Part D)) (layout : List ArenaRegion) (fields : List (List ℕ)) (bad : LogBad)
-    → RefusesArenas layout fields bad → AreSettled disk new → IsTold disk old new bad
+    → RefusesArenas layout fields bad → AreSettled disk new → TellsOfSettled disk old new bad
 told_behind disk old new layout fields (PartRefused bad) refuses settled = absurd refuses
 told_behind disk old new layout fields (Arena i bad) refuses settled = settled
 told_behind disk old new layout fields (Order i clumps) refuses settled = settled

@@ -13,7 +13,7 @@ use Rattle.vt_disk.specs.Disk.{SameBut, WithinCall}
 use Rattle.vt_disk.specs.Region.{Inside, ChangesWithin, region_bytes}
 use Rattle.vt_disk.proofs.Bytes.{part_same}
 use Rattle.vt_twin.specs.Frames.{named_number}
-use Rattle.vt_twin.specs.Twin.{TwinState, after_fault as twin_after_fault}
+use Rattle.vt_twin.specs.Twin.{TwinState, twin_after_fault}
 use Rattle.vt_clump.specs.Clumps.{stored_of}
 use Rattle.vt_clump.specs.declared.packed.Packed.{Packed}
 use Rattle.vt_model.specs.History.{History}
@@ -23,15 +23,15 @@ use Rattle.vt_arena.specs.declared.TheConstants.{FRAME_LEN}
 use Rattle.vt_arena.specs.declared.head.ArenaHead.{ArenaHead}
 use Rattle.vt_arena.specs.Arena.{ArenaState, next_content, pieces, after_step, after_piece, after_head, after_fault, with_failure, changing}
 use Rattle.vt_arena.specs.Layout.{Content, IsArena}
-use Rattle.vt_arena.specs.Sound.{IsRegion, IsSettled, IsSound as IsSoundArena, GivesOldOrNext}
+use Rattle.vt_arena.specs.Sound.{IsRegion, IsSettled, IsSoundArena, GivesOldOrNext}
 use Rattle.vt_arena.proofs.Fresh.{settled_elsewhere}
 use Rattle.vt_arena.proofs.Regions.{arena_in_region, named_in_region}
-use Rattle.vt_log.specs.Committing.{IsReady}
+use Rattle.vt_log.specs.Committing.{IsCommitReady}
 use Rattle.vt_log.specs.Log.{LogState}
-use Rattle.vt_log.specs.Logs.{accepted}
+use Rattle.vt_log.specs.Logs.{accepted_in}
 use Rattle.vt_log.specs.Queue.{waiting_block}
-use Rattle.vt_log.specs.Sound.{IsAt, IsSound, AreWithinCall, StandForPrefix}
-use Rattle.vt_log.specs.Whole.{IsOnDisk, IsWhole}
+use Rattle.vt_log.specs.Sound.{IsArenaAt, IsSoundLog, AreWithinCallOf, LogStandsForPrefix}
+use Rattle.vt_log.specs.Whole.{IsOnDisk, IsWholeLog}
 use Rattle.vt_log.proofs.StandForPrefix.{region_long, number_is, stand_for_prefix, moment_stands}
 use Rattle.vt_log.proofs.Lists.{slice_get_other, slice_get_set_same, slice_get_set_other}
 
@@ -75,9 +75,9 @@ on_disk_set disk ds i d e r at same on = ⊎_elim
     (cases_eq r.part i)
 
 -- a log in memory stays whole by a call that ends no commit
-pub call_whole : {D : Type 0} (disk : DiskOf D) (l : LogState D) (i : ℕ) (d e : D) (b : ArenaState) (calls : ℕ) (stopped : Option ℕ) → IsWhole disk l → IsReady l → KeepsArena l.arena b
+pub call_whole : {D : Type 0} (disk : DiskOf D) (l : LogState D) (i : ℕ) (d e : D) (b : ArenaState) (calls : ℕ) (stopped : Option ℕ) → IsWholeLog disk l → IsCommitReady l → KeepsArena l.arena b
     → (stopped ≡ None → b.failed ≡ false) → slice_get l.disks i ≡ Some d → disk.size e ≡ disk.size d
-    → IsWhole disk (record l { disks = set l.disks i e; arena = b; calls = calls; stopped = stopped })
+    → IsWholeLog disk (record l { disks = set l.disks i e; arena = b; calls = calls; stopped = stopped })
 call_whole disk l i d e b calls stopped whole ready keeps runs at same = record {
   many_disks = length-set l.disks i e ∙ whole.many_disks;
   layout = whole.layout;
@@ -134,7 +134,7 @@ pub record StaysAt {D : Type 0} (score_of : List ℕ → List ℕ) (disk : DiskO
 
 -- the disk of an arena was one before
 pub at_before : {D : Type 0} (l k : LogState D) (i : ℕ) (q : ArenaRegion) (after : D) (part : ℕ) (e : D) → k.layout ≡ l.layout → k.disks ≡ set l.disks part e
-    → IsAt k i q after → (before : D) × IsAt l i q before × (slice_get (set l.disks part e) q.part ≡ Some after)
+    → IsArenaAt k i q after → (before : D) × IsArenaAt l i q before × (slice_get (set l.disks part e) q.part ≡ Some after)
 at_before l k i q after part e layout disks at =
     let now : slice_get (set l.disks part e) q.part ≡ Some after = sym (ap (λ ds. slice_get ds q.part) disks) ∙ at.disk_is in
     let was = slice_get_other l.disks (set l.disks part e) q.part after (length-set l.disks part e) now in
@@ -143,8 +143,8 @@ at_before l k i q after part e layout disks at =
 -- ---- a call of the disk of the arena that is committed in
 
 module _ {D : Type 0} (score_of : List ℕ → List ℕ) (disk : DiskOf D) (l : LogState D) (r : ArenaRegion) (d e : D)
-    (at : IsAt l l.committing r d) (changes : ChangesRegion disk r.region d e) where
-  pub others_stay : IsWhole disk l → (i : ℕ) (q : ArenaRegion) (before after : D) → i ≢ l.committing → IsAt l i q before → slice_get (set l.disks r.part e) q.part ≡ Some after
+    (at : IsArenaAt l l.committing r d) (changes : ChangesRegion disk r.region d e) where
+  pub others_stay : IsWholeLog disk l → (i : ℕ) (q : ArenaRegion) (before after : D) → i ≢ l.committing → IsArenaAt l i q before → slice_get (set l.disks r.part e) q.part ≡ Some after
       → StaysAt score_of disk q.region before after
   others_stay whole i q before after not_this there_at now = ⊎_elim
       (λ (same : q.part ≡ r.part).
@@ -168,10 +168,10 @@ module _ {D : Type 0} (score_of : List ℕ → List ℕ) (disk : DiskOf D) (l : 
       (cases_eq q.part r.part)
 
   -- a disk stays sound by a call that ends no commit
-  pub call_sound : (h : History) (b : ArenaState) (calls : ℕ) (stopped : Option ℕ) → (sound : IsSound score_of disk l h) → IsReady l → KeepsArena l.arena b
+  pub call_sound : (h : History) (b : ArenaState) (calls : ℕ) (stopped : Option ℕ) → (sound : IsSoundLog score_of disk l h) → IsCommitReady l → KeepsArena l.arena b
       → (stopped ≡ None → b.failed ≡ false)
       → ((a : Content) → slice_get sound.contents l.committing ≡ Some a → IsSoundArena score_of b r.region a (disk.bytes e) (disk.images e))
-      → IsSound score_of disk (record l { disks = set l.disks r.part e; arena = b; calls = calls; stopped = stopped }) h
+      → IsSoundLog score_of disk (record l { disks = set l.disks r.part e; arena = b; calls = calls; stopped = stopped }) h
   call_sound h b calls stopped sound ready keeps runs stays = record {
     whole = call_whole disk l r.part d e b calls stopped sound.whole ready keeps runs at.disk_is changes.size_is;
     contents = sound.contents;
@@ -193,7 +193,7 @@ module _ {D : Type 0} (score_of : List ℕ → List ℕ) (disk : DiskOf D) (l : 
         let stay = others_stay sound.whole i q was.0 device (λ same. omega (arith, behind, same)) was.1 was.2 in
         sound.selectors i q was.0 found behind was.1 has ∙ sym stay.selector;
     committed = sound.committed;
-    queued = sound.queued ∙ sym (ap (λ (ps : List Packed). map (accepted l.committing) (map stored_of ps) ++ map waiting_block l.queue.waiting) keeps.staged);
+    queued = sound.queued ∙ sym (ap (λ (ps : List Packed). map (accepted_in l.committing) (map stored_of ps) ++ map waiting_block l.queue.waiting) keeps.staged);
     front = sound.front;
     packed = sound.packed;
     places = sound.places;
@@ -203,10 +203,10 @@ module _ {D : Type 0} (score_of : List ℕ → List ℕ) (disk : DiskOf D) (l : 
   }
 
   -- A crash at any moment of a call leaves disks that stand for a prefix.
-  pub call_stands : (h : History) (Began : Type 0) (files : List (List ℕ)) → (sound : IsSound score_of disk l h)
+  pub call_stands : (h : History) (Began : Type 0) (files : List (List ℕ)) → (sound : IsSoundLog score_of disk l h)
       → ((a : Content) → slice_get sound.contents l.committing ≡ Some a → (c : List ℕ) → WithinCall (disk.images d) (disk.images e) c
       → GivesOldOrNext Began score_of r.region l.arena.number a (next_content l.arena a) c)
-      → AreWithinCall disk l.disks (set l.disks r.part e) files → StandForPrefix score_of l files h
+      → AreWithinCallOf disk l.disks (set l.disks r.part e) files → LogStandsForPrefix score_of l files h
   call_stands h Began files sound crashes left =
       stand_for_prefix score_of disk l h files sound left.many
       (λ q device a file there_at has of.
@@ -232,7 +232,7 @@ module _ {D : Type 0} (score_of : List ℕ → List ℕ) (disk : DiskOf D) (l : 
 
 -- and where no call is made
 pub rest_stands : {D : Type 0} (score_of : List ℕ → List ℕ) (disk : DiskOf D) (l : LogState D) (h : History)
-    (files : List (List ℕ)) (ds : List D) → IsSound score_of disk l h → ds ≡ l.disks → AreWithinCall disk l.disks ds files → StandForPrefix score_of l files h
+    (files : List (List ℕ)) (ds : List D) → IsSoundLog score_of disk l h → ds ≡ l.disks → AreWithinCallOf disk l.disks ds files → LogStandsForPrefix score_of l files h
 rest_stands score_of disk l h files ds sound same left =
     moment_stands score_of disk l h files sound (record {
       many = left.many;

@@ -13,22 +13,22 @@ use Rattle.vt_base.specs.Damage.{Differ}
 use Rattle.vt_base.specs.Kind.{is_kind}
 use Rattle.vt_disk.specs.Members.{DiskOf}
 use Rattle.vt_clump.specs.declared.reading.ClumpBad.{ClumpBad}
-use Rattle.vt_clump.specs.Faults.{or_else, bad_encoding, bad_size, bad_header, other_score, first_bad}
+use Rattle.vt_clump.specs.Faults.{first_fault, bad_encoding, bad_size, bad_header, other_score, first_bad_clump}
 use Rattle.vt_clump.specs.Spelling.{size_in, uncsize_in, stored_in}
-use Rattle.vt_arena.specs.declared.bad.ReadBad.{ReadBad}
-use Rattle.vt_arena.specs.declared.bad.ReadBad.TheVariants.{Damaged}
-use Rattle.vt_arena.specs.Reading.{HasHeader, damage_of, IsDamaged}
+use Rattle.vt_arena.specs.declared.error.ReadBad.{ReadBad}
+use Rattle.vt_arena.specs.declared.error.ReadBad.TheVariants.{Damaged}
+use Rattle.vt_arena.specs.Reading.{HasHeader, damage_of_clump, IsDamaged}
 use Rattle.vt_log.specs.Log.{LogState}
 use Rattle.vt_log.specs.Queue.{IsNowhere}
-use Rattle.vt_log.specs.Reading.{IsOther, ReadsAs, AnswersRead}
-use Rattle.vt_log.specs.Whole.{IsOnDisk, IsWhole}
+use Rattle.vt_log.specs.Reading.{IsOther, ReadsBlockAs, AnswersRead}
+use Rattle.vt_log.specs.Whole.{IsOnDisk, IsWholeLog}
 use Rattle.vt_log.proofs.StandForPrefix.{there}
 use Rattle.vt_log.proofs.Lists.{at_slice}
 use Rattle.vt_log.proofs.Places.{slice_get_there}
 
 -- this fault of a clump, if there is one, has two values
 abbrev HasTwo : Option ClumpBad → Type 0
-HasTwo (Some bad) = Differ (damage_of bad).0 (damage_of bad).1
+HasTwo (Some bad) = Differ (damage_of_clump bad).0 (damage_of_clump bad).1
 HasTwo None = Unit
 
 -- two numbers that differ are two values
@@ -41,7 +41,7 @@ choose : {A : Type 0} (P : A → Type 0) (b : Bool) (x y : A) → (b ≡ true �
 choose P true x y first other = first refl
 choose P false x y first other = other refl
 
-joined : (x y : Option ClumpBad) → HasTwo x → HasTwo y → HasTwo (or_else x y)
+joined : (x y : Option ClumpBad) → HasTwo x → HasTwo y → HasTwo (first_fault x y)
 joined None y first later = later
 joined (Some bad) y first later = first
 
@@ -95,7 +95,7 @@ score_two want found =
           absurd (cc);
     })
 
-first_two : (score_of : List ℕ → List ℕ) (bytes : List ℕ) → HasTwo (first_bad score_of bytes)
+first_two : (score_of : List ℕ → List ℕ) (bytes : List ℕ) → HasTwo (first_bad_clump score_of bytes)
 first_two score_of bytes =
     joined (bad_header bytes) _ (header_two bytes)
     (score_two (stored_in bytes).score (score_of (stored_in bytes).block))
@@ -140,7 +140,7 @@ header_cases len offset = ⊎_elim
 
 -- A damage that is answered for a place in an arena has two values.
 pub answer_two : {D : Type 0} (score_of : List ℕ → List ℕ) (disk : DiskOf D) (l : LogState D) (place : Place) (key : Key) (result : Result (List ℕ) ReadBad)
-    → IsWhole disk l → IsNowhere l.queue.places place → place.arena < length l.layout
+    → IsWholeLog disk l → IsNowhere l.queue.places place → place.arena < length l.layout
     → AnswersRead score_of disk l place key result
     → (want found : FieldValue) → result ≡ Err (Damaged want found) → Differ want found
 answer_two score_of disk l place key result whole none within answer want found bad =
@@ -151,7 +151,7 @@ answer_two score_of disk l place key result whole none within answer want found 
     let stored = answer.stored at.0 it.disk none it.at has in
     ⊎_elim (damaged_two score_of stored.0 want found)
     (λ (other : (_ ≡ None) × _). key_two key _ _ want found other.1)
-    (subst (ReadsAs score_of key stored.0) bad stored.2))
+    (subst (ReadsBlockAs score_of key stored.0) bad stored.2))
     (λ (no : ¬ HasHeader at.0.region.len place.offset).
     let told : Err (Damaged want found) ≡ Err (Damaged (Number 24576) (Number place.offset)) =
     sym bad ∙ answer.outside at.0 none at.1 no in

@@ -21,19 +21,19 @@ use Rattle.vt_part.specs.declared.layout.ArenaRegion.{ArenaRegion}
 use Rattle.vt_arena.specs.declared.TheConstants.{FRAME_LEN}
 use Rattle.vt_arena.specs.declared.head.ArenaHead.{ArenaHead}
 use Rattle.vt_arena.specs.declared.head.Found.{Found}
-use Rattle.vt_arena.specs.Arena.{ArenaState, added_by, next_content, is_committing, after_last, fresh_arena}
-use Rattle.vt_arena.specs.Layout.{Content, IsArena, head_of}
+use Rattle.vt_arena.specs.Arena.{ArenaState, added_by_commit, next_content, is_committing, after_last, fresh_arena}
+use Rattle.vt_arena.specs.Layout.{Content, IsArena, arena_head}
 use Rattle.vt_arena.specs.Places.{directory_room, arena_room}
-use Rattle.vt_arena.specs.Sound.{IsRegion, IsSettled, IsSound as IsSoundArena}
+use Rattle.vt_arena.specs.Sound.{IsRegion, IsSettled, IsSoundArena}
 use Rattle.vt_arena.specs.Faults.{CanStand}
 use Rattle.vt_arena.proofs.Fresh.{fresh_sound}
 use Rattle.vt_log.specs.declared.filling.Filling.{Filling}
 use Rattle.vt_log.specs.declared.queue.Waiting.{Waiting}
-use Rattle.vt_log.specs.Log.{LogState, setup_of, filled_as, found_filling, fits_in, with_room_taken}
-use Rattle.vt_log.specs.Logs.{accepted, blocks_from, IsUntouched}
+use Rattle.vt_log.specs.Log.{LogState, setup_of_log, filled_as, found_filling, fits_in, with_room_taken}
+use Rattle.vt_log.specs.Logs.{accepted_in, blocks_from, IsUntouched}
 use Rattle.vt_log.specs.Queue.{WaitsFor, waiting_block, spot_of}
-use Rattle.vt_log.specs.Sound.{IsAt, IsSound}
-use Rattle.vt_log.specs.Whole.{IsOnDisk, IsWhole, Fill, turned_to}
+use Rattle.vt_log.specs.Sound.{IsArenaAt, IsSoundLog}
+use Rattle.vt_log.specs.Whole.{IsOnDisk, IsWholeLog, Fill, turned_to}
 use Rattle.vt_log.proofs.CallsArena.{ChangesRegion, on_disk_set, others_stay, at_before}
 use Rattle.vt_log.proofs.IsSplit.{blocks_set, split_set, split_sealed, longer_prefix}
 use Rattle.vt_log.proofs.Fill.{fits_within, turned_arena}
@@ -115,10 +115,10 @@ ended l part e found b calls = record l {
   calls = calls;
 }
 
-pub ended_whole : {D : Type 0} (disk : DiskOf D) (l : LogState D) (r : ArenaRegion) (found : Found) (d e : D) (b : ArenaState) (calls : ℕ) → IsWhole disk l → EndsArena l.arena b
+pub ended_whole : {D : Type 0} (disk : DiskOf D) (l : LogState D) (r : ArenaRegion) (found : Found) (d e : D) (b : ArenaState) (calls : ℕ) → IsWholeLog disk l → EndsArena l.arena b
     → l.arena.next.sealed ≡ false → slice_get l.layout l.committing ≡ Some r → slice_get l.heads l.committing ≡ Some found
     → b.head.used + directory_room b.head.clumps ≤ arena_room r.region.len → slice_get l.disks r.part ≡ Some d → disk.size e ≡ disk.size d
-    → IsWhole disk (ended l r.part e found b calls)
+    → IsWholeLog disk (ended l r.part e found b calls)
 ended_whole disk l r found d e b calls whole ends unsealed here has fit at same = record {
   many_disks = length-set l.disks r.part e ∙ whole.many_disks;
   layout = whole.layout;
@@ -186,38 +186,38 @@ pub record IsEnding {D : Type 0} (score_of : List ℕ → List ℕ) (disk : Disk
     (r : ArenaRegion) (found : Found) (d e : D) (b : ArenaState) : Type 0 where
   pub ends : EndsArena l.arena b
   pub has : slice_get l.heads l.committing ≡ Some found
-  pub at : IsAt l l.committing r d
+  pub at : IsArenaAt l l.committing r d
   pub changes : ChangesRegion disk r.region d e
   pub fit : b.head.used + directory_room b.head.clumps ≤ arena_room r.region.len
 
 -- the blocks with those that were staged
 pub committed_next : {D : Type 0} (score_of : List ℕ → List ℕ) (disk : DiskOf D) (l : LogState D) (h : History) (a : Content)
-    → (sound : IsSound score_of disk l h) → slice_get sound.contents l.committing ≡ Some a
+    → (sound : IsSoundLog score_of disk l h) → slice_get sound.contents l.committing ≡ Some a
     → (take (l.durable + length l.arena.staged) h ≡ blocks_from 0 (set sound.contents l.committing (next_content l.arena a)))
     × (drop (l.durable + length l.arena.staged) h ≡ map waiting_block l.queue.waiting) × (l.durable + length l.arena.staged ≤ length h)
 committed_next score_of disk l h a sound is = (
   subst (λ (k : ℕ). take (l.durable + k) h ≡ blocks_from 0 (set sound.contents l.committing (next_content l.arena a))) count
       (longer_prefix h l.durable added (map waiting_block l.queue.waiting) inside sound.queued
       ∙ ap (λ (q : History). q ++ added) sound.committed
-      ∙ ap (λ (k : ℕ). blocks_from 0 sound.contents ++ map (accepted k) (added_by l.arena)) (let z : l.committing ≡ 0 + l.committing = omega arith in z)
-      ∙ sym (blocks_set 0 l.committing sound.contents a (next_content l.arena a) (added_by l.arena) is sound.split.behind refl)),
+      ∙ ap (λ (k : ℕ). blocks_from 0 sound.contents ++ map (accepted_in k) (added_by_commit l.arena)) (let z : l.committing ≡ 0 + l.committing = omega arith in z)
+      ∙ sym (blocks_set 0 l.committing sound.contents a (next_content l.arena a) (added_by_commit l.arena) is sound.split.behind refl)),
   sym (drop-drop (length l.arena.staged) l.durable h) ∙ ap (drop (length l.arena.staged)) sound.queued ∙ drop_at added (map waiting_block l.queue.waiting) (length l.arena.staged) count,
   omega (arith, sound.front, sound.whole.places),
 )
   where
     added : History
-    added = map (accepted l.committing) (added_by l.arena)
+    added = map (accepted_in l.committing) (added_by_commit l.arena)
 
     count : length added ≡ length l.arena.staged
-    count = length-map (added_by l.arena) (accepted l.committing) ∙ length-map l.arena.staged stored_of
+    count = length-map (added_by_commit l.arena) (accepted_in l.committing) ∙ length-map l.arena.staged stored_of
 
     inside : l.durable ≤ length h
     inside = omega (arith, sound.front)
 
-kept_places : {D : Type 0} (score_of : List ℕ → List ℕ) (disk : DiskOf D) (l : LogState D) (h : History) → IsSound score_of disk l h
-    → (i : ℕ) (place : Place) → slice_get (drop (length l.arena.staged) l.queue.places) i ≡ Some place → place_of (setup_of l) h (l.durable + length l.arena.staged + i) ≡ Some (spot_of place)
+kept_places : {D : Type 0} (score_of : List ℕ → List ℕ) (disk : DiskOf D) (l : LogState D) (h : History) → IsSoundLog score_of disk l h
+    → (i : ℕ) (place : Place) → slice_get (drop (length l.arena.staged) l.queue.places) i ≡ Some place → place_of (setup_of_log l) h (l.durable + length l.arena.staged + i) ≡ Some (spot_of place)
 kept_places score_of disk l h sound i place is =
-    ap (place_of (setup_of l) h) (let z : l.durable + length l.arena.staged + i ≡ l.durable + (length l.arena.staged + i) = omega arith in z)
+    ap (place_of (setup_of_log l) h) (let z : l.durable + length l.arena.staged + i ≡ l.durable + (length l.arena.staged + i) = omega arith in z)
     ∙ sound.places (length l.arena.staged + i) place (sym (slice_get_drop (length l.arena.staged) i l.queue.places) ∙ is)
 
 -- the log after the last call, where the arena is sealed: the next one is committed in
@@ -228,7 +228,7 @@ turned l part e found b calls len next = record (ended l part e found b calls) {
 }
 
 -- the arena is there for which a block waits
-pub next_there : {D : Type 0} (disk : DiskOf D) (l : LogState D) → IsWhole disk l → l.arena.next.sealed ≡ true → l.committing + 1 < length l.layout
+pub next_there : {D : Type 0} (disk : DiskOf D) (l : LogState D) → IsWholeLog disk l → l.arena.next.sealed ≡ true → l.committing + 1 < length l.layout
 next_there disk l whole sealed = at l.queue.waiting (whole.way sealed) whole.queue
   where
     at : (ws : List Waiting) → WaitsFor (l.committing + 1) ws → Fill l.layout l.heads (filled_as l.committing l.arena.next) ws l.filling → l.committing + 1 < length l.layout
@@ -237,11 +237,11 @@ next_there disk l whole sealed = at l.queue.waiting (whole.way sealed) whole.que
         let there = fits_within l.layout (turned_to l.heads w.arena (filled_as l.committing l.arena.next)) w.packed.len fill.2 in
         omega (arith, waits, slice_get_within l.layout _ there.0 there.1, turned_arena l.heads w.arena (filled_as l.committing l.arena.next))
 
-pub turned_whole : {D : Type 0} (disk : DiskOf D) (l : LogState D) (r q : ArenaRegion) (found next : Found) (d e : D) (b : ArenaState) (calls len : ℕ) → IsWhole disk l → EndsArena l.arena b
+pub turned_whole : {D : Type 0} (disk : DiskOf D) (l : LogState D) (r q : ArenaRegion) (found next : Found) (d e : D) (b : ArenaState) (calls len : ℕ) → IsWholeLog disk l → EndsArena l.arena b
     → l.arena.next.sealed ≡ true → slice_get l.layout l.committing ≡ Some r → slice_get l.heads l.committing ≡ Some found
     → b.head.used + directory_room b.head.clumps ≤ arena_room r.region.len → slice_get l.disks r.part ≡ Some d → disk.size e ≡ disk.size d
     → slice_get l.layout (l.committing + 1) ≡ Some q → slice_get l.heads (l.committing + 1) ≡ Some next → len ≡ q.region.len
-    → IsWhole disk (turned l r.part e found b calls len next)
+    → IsWholeLog disk (turned l r.part e found b calls len next)
 turned_whole disk l r q found next d e b calls len whole ends sealed here has fit at same next_here next_has len_is = record {
   many_disks = length-set l.disks r.part e ∙ whole.many_disks;
   layout = whole.layout;
@@ -302,10 +302,10 @@ turned_whole disk l r q found next d e b calls len whole ends sealed here has fi
 -- ---- the disks after the last call
 
 module _ {D : Type 0} (score_of : List ℕ → List ℕ) (disk : DiskOf D) (l : LogState D) (h : History) (r : ArenaRegion) (found : Found) (d e : D) (b : ArenaState)
-    (sound : IsSound score_of disk l h) (ending : IsEnding score_of disk l r found d e b) where
+    (sound : IsSoundLog score_of disk l h) (ending : IsEnding score_of disk l r found d e b) where
   -- an arena that isn't committed in stays what it is
   pub kept_others : (k : LogState D) (next : Content) → k.layout ≡ l.layout → k.disks ≡ set l.disks r.part e
-      → (i : ℕ) (q : ArenaRegion) (device : D) (c : Content) → i ≢ l.committing → IsAt k i q device → slice_get (set sound.contents l.committing next) i ≡ Some c
+      → (i : ℕ) (q : ArenaRegion) (device : D) (c : Content) → i ≢ l.committing → IsArenaAt k i q device → slice_get (set sound.contents l.committing next) i ≡ Some c
       → IsSettled q.region (disk.bytes device) (disk.images device) × IsArena score_of q.region q.number c (disk.bytes device)
   kept_others k next layout disks i q device c not_this there_at content =
       let was = at_before l k i q device r.part e layout disks there_at in
@@ -314,9 +314,9 @@ module _ {D : Type 0} (score_of : List ℕ → List ℕ) (disk : DiskOf D) (l : 
       (stay.settled rest.0, stay.arena q.number c rest.1)
 
   -- the heads are those of what is committed
-  pub kept_heads : (next : Content) → l.committing < length sound.contents → b.head ≡ head_of score_of b.number next
+  pub kept_heads : (next : Content) → l.committing < length sound.contents → b.head ≡ arena_head score_of b.number next
       → (i : ℕ) (q : ArenaRegion) (f : Found) (c : Content) → slice_get l.layout i ≡ Some q → slice_get (set l.heads l.committing (record found { head = b.head })) i ≡ Some f
-      → slice_get (set sound.contents l.committing next) i ≡ Some c → f.head ≡ head_of score_of q.number c
+      → slice_get (set sound.contents l.committing next) i ≡ Some c → f.head ≡ arena_head score_of q.number c
   kept_heads next within head i q f c q_at f_at c_at = ⊎_elim
       (λ (is : i ≡ l.committing).
       let q_is : r ≡ q = same_Some r q (sym ending.at.arena ∙ sym (ap (slice_get l.layout) is) ∙ q_at) in
@@ -324,13 +324,13 @@ module _ {D : Type 0} (score_of : List ℕ → List ℕ) (disk : DiskOf D) (l : 
       ∙ sym (ap (slice_get (set l.heads l.committing (record found { head = b.head }))) is) ∙ f_at) in
       let c_is : next ≡ c = same_Some next c (sym (slice_get_set_same sound.contents l.committing next within) ∙ sym (ap (slice_get (set sound.contents l.committing next)) is) ∙ c_at) in
       let number : b.number ≡ q.number = ending.ends.number ∙ number_is disk l r sound.whole ending.at.arena ∙ ap (λ (x : ArenaRegion). x.number) q_is in
-      ap (λ (x : Found). x.head) (sym f_is) ∙ head ∙ ap (λ (n : ℕ). head_of score_of n next) number ∙ ap (head_of score_of q.number) c_is)
+      ap (λ (x : Found). x.head) (sym f_is) ∙ head ∙ ap (λ (n : ℕ). arena_head score_of n next) number ∙ ap (arena_head score_of q.number) c_is)
       (λ (not_this : i ≢ l.committing). sound.heads i q f c q_at (sym (slice_get_set_other l.heads l.committing i (record found { head = b.head }) not_this) ∙ f_at)
       (sym (slice_get_set_other sound.contents l.committing i next not_this) ∙ c_at))
       (cases_eq i l.committing)
 
   pub kept_selectors : (k : LogState D) → k.layout ≡ l.layout → k.disks ≡ set l.disks r.part e
-      → (i : ℕ) (q : ArenaRegion) (device : D) (f : Found) → l.committing < i → IsAt k i q device → slice_get (set l.heads l.committing (record found { head = b.head })) i ≡ Some f
+      → (i : ℕ) (q : ArenaRegion) (device : D) (f : Found) → l.committing < i → IsArenaAt k i q device → slice_get (set l.heads l.committing (record found { head = b.head })) i ≡ Some f
       → f.selector % 2 ≡ named_number q.region FRAME_LEN (disk.bytes device)
   kept_selectors k layout disks i q device f behind there_at f_at =
       let not_this : i ≢ l.committing = λ same. omega (arith, behind, same) in
@@ -340,7 +340,7 @@ module _ {D : Type 0} (score_of : List ℕ → List ℕ) (disk : DiskOf D) (l : 
 
   -- the disks stay sound by the last call, where it doesn't seal
   pub ended_sound : (calls : ℕ) (a : Content) → l.arena.next.sealed ≡ false → slice_get sound.contents l.committing ≡ Some a
-      → IsSoundArena score_of b r.region (next_content l.arena a) (disk.bytes e) (disk.images e) → IsSound score_of disk (ended l r.part e found b calls) h
+      → IsSoundArena score_of b r.region (next_content l.arena a) (disk.bytes e) (disk.images e) → IsSoundLog score_of disk (ended l r.part e found b calls) h
   ended_sound calls a unsealed content stays = record {
     whole = ended_whole disk l r found d e b calls sound.whole ending.ends unsealed ending.at.arena ending.has ending.fit ending.at.disk_is ending.changes.size_is;
     contents = set sound.contents l.committing next;
@@ -357,7 +357,7 @@ module _ {D : Type 0} (score_of : List ℕ → List ℕ) (disk : DiskOf D) (l : 
     heads = kept_heads next within stays.head;
     selectors = λ i q device f behind there_at f_at. kept_selectors _ refl refl i q device f behind there_at f_at;
     committed = blocks.0;
-    queued = blocks.1 ∙ sym (ap (λ (ps : List Packed). map (accepted l.committing) (map stored_of ps) ++ map waiting_block l.queue.waiting) ending.ends.staged);
+    queued = blocks.1 ∙ sym (ap (λ (ps : List Packed). map (accepted_in l.committing) (map stored_of ps) ++ map waiting_block l.queue.waiting) ending.ends.staged);
     front = omega (arith, sound.front, sound.whole.places, length-drop (length l.arena.staged) l.queue.places);
     packed = sound.packed;
     places = kept_places score_of disk l h sound;
@@ -378,7 +378,7 @@ module _ {D : Type 0} (score_of : List ℕ → List ℕ) (disk : DiskOf D) (l : 
   -- and the disks sound
   pub turned_sound : (q : ArenaRegion) (next_found : Found) (calls len : ℕ) (a : Content) → l.arena.next.sealed ≡ true → slice_get sound.contents l.committing ≡ Some a
       → slice_get l.layout (l.committing + 1) ≡ Some q → slice_get l.heads (l.committing + 1) ≡ Some next_found → len ≡ q.region.len
-      → CommitsIn score_of disk b r.region (next_content l.arena a) e → IsSound score_of disk (turned l r.part e found b calls len next_found) h
+      → CommitsIn score_of disk b r.region (next_content l.arena a) e → IsSoundLog score_of disk (turned l r.part e found b calls len next_found) h
   turned_sound q next_found calls len a sealed content next_here next_has len_is commits = record {
     whole = whole;
     contents = cs;
@@ -389,10 +389,10 @@ module _ {D : Type 0} (score_of : List ℕ → List ℕ) (disk : DiskOf D) (l : 
         let not_this : l.committing + 1 ≢ l.committing = λ same. omega (arith, same) in
         let rests = kept_others k next refl refl (l.committing + 1) s device c not_this (record { arena = there_at.arena; disk_is = there_at.disk_is }) c_at in
         let selector = kept_selectors k refl refl (l.committing + 1) s device next_found (omega arith) (record { arena = there_at.arena; disk_is = there_at.disk_is }) later_next in
-        let head : next_found.head ≡ head_of score_of s.number c = kept_heads next within commits.sound.head (l.committing + 1) s next_found c there_at.arena later_next c_at in
+        let head : next_found.head ≡ arena_head score_of s.number c = kept_heads next within commits.sound.head (l.committing + 1) s next_found c there_at.arena later_next c_at in
         let untouched = at_drop IsUntouched (l.committing + 1) sound.contents (l.committing + 1) c sound.split.behind (omega arith) (sym (slice_get_set_other sound.contents l.committing (l.committing + 1) next not_this) ∙ c_at) in
-        let empty_head : next_found.head ≡ head_of score_of s.number (record { sealed = c.sealed; stored = [] }) =
-        head ∙ ap (λ (stored : List Stored). head_of score_of s.number (record { sealed = c.sealed; stored = stored })) untouched.1 in
+        let empty_head : next_found.head ≡ arena_head score_of s.number (record { sealed = c.sealed; stored = [] }) =
+        head ∙ ap (λ (stored : List Stored). arena_head score_of s.number (record { sealed = c.sealed; stored = stored })) untouched.1 in
         let on = at_slice (IsOnDisk disk (set l.disks r.part e)) l.layout (l.committing + 1) s whole.regions there_at.arena in
         let disk_is : on.device ≡ device = same_Some on.device device (sym on.has ∙ there_at.disk_is) in
         let stand : CanStand s.number s.region.len next_found.head = record {
@@ -438,7 +438,7 @@ module _ {D : Type 0} (score_of : List ℕ → List ℕ) (disk : DiskOf D) (l : 
       cs : List Content
       cs = set sound.contents l.committing next
 
-      whole : IsWhole disk k
+      whole : IsWholeLog disk k
       whole = turned_whole disk l r q found next_found d e b calls len sound.whole ending.ends sealed ending.at.arena ending.has ending.fit ending.at.disk_is ending.changes.size_is next_here next_has len_is
 
       within : l.committing < length sound.contents

@@ -11,7 +11,7 @@ use Rattle.vt_arena.specs.declared.head.Found.{Found}
 use Rattle.vt_log.specs.declared.filling.Filling.{Filling}
 use Rattle.vt_log.specs.declared.queue.Waiting.{Waiting}
 use Rattle.vt_log.specs.Log.{LogState, filled_as, found_filling, fits_in, next_filling, with_room_taken}
-use Rattle.vt_log.specs.Whole.{IsOnDisk, IsWhole, Fill, turned_to}
+use Rattle.vt_log.specs.Whole.{IsOnDisk, IsWholeLog, Fill, turned_to}
 use Rattle.vt_log.proofs.Lists.{at_slice}
 
 -- a block fits an arena that is there, within its region
@@ -66,7 +66,7 @@ fill_arena layout heads from to (w ∷ ws) fill =
     (omega (arith, rest.0, is, fill.0), λ _. rest.1 (omega (arith, below)))
 
 -- what a block fits has small numbers
-pub fits_small : {D : Type 0} (disk : DiskOf D) (l : LogState D) (f : Filling) (n : ℕ) → IsWhole disk l → fits_in l.layout f n ≡ true
+pub fits_small : {D : Type 0} (disk : DiskOf D) (l : LogState D) (f : Filling) (n : ℕ) → IsWholeLog disk l → fits_in l.layout f n ≡ true
     → (f.used + n + 38 < 2147483648) × (f.clumps + 1 < 4294967296)
 fits_small disk l f n whole fit =
     let there = fits_within l.layout f n fit in

@@ -15,37 +15,37 @@ use Rattle.vt_clump.specs.Spelling.{Stored}
 use Rattle.vt_model.specs.History.{Accepted, History}
 use Rattle.vt_model.specs.Places.{lengths_in}
 use Rattle.vt_model.proofs.Prefixes.{lengths_in-append}
-use Rattle.vt_part.specs.declared.bad.PartBad.TheVariants.{Fault as PartFault, TooSmall, NotFormatted as PartNotFormatted, Torn as PartTorn, DuplicateName, NoMemory as PartNoMemory}
+use Rattle.vt_part.specs.declared.error.PartBad.TheVariants.{Fault as PartFault, TooSmall, NotFormatted as PartNotFormatted, Torn as PartTorn, DuplicateName, NoMemory as PartNoMemory}
 use Rattle.vt_part.specs.declared.layout.ArenaRegion.{ArenaRegion}
 use Rattle.vt_part.specs.declared.part.Part.{Part}
-use Rattle.vt_part.specs.Laws.{IsArena as IsArenaOfTable, IsBefore}
-use Rattle.vt_part.specs.Layout.{AreDistinct, layout_of, region_of}
+use Rattle.vt_part.specs.Laws.{IsArenaOfTable, IsBefore}
+use Rattle.vt_part.specs.Layout.{AreDistinct, layout_of, arena_region}
 use Rattle.vt_part.specs.Parts.{disk_of, table_of, tables_of}
-use Rattle.vt_part.specs.Table.{Table, IsTable, end_of, is_arena_size}
+use Rattle.vt_part.specs.Table.{Table, IsTable, arenas_end, is_arena_size}
 use Rattle.vt_part.proofs.Layouts.{arenas_are_aligned, arenas_follow, layouts_have_arenas, layouts_have_lengths, layouts_are_in_order}
-use Rattle.vt_arena.specs.declared.bad.ArenaBad.{ArenaBad}
-use Rattle.vt_arena.specs.declared.bad.ArenaBad.TheVariants.{Torn}
-use Rattle.vt_arena.specs.declared.bad.Field.TheVariants.{Sealed}
+use Rattle.vt_arena.specs.declared.error.ArenaBad.{ArenaBad}
+use Rattle.vt_arena.specs.declared.error.ArenaBad.TheVariants.{Torn}
+use Rattle.vt_arena.specs.declared.error.Field.TheVariants.{Sealed}
 use Rattle.vt_arena.specs.declared.head.ArenaHead.{ArenaHead}
 use Rattle.vt_arena.specs.declared.head.Found.{Found}
 use Rattle.vt_arena.specs.Arena.{ArenaState, fresh_arena, is_committing}
-use Rattle.vt_arena.specs.Faults.{first_bad as first_bad_in, CanStand}
-use Rattle.vt_arena.specs.Heads.{fields_of, flag_of, sealed_in, clumps_in}
-use Rattle.vt_arena.specs.Layout.{Content, IsArena, head_of}
+use Rattle.vt_arena.specs.Faults.{first_bad_head, CanStand}
+use Rattle.vt_arena.specs.Heads.{fields_of, flag_of, sealed_in, clump_count_in}
+use Rattle.vt_arena.specs.Layout.{Content, IsArena, arena_head}
 use Rattle.vt_arena.specs.Places.{IsArenaLen, block_room, lengths_of}
-use Rattle.vt_arena.specs.Sound.{IsRegion, IsSettled, IsSound as IsSoundArena}
+use Rattle.vt_arena.specs.Sound.{IsRegion, IsSettled, IsSoundArena}
 use Rattle.vt_arena.proofs.Finds.{arena_passes}
 use Rattle.vt_arena.proofs.Fresh.{fresh_sound}
 use Rattle.vt_arena.proofs.Unique.{read_clumps}
-use Rattle.vt_log.specs.declared.bad.LogBad.{LogBad}
-use Rattle.vt_log.specs.declared.bad.LogBad.TheVariants.{Part as PartRefused, Arena, Order, Fault, NoMemory}
+use Rattle.vt_log.specs.declared.error.LogBad.{LogBad}
+use Rattle.vt_log.specs.declared.error.LogBad.TheVariants.{Part as PartRefused, Arena, Order, Fault, NoMemory}
 use Rattle.vt_log.specs.Answers.{HoldTheSame}
-use Rattle.vt_log.specs.Faults.{AreFields, RefusesMount, IsMountedBy, bad_arena, first_of_two, first_bad}
-use Rattle.vt_log.specs.Log.{LogState, IsMounted, disks_of, filled_as, found_filling}
-use Rattle.vt_log.specs.Logs.{accepted, blocks_from, IsSealed, IsUntouched, InOrder, IsLog, arena_count}
-use Rattle.vt_log.specs.Mounting.{AreRead, AreFound, ArePassed, IsFound, IsFirstOpen, IsRoomFor, found_log}
-use Rattle.vt_log.specs.Sound.{IsAt, IsSplit, IsFilledBy, IsSound}
-use Rattle.vt_log.specs.Whole.{IsOnDisk, IsWhole}
+use Rattle.vt_log.specs.Faults.{AreFields, RefusesLogMount, IsMountedBy, bad_arena, first_of_two, first_bad_log}
+use Rattle.vt_log.specs.Log.{LogState, IsMountedLog, disks_of, filled_as, found_filling}
+use Rattle.vt_log.specs.Logs.{accepted_in, blocks_from, IsSealed, IsUntouched, InOrder, IsLog, arena_count}
+use Rattle.vt_log.specs.Mounting.{OnlyReadsParts, AreFound, ArePassed, IsFoundArena, IsFirstOpen, IsRoomFor, found_log}
+use Rattle.vt_log.specs.Sound.{IsArenaAt, IsSplit, IsFilledBy, IsSoundLog}
+use Rattle.vt_log.specs.Whole.{IsOnDisk, IsWholeLog}
 use Rattle.vt_log.proofs.IsSplit.{split_order, blocks_arenas, last_arena_le}
 use Rattle.vt_log.proofs.AreFound.{fields_of_all, on_held}
 use Rattle.vt_log.proofs.Lists.{slice_get_other, at_slice}
@@ -59,7 +59,7 @@ arena_len n is =
     (least, most)
 
 -- an arena may have the region that a table gives it
-pub region_fits : (size : ℕ) (t : Table) (number : ℕ) → IsTable t → number < t.count → end_of t ≤ size → IsRegion (region_of t number) size
+pub region_fits : (size : ℕ) (t : Table) (number : ℕ) → IsTable t → number < t.count → arenas_end t ≤ size → IsRegion (arena_region t number) size
 region_fits size t number table less room = record {
   within = omega (arith, room, arenas_follow t number t.count less);
   aligned = (arenas_are_aligned t number table).0;
@@ -67,7 +67,7 @@ region_fits size t number table less room = record {
 }
 
 -- each arena lies on its partition's disk, which has room for all of them
-pub regions_on : {D : Type 0} (disk : DiskOf D) (ps : List (Part D)) → All (λ part. end_of (table_of part) ≤ disk.size (disk_of part)) ps
+pub regions_on : {D : Type 0} (disk : DiskOf D) (ps : List (Part D)) → All (λ part. arenas_end (table_of part) ≤ disk.size (disk_of part)) ps
     → All (IsOnDisk disk (disks_of ps)) (layout_of (tables_of ps))
 regions_on {D = D} disk ps rooms =
     All-weaker (IsArenaOfTable (tables_of ps)) (IsOnDisk disk (disks_of ps)) here (layout_of (tables_of ps)) (layouts_have_arenas (tables_of ps))
@@ -78,7 +78,7 @@ regions_on {D = D} disk ps rooms =
         let p = slice_get_other ps (tables_of ps) r.part t (length-map ps (λ (part : Part D). table_of part)) is.1 in
         let table_is : table_of p.0 ≡ t = same_Some (table_of p.0) t (sym (slice_get-map (λ (part : Part D). table_of part) ps r.part ∙ ap (option_map (λ (part : Part D). table_of part)) p.1) ∙ is.1) in
         let allowed : IsTable t = subst IsTable table_is p.0.head.allowed in
-        let room : end_of t ≤ disk.size (disk_of p.0) = subst (λ (u : Table). end_of u ≤ disk.size (disk_of p.0)) table_is (at_slice (λ (part : Part D). end_of (table_of part) ≤ disk.size (disk_of part)) ps r.part p.0 rooms p.1) in
+        let room : arenas_end t ≤ disk.size (disk_of p.0) = subst (λ (u : Table). arenas_end u ≤ disk.size (disk_of p.0)) table_is (at_slice (λ (part : Part D). arenas_end (table_of part) ≤ disk.size (disk_of part)) ps r.part p.0 rooms p.1) in
         record {
           device = disk_of p.0;
           has = slice_get-map (λ (part : Part D). disk_of part) ps r.part ∙ ap (option_map (λ (part : Part D). disk_of part)) p.1;
@@ -119,20 +119,20 @@ zero_flag false is = refl
 
 behind_none : (i : ℕ) (o : Option ArenaBad) (h : ArenaHead) → bad_arena true i o (fields_of h) ≡ None → h.sealed ≡ false
 behind_none i (Some bad) h is = absurd (cc)
-behind_none i None h is = flag_zero h.sealed (order_none i (clumps_in (fields_of h)) (clumps_in (fields_of h) == 0) (sealed_in (fields_of h) == 0) _ is)
+behind_none i None h is = flag_zero h.sealed (order_none i (clump_count_in (fields_of h)) (clump_count_in (fields_of h) == 0) (sealed_in (fields_of h) == 0) _ is)
 
 -- behind an unsealed arena none is sealed
-open_behind : (behind : Bool) (i : ℕ) (layout : List ArenaRegion) (heads : List Found) → behind ≡ true → length heads ≡ length layout → first_bad behind i layout (fields_of_all heads) ≡ None
+open_behind : (behind : Bool) (i : ℕ) (layout : List ArenaRegion) (heads : List Found) → behind ≡ true → length heads ≡ length layout → first_bad_log behind i layout (fields_of_all heads) ≡ None
     → (k : ℕ) (found : Found) → slice_get heads k ≡ Some found → found.head.sealed ≡ false
 open_behind behind i layout [] is many none k found at = absurd (cc)
 open_behind behind i [] (h ∷ hs) is many none k found at = absurd (omega (arith, many))
 open_behind behind i (r ∷ rs) (h ∷ hs) is many none zero found at =
-    let both = two_none (bad_arena behind i (first_bad_in r.number r.region.len (fields_of h.head)) (fields_of h.head)) _ none in
+    let both = two_none (bad_arena behind i (first_bad_head r.number r.region.len (fields_of h.head)) (fields_of h.head)) _ none in
     let same : h ≡ found = same_Some h found at in
     subst (λ (x : Found). x.head.sealed ≡ false) same
-    (behind_none i (first_bad_in r.number r.region.len (fields_of h.head)) h.head (subst (λ (b : Bool). bad_arena b i (first_bad_in r.number r.region.len (fields_of h.head)) (fields_of h.head) ≡ None) is both.0))
+    (behind_none i (first_bad_head r.number r.region.len (fields_of h.head)) h.head (subst (λ (b : Bool). bad_arena b i (first_bad_head r.number r.region.len (fields_of h.head)) (fields_of h.head) ≡ None) is both.0))
 open_behind behind i (r ∷ rs) (h ∷ hs) is many none (suc k) found at =
-    let both = two_none (bad_arena behind i (first_bad_in r.number r.region.len (fields_of h.head)) (fields_of h.head)) _ none in
+    let both = two_none (bad_arena behind i (first_bad_head r.number r.region.len (fields_of h.head)) (fields_of h.head)) _ none in
     open_behind (behind || sealed_in (fields_of h.head) == 0) (i + 1) rs hs (ap (λ (b : Bool). b || sealed_in (fields_of h.head) == 0) is) (omega (arith, many)) both.1 k found at
 
 first_rest : (h : Found) (hs : List Found) (base : ℕ) → IsFirstOpen (h ∷ hs) (suc base) → IsFirstOpen hs base
@@ -147,17 +147,17 @@ or_true true b is = refl
 or_true false b is = is
 
 -- from the first unsealed arena on none is sealed
-unsealed_from : (behind : Bool) (i : ℕ) (layout : List ArenaRegion) (heads : List Found) (base : ℕ) → length heads ≡ length layout → first_bad behind i layout (fields_of_all heads) ≡ None → IsFirstOpen heads base
+unsealed_from : (behind : Bool) (i : ℕ) (layout : List ArenaRegion) (heads : List Found) (base : ℕ) → length heads ≡ length layout → first_bad_log behind i layout (fields_of_all heads) ≡ None → IsFirstOpen heads base
     → (k : ℕ) (found : Found) → base ≤ k → slice_get heads k ≡ Some found → found.head.sealed ≡ false
 unsealed_from behind i layout [] base many none first k found least at = absurd (cc)
 unsealed_from behind i [] (h ∷ hs) base many none first k found least at = absurd (omega (arith, many))
 unsealed_from behind i (r ∷ rs) (h ∷ hs) zero many none first zero found least at = first.at found at
 unsealed_from behind i (r ∷ rs) (h ∷ hs) zero many none first (suc k) found least at =
-    let both = two_none (bad_arena behind i (first_bad_in r.number r.region.len (fields_of h.head)) (fields_of h.head)) _ none in
+    let both = two_none (bad_arena behind i (first_bad_head r.number r.region.len (fields_of h.head)) (fields_of h.head)) _ none in
     open_behind (behind || sealed_in (fields_of h.head) == 0) (i + 1) rs hs (or_true behind (sealed_in (fields_of h.head) == 0) (zero_flag h.head.sealed (first.at h refl))) (omega (arith, many)) both.1 k found at
 unsealed_from behind i (r ∷ rs) (h ∷ hs) (suc base) many none first zero found least at = absurd (omega (arith, least))
 unsealed_from behind i (r ∷ rs) (h ∷ hs) (suc base) many none first (suc k) found least at =
-    let both = two_none (bad_arena behind i (first_bad_in r.number r.region.len (fields_of h.head)) (fields_of h.head)) _ none in
+    let both = two_none (bad_arena behind i (first_bad_head r.number r.region.len (fields_of h.head)) (fields_of h.head)) _ none in
     unsealed_from (behind || sealed_in (fields_of h.head) == 0) (i + 1) rs hs base (omega (arith, many)) both.1 (first_rest h hs base first) k found (omega (arith, least)) at
 
 -- what is known of a log that was found
@@ -192,8 +192,8 @@ module _ {D : Type 0} (disk : DiskOf D) (disks : List D) (tables : List Table) (
       (λ (past : (length heads ≤ base) × (slice_get heads base ≡ None)). (is.room.past (omega (arith, past.0, is.found.many))).0)
       (slice_get_cases heads base).1
 
-  pub found_whole : IsWhole disk (found_log disks tables layout heads base arena)
-  found_whole = subst (λ (a : ArenaState). IsWhole disk (found_log disks tables layout heads base a)) (sym is.room.fresh) (record {
+  pub found_whole : IsWholeLog disk (found_log disks tables layout heads base arena)
+  found_whole = subst (λ (a : ArenaState). IsWholeLog disk (found_log disks tables layout heads base a)) (sym is.room.fresh) (record {
     many_disks = is.many_disks;
     layout = is.layout_is;
     regions = is.regions;
@@ -203,7 +203,7 @@ module _ {D : Type 0} (disk : DiskOf D) (disks : List D) (tables : List Table) (
     heads = λ i r found at at_found.
         let stands = it_stands i r found at at_found in
         record { number = stands.number_is; fit = stands.fit };
-    unsealed = unsealed_from false 0 layout heads base is.found.many (ap (first_bad false 0 layout) is.passed.heads_are ∙ is.passed.passed) is.first;
+    unsealed = unsealed_from false 0 layout heads base is.found.many (ap (first_bad_log false 0 layout) is.passed.heads_are ∙ is.passed.passed) is.first;
     base = omega arith;
     committing = omega (arith, is.first.most, is.found.many);
     arena = λ r found at at_found.
@@ -248,8 +248,8 @@ module _ {D : Type 0} (disk : DiskOf D) (disks : List D) (tables : List Table) (
 blocks_within : (k : ℕ) (contents : List Content) → All (λ e. (k ≤ e.arena) × (e.arena < k + length contents)) (blocks_from k contents)
 blocks_within k [] = All-nil (λ (e : Accepted). (k ≤ e.arena) × (e.arena < k + 0))
 blocks_within k (a ∷ rest) =
-    All-append (λ (e : Accepted). (k ≤ e.arena) × (e.arena < k + length (a ∷ rest))) (map (accepted k) a.stored) (blocks_from (k + 1) rest)
-    (All-map (λ (e : Accepted). (k ≤ e.arena) × (e.arena < k + length (a ∷ rest))) (accepted k) a.stored (λ i s below. (omega arith, omega arith)))
+    All-append (λ (e : Accepted). (k ≤ e.arena) × (e.arena < k + length (a ∷ rest))) (map (accepted_in k) a.stored) (blocks_from (k + 1) rest)
+    (All-map (λ (e : Accepted). (k ≤ e.arena) × (e.arena < k + length (a ∷ rest))) (accepted_in k) a.stored (λ i s below. (omega arith, omega arith)))
     (All-weaker (λ (e : Accepted). (k + 1 ≤ e.arena) × (e.arena < k + 1 + length rest)) (λ (e : Accepted). (k ≤ e.arena) × (e.arena < k + length (a ∷ rest)))
     (λ e at. (omega (arith, at.0), omega (arith, at.1))) (blocks_from (k + 1) rest) (blocks_within (k + 1) rest))
 
@@ -262,12 +262,12 @@ lengths_other a (e ∷ h) all =
     ap (λ (b : Bool). map (λ (e : Accepted). length e.block.bytes) (cond b (e ∷ rest) rest)) other
     ∙ lengths_other a h (All-tail (λ (e : Accepted). e.arena ≢ a) e h all)
 
-lengths_here : (k : ℕ) (stored : List Stored) → lengths_in k (map (accepted k) stored) ≡ lengths_of stored
+lengths_here : (k : ℕ) (stored : List Stored) → lengths_in k (map (accepted_in k) stored) ≡ lengths_of stored
 lengths_here k [] = refl
 lengths_here k (s ∷ stored) =
-    let rest : List Accepted = filter (λ (e : Accepted). e.arena == k) (map (accepted k) stored) in
+    let rest : List Accepted = filter (λ (e : Accepted). e.arena == k) (map (accepted_in k) stored) in
     let here : (k == k) ≡ true = ⊎_elim (λ (t : ((k == k) ≡ true) × (k ≡ k)). t.0) (λ (t : ((k == k) ≡ false) × (k ≢ k)). absurd (t.1 refl)) (eqb_tells k k) in
-    ap (λ (b : Bool). map (λ (e : Accepted). length e.block.bytes) (cond b (accepted k s ∷ rest) rest)) here
+    ap (λ (b : Bool). map (λ (e : Accepted). length e.block.bytes) (cond b (accepted_in k s ∷ rest) rest)) here
     ∙ ap (λ (ls : List ℕ). length s.block ∷ ls) (lengths_here k stored)
 
 -- the blocks of one arena
@@ -275,15 +275,15 @@ lengths_at : (k i : ℕ) (contents : List Content) (a : Content) → slice_get c
 lengths_at k i [] a at = absurd (cc)
 lengths_at k zero (x ∷ rest) a at =
     let same : x ≡ a = same_Some x a at in
-    ap (λ (j : ℕ). lengths_in j (map (accepted k) x.stored ++ blocks_from (k + 1) rest)) (let e : k + 0 ≡ k = omega arith in e)
-    ∙ lengths_in-append k (map (accepted k) x.stored) (blocks_from (k + 1) rest)
+    ap (λ (j : ℕ). lengths_in j (map (accepted_in k) x.stored ++ blocks_from (k + 1) rest)) (let e : k + 0 ≡ k = omega arith in e)
+    ∙ lengths_in-append k (map (accepted_in k) x.stored) (blocks_from (k + 1) rest)
     ∙ (λ j. lengths_here k x.stored j ++ lengths_other k (blocks_from (k + 1) rest)
     (All-weaker (λ (e : Accepted). (k + 1 ≤ e.arena) × (e.arena < k + 1 + length rest)) (λ (e : Accepted). e.arena ≢ k) (λ e at is. absurd (omega (arith, at.0, is))) (blocks_from (k + 1) rest) (blocks_within (k + 1) rest)) j)
     ∙ append-nil (lengths_of x.stored)
     ∙ ap (λ (c : Content). lengths_of c.stored) same
 lengths_at k (suc i) (x ∷ rest) a at =
-    lengths_in-append (k + suc i) (map (accepted k) x.stored) (blocks_from (k + 1) rest)
-    ∙ (λ j. lengths_other (k + suc i) (map (accepted k) x.stored) (All-map (λ (e : Accepted). e.arena ≢ k + suc i) (accepted k) x.stored (λ n s below is. absurd (omega (arith, is)))) j
+    lengths_in-append (k + suc i) (map (accepted_in k) x.stored) (blocks_from (k + 1) rest)
+    ∙ (λ j. lengths_other (k + suc i) (map (accepted_in k) x.stored) (All-map (λ (e : Accepted). e.arena ≢ k + suc i) (accepted_in k) x.stored (λ n s below is. absurd (omega (arith, is)))) j
     ++ lengths_in (k + suc i) (blocks_from (k + 1) rest))
     ∙ ap (λ (j : ℕ). lengths_in j (blocks_from (k + 1) rest)) (let e : k + suc i ≡ k + 1 + i = omega arith in e)
     ∙ lengths_at (k + 1) i rest a at
@@ -302,8 +302,8 @@ blocks_count k [] (h ∷ hs) many same = absurd (omega (arith, many))
 blocks_count k (a ∷ rest) [] many same = absurd (omega (arith, many))
 blocks_count k (a ∷ rest) (h ∷ hs) many same =
     sum_by-cons (λ (found : Found). found.head.clumps) h hs
-    ∙ (λ j. (same 0 h a refl refl ∙ sym (length-map a.stored (accepted k))) j + blocks_count (k + 1) rest hs (omega (arith, many)) (λ i found b at has. same (suc i) found b at has) j)
-    ∙ sym (length-append (map (accepted k) a.stored) (blocks_from (k + 1) rest))
+    ∙ (λ j. (same 0 h a refl refl ∙ sym (length-map a.stored (accepted_in k))) j + blocks_count (k + 1) rest hs (omega (arith, many)) (λ i found b at has. same (suc i) found b at has) j)
+    ∙ sym (length-append (map (accepted_in k) a.stored) (blocks_from (k + 1) rest))
 
 -- the arenas before the first unsealed one
 sealed_before : (base : ℕ) (contents : List Content) (heads : List Found) → length heads ≡ length contents
@@ -327,7 +327,7 @@ order_behind (suc c) (a ∷ rest) order sealed unsealed =
 
 -- the log that is there is found
 pub record IsFoundSound {D : Type 0} (score_of : List ℕ → List ℕ) (disk : DiskOf D) (l : LogState D) (h : History) (base : ℕ) : Type 0 where
-  pub sound : IsSound score_of disk l h
+  pub sound : IsSoundLog score_of disk l h
   pub base_is : l.base ≡ base
   pub durable_is : l.durable ≡ length h
 
@@ -347,11 +347,11 @@ module _ {D : Type 0} (disk : DiskOf D) (disks : List D) (tables : List Table) (
   settled_at : (i : ℕ) (device : D) (region : Region) → slice_get disks i ≡ Some device → IsSettled region (disk.bytes device) (disk.images device)
   settled_at i device region at c left = ap (λ (f : List ℕ). region_bytes region f) (at_slice (IsSynced disk) disks i device settled at told c left)
 
-  found_at : (i : ℕ) (r : ArenaRegion) (device : D) (found : Found) → slice_get layout i ≡ Some r → slice_get disks r.part ≡ Some device → slice_get heads i ≡ Some found → IsFound disk.tells r (disk.bytes device) found
+  found_at : (i : ℕ) (r : ArenaRegion) (device : D) (found : Found) → slice_get layout i ≡ Some r → slice_get disks r.part ≡ Some device → slice_get heads i ≡ Some found → IsFoundArena disk.tells r (disk.bytes device) found
   found_at i r device found at disk_is at_found =
       is.found.each i r (disk.bytes device) found at (ap (λ (fs : List (List ℕ)). slice_get fs r.part) (sym is.files_are) ∙ slice_get-map disk.bytes disks r.part ∙ ap (option_map disk.bytes) disk_is) at_found
 
-  head_at : (i : ℕ) (r : ArenaRegion) (found : Found) (a : Content) → slice_get layout i ≡ Some r → slice_get heads i ≡ Some found → slice_get log.contents i ≡ Some a → found.head ≡ head_of score_of r.number a
+  head_at : (i : ℕ) (r : ArenaRegion) (found : Found) (a : Content) → slice_get layout i ≡ Some r → slice_get heads i ≡ Some found → slice_get log.contents i ≡ Some a → found.head ≡ arena_head score_of r.number a
   head_at i r found a at at_found has =
       let on = at_slice (IsOnDisk disk disks) layout i r is.regions at in
       (found_at i r on.device found at on.has at_found).head score_of a told (arena_at i r on.device a at on.has has)
@@ -393,7 +393,7 @@ module _ {D : Type 0} (disk : DiskOf D) (disks : List D) (tables : List Table) (
       (All-weaker (λ (e : Accepted). e.arena ≤ 0 + base) (λ (e : Accepted). e.arena ≤ base) (λ e least. omega (arith, least)) (blocks_from 0 log.contents) (blocks_arenas 0 base log.contents split.behind))
 
   -- the room is that of the first unsealed arena
-  current_sound : (r : ArenaRegion) (device : D) (a : Content) → IsAt l base r device → slice_get log.contents base ≡ Some a → IsSoundArena score_of arena r.region a (disk.bytes device) (disk.images device)
+  current_sound : (r : ArenaRegion) (device : D) (a : Content) → IsArenaAt l base r device → slice_get log.contents base ≡ Some a → IsSoundArena score_of arena r.region a (disk.bytes device) (disk.images device)
   current_sound r device a at has =
       let found = slice_get_other heads layout base r (sym is.found.many) at.arena in
       let it = is.room.there r found.0 at.arena found.1 in
@@ -413,7 +413,7 @@ module _ {D : Type 0} (disk : DiskOf D) (disks : List D) (tables : List Table) (
       (λ (it : (a : Content) × (base < length log.contents) × (slice_get log.contents base ≡ Some a) × (get_or log.contents base a ≡ a)).
       let found = slice_get_other heads log.contents base it.0 (sym many) it.2 in
       let r = slice_get_other layout heads base found.0 is.found.many found.1 in
-      let head : is.room.head ≡ head_of score_of r.0.number it.0 = (is.room.there r.0 found.0 r.1 found.1).2 ∙ head_at base r.0 found.0 it.0 r.1 found.1 it.2 in
+      let head : is.room.head ≡ arena_head score_of r.0.number it.0 = (is.room.there r.0 found.0 r.1 found.1).2 ∙ head_at base r.0 found.0 it.0 r.1 found.1 it.2 in
       let lengths : lengths_in base h ≡ lengths_of it.0.stored = ap (lengths_in base) log.history ∙ ap (λ (j : ℕ). lengths_in j (blocks_from 0 log.contents)) (let e : base ≡ 0 + base = omega arith in e) ∙ lengths_at 0 base log.contents it.0 it.2 in
       record {
         used = ap (λ (x : ArenaHead). x.used) head ∙ ap (λ (ls : List ℕ). sum_by block_room ls) (sym lengths);
@@ -440,7 +440,7 @@ module _ {D : Type 0} (disk : DiskOf D) (disks : List D) (tables : List Table) (
       heads = head_at;
       selectors = λ i r device found behind at at_found. (found_at i r device found at.arena at.disk_is at_found).selector told;
       committed = take_all (sum_by (λ found. found.head.clumps) heads) h (omega (arith, count)) ∙ log.history;
-      queued = drop_all (sum_by (λ found. found.head.clumps) heads) h (omega (arith, count)) ∙ sym (ap (λ (x : ArenaState). map (accepted base) (map stored_of x.staged) ++ []) is.room.fresh);
+      queued = drop_all (sum_by (λ found. found.head.clumps) heads) h (omega (arith, count)) ∙ sym (ap (λ (x : ArenaState). map (accepted_in base) (map stored_of x.staged) ++ []) is.room.fresh);
       front = omega (arith, count);
       packed = All-nil _;
       places = λ i place at. absurd (cc);
@@ -456,11 +456,11 @@ module _ {D : Type 0} (disk : DiskOf D) (disks : List D) (tables : List Table) (
 
 -- what the fields of an arena tell, where it holds this
 record AreOf (r : ArenaRegion) (f : List ℕ) (a : Content) : Type 0 where
-  pub passes : first_bad_in r.number r.region.len f ≡ None
+  pub passes : first_bad_head r.number r.region.len f ≡ None
   pub sealed : sealed_in f ≡ flag_of a.sealed
-  pub clumps : clumps_in f ≡ length a.stored
+  pub clumps : clump_count_in f ≡ length a.stored
 
-no_order : (k : ℕ) (o : Option ArenaBad) (f : List ℕ) → o ≡ None → clumps_in f ≡ 0 → sealed_in f ≡ 0 → bad_arena true k o f ≡ None
+no_order : (k : ℕ) (o : Option ArenaBad) (f : List ℕ) → o ≡ None → clump_count_in f ≡ 0 → sealed_in f ≡ 0 → bad_arena true k o f ≡ None
 no_order k o f none clumps sealed =
     ap (λ (o : Option ArenaBad). bad_arena true k o f) none
     ∙ ap (λ (n : ℕ). cond (n == 0) (cond (sealed_in f == 0) None (Some (Arena k (Torn Sealed 1 0)))) (Some (Order k n))) clumps
@@ -468,48 +468,48 @@ no_order k o f none clumps sealed =
 
 passes_behind : (behind : Bool) (k : ℕ) (layout : List ArenaRegion) (fields : List (List ℕ)) (contents : List Content) → behind ≡ true → length contents ≡ length layout → length fields ≡ length layout
     → ((i : ℕ) (r : ArenaRegion) (f : List ℕ) (a : Content) → slice_get layout i ≡ Some r → slice_get fields i ≡ Some f → slice_get contents i ≡ Some a → AreOf r f a)
-    → All IsUntouched contents → first_bad behind k layout fields ≡ None
+    → All IsUntouched contents → first_bad_log behind k layout fields ≡ None
 passes_behind behind k [] fields contents is many many_fields each untouched = refl
 passes_behind behind k (r ∷ rs) [] contents is many many_fields each untouched = refl
 passes_behind behind k (r ∷ rs) (f ∷ fs) [] is many many_fields each untouched = absurd (omega (arith, many))
 passes_behind behind k (r ∷ rs) (f ∷ fs) (a ∷ rest) is many many_fields each untouched =
     let of = each 0 r f a refl refl refl in
     let first = All-head IsUntouched a rest untouched in
-    let none : bad_arena behind k (first_bad_in r.number r.region.len f) f ≡ None =
-    ap (λ (b : Bool). bad_arena b k (first_bad_in r.number r.region.len f) f) is
-    ∙ no_order k (first_bad_in r.number r.region.len f) f of.passes (of.clumps ∙ ap (λ (ss : List Stored). length ss) first.1) (of.sealed ∙ ap flag_of first.0) in
-    ap (λ (o : Option LogBad). first_of_two o (first_bad (behind || sealed_in f == 0) (k + 1) rs fs)) none
+    let none : bad_arena behind k (first_bad_head r.number r.region.len f) f ≡ None =
+    ap (λ (b : Bool). bad_arena b k (first_bad_head r.number r.region.len f) f) is
+    ∙ no_order k (first_bad_head r.number r.region.len f) f of.passes (of.clumps ∙ ap (λ (ss : List Stored). length ss) first.1) (of.sealed ∙ ap flag_of first.0) in
+    ap (λ (o : Option LogBad). first_of_two o (first_bad_log (behind || sealed_in f == 0) (k + 1) rs fs)) none
     ∙ passes_behind (behind || sealed_in f == 0) (k + 1) rs fs rest (ap (λ (b : Bool). b || sealed_in f == 0) is) (omega (arith, many)) (omega (arith, many_fields))
     (λ i q g b at at_f has. each (suc i) q g b at at_f has) (All-tail IsUntouched a rest untouched)
 
 passes_order : (behind : Bool) (k : ℕ) (layout : List ArenaRegion) (fields : List (List ℕ)) (contents : List Content) → behind ≡ false → length contents ≡ length layout → length fields ≡ length layout
     → ((i : ℕ) (r : ArenaRegion) (f : List ℕ) (a : Content) → slice_get layout i ≡ Some r → slice_get fields i ≡ Some f → slice_get contents i ≡ Some a → AreOf r f a)
-    → InOrder contents → first_bad behind k layout fields ≡ None
+    → InOrder contents → first_bad_log behind k layout fields ≡ None
 passes_order behind k [] fields contents is many many_fields each order = refl
 passes_order behind k (r ∷ rs) [] contents is many many_fields each order = refl
 passes_order behind k (r ∷ rs) (f ∷ fs) [] is many many_fields each order = absurd (omega (arith, many))
 passes_order behind k (r ∷ rs) (f ∷ fs) (a ∷ rest) is many many_fields each order =
-    ap (λ (o : Option LogBad). first_of_two o (first_bad (behind || sealed_in f == 0) (k + 1) rs fs)) none
+    ap (λ (o : Option LogBad). first_of_two o (first_bad_log (behind || sealed_in f == 0) (k + 1) rs fs)) none
     ∙ next a.sealed refl (λ shut sealed. passes_order (behind || sealed_in f == 0) (k + 1) rs fs rest shut (omega (arith, many)) (omega (arith, many_fields))
     (λ i q g b at at_f has. each (suc i) q g b at at_f has) (subst (λ (b : Bool). MatchBool b (InOrder rest) (All IsUntouched rest)) sealed order))
   where
     of : AreOf r f a
     of = each 0 r f a refl refl refl
 
-    none : bad_arena behind k (first_bad_in r.number r.region.len f) f ≡ None
-    none = ap (λ (b : Bool). bad_arena b k (first_bad_in r.number r.region.len f) f) is ∙ ap (λ (o : Option ArenaBad). bad_arena false k o f) of.passes
+    none : bad_arena behind k (first_bad_head r.number r.region.len f) f ≡ None
+    none = ap (λ (b : Bool). bad_arena b k (first_bad_head r.number r.region.len f) f) is ∙ ap (λ (o : Option ArenaBad). bad_arena false k o f) of.passes
 
     flag : (b : Bool) → a.sealed ≡ b → (behind || sealed_in f == 0) ≡ (flag_of b == 0)
     flag b sealed = ap (λ (x : Bool). x || sealed_in f == 0) is ∙ ap (λ (n : ℕ). n == 0) (of.sealed ∙ ap flag_of sealed)
 
-    next : (b : Bool) → a.sealed ≡ b → ((behind || sealed_in f == 0) ≡ false → a.sealed ≡ true → first_bad (behind || sealed_in f == 0) (k + 1) rs fs ≡ None)
-        → first_bad (behind || sealed_in f == 0) (k + 1) rs fs ≡ None
+    next : (b : Bool) → a.sealed ≡ b → ((behind || sealed_in f == 0) ≡ false → a.sealed ≡ true → first_bad_log (behind || sealed_in f == 0) (k + 1) rs fs ≡ None)
+        → first_bad_log (behind || sealed_in f == 0) (k + 1) rs fs ≡ None
     next true sealed goes_on = goes_on (flag true sealed) sealed
     next false sealed goes_on = passes_behind (behind || sealed_in f == 0) (k + 1) rs fs rest (flag false sealed) (omega (arith, many)) (omega (arith, many_fields))
         (λ i q g b at at_f has. each (suc i) q g b at at_f has) (subst (λ (b : Bool). MatchBool b (InOrder rest) (All IsUntouched rest)) sealed order)
 
 pub log_passes : {D : Type 0} (disk : DiskOf D) (disks : List D) (layout : List ArenaRegion) (fields : List (List ℕ)) (score_of : List ℕ → List ℕ) (h : History) (base : ℕ)
-    → All (IsOnDisk disk disks) layout → All (λ r. r.number < 2 ^ 32) layout → AreFields layout (map disk.bytes disks) fields → IsLog score_of layout (map disk.bytes disks) h base → first_bad false 0 layout fields ≡ None
+    → All (IsOnDisk disk disks) layout → All (λ r. r.number < 2 ^ 32) layout → AreFields layout (map disk.bytes disks) fields → IsLog score_of layout (map disk.bytes disks) h base → first_bad_log false 0 layout fields ≡ None
 log_passes {D = D} disk disks layout fields score_of h base regions numbers are log =
     passes_order false 0 layout fields log.contents refl log.arenas.many are.many each log.order
   where
@@ -518,15 +518,15 @@ log_passes {D = D} disk disks layout fields score_of h base regions numbers are 
         let on = at_slice (IsOnDisk disk disks) layout i r regions at in
         let number : r.number < 2 ^ 32 = at_slice (λ (r : ArenaRegion). r.number < 2 ^ 32) layout i r numbers at in
         let x = log.arenas.each i r a at has in
-        let fields_is : f ≡ fields_of (head_of score_of r.number a) = same_Some f (fields_of (head_of score_of r.number a)) (sym at_f ∙ are.each i r x.0 at x.1 ∙ ap (λ (l : List ℕ). Some l) x.2.head) in
+        let fields_is : f ≡ fields_of (arena_head score_of r.number a) = same_Some f (fields_of (arena_head score_of r.number a)) (sym at_f ∙ are.each i r x.0 at x.1 ∙ ap (λ (l : List ℕ). Some l) x.2.head) in
         record {
-          passes = ap (first_bad_in r.number r.region.len) fields_is ∙ arena_passes score_of r.region.len r.number a number on.region.len.1 x.2.content;
+          passes = ap (first_bad_head r.number r.region.len) fields_is ∙ arena_passes score_of r.region.len r.number a number on.region.len.1 x.2.content;
           sealed = ap sealed_in fields_is;
-          clumps = ap clumps_in fields_is ∙ read_clumps score_of r.region.len r.number on.region.len.1 a x.2.content;
+          clumps = ap clump_count_in fields_is ∙ read_clumps score_of r.region.len r.number on.region.len.1 a x.2.content;
         }
 
 -- so that a log isn't refused but for a fault or want of memory
-pub not_refused : (names : List (List ℕ)) (layout : List ArenaRegion) (fields : List (List ℕ)) (bad : LogBad) → AreDistinct names → first_bad false 0 layout fields ≡ None → RefusesMount names layout fields bad
+pub not_refused : (names : List (List ℕ)) (layout : List ArenaRegion) (fields : List (List ℕ)) (bad : LogBad) → AreDistinct names → first_bad_log false 0 layout fields ≡ None → RefusesLogMount names layout fields bad
     → (bad ≡ Fault) ⊎ (bad ≡ NoMemory)
 not_refused names layout fields (PartRefused (DuplicateName i j)) distinct passes refused = absurd (distinct i j refused.namesakes)
 not_refused names layout fields (PartRefused PartFault) distinct passes refused = absurd refused
@@ -534,15 +534,15 @@ not_refused names layout fields (PartRefused (TooSmall len need)) distinct passe
 not_refused names layout fields (PartRefused PartNotFormatted) distinct passes refused = absurd refused
 not_refused names layout fields (PartRefused (PartTorn field found want)) distinct passes refused = absurd refused
 not_refused names layout fields (PartRefused PartNoMemory) distinct passes refused = absurd refused
-not_refused names layout fields (Arena i bad) distinct passes refused = let is : first_bad false 0 layout fields ≡ Some (Arena i bad) = refused.1 in absurd (cc (is, passes))
-not_refused names layout fields (Order i clumps) distinct passes refused = let is : first_bad false 0 layout fields ≡ Some (Order i clumps) = refused.1 in absurd (cc (is, passes))
+not_refused names layout fields (Arena i bad) distinct passes refused = let is : first_bad_log false 0 layout fields ≡ Some (Arena i bad) = refused.1 in absurd (cc (is, passes))
+not_refused names layout fields (Order i clumps) distinct passes refused = let is : first_bad_log false 0 layout fields ≡ Some (Order i clumps) = refused.1 in absurd (cc (is, passes))
 not_refused names layout fields Fault distinct passes refused = inl refl
 not_refused names layout fields NoMemory distinct passes refused = inr refl
 
 -- what mounting finds, as the partitions are afterwards
 pub found_of : {D : Type 0} (disk : DiskOf D) (most : ℕ) (items old new : List (Part D))
-    (fields : List (List ℕ)) (layout : List ArenaRegion) (heads : List Found) (base : ℕ) (arena : ArenaState) → old ≡ items → All (λ part. end_of (table_of part) ≤ disk.size (disk_of part)) items → arena_count (tables_of items) < 2 ^ 32
-    → AreRead disk most old new → layout ≡ layout_of (tables_of old) → AreFound disk.tells (layout_of (tables_of old)) (map disk.bytes (disks_of old)) heads
+    (fields : List (List ℕ)) (layout : List ArenaRegion) (heads : List Found) (base : ℕ) (arena : ArenaState) → old ≡ items → All (λ part. arenas_end (table_of part) ≤ disk.size (disk_of part)) items → arena_count (tables_of items) < 2 ^ 32
+    → OnlyReadsParts disk most old new → layout ≡ layout_of (tables_of old) → AreFound disk.tells (layout_of (tables_of old)) (map disk.bytes (disks_of old)) heads
     → ArePassed (layout_of (tables_of old)) fields heads → IsFirstOpen heads base → IsRoomFor (layout_of (tables_of old)) heads base arena
     → IsFoundLog disk (disks_of new) (tables_of new) layout (map disk.bytes (disks_of items)) fields heads base arena
 found_of {D = D} disk most items old new fields layout heads base arena same rooms few read layout_is found passed first room =
@@ -574,16 +574,16 @@ pub mount_sound : {D : Type 0} (disk : DiskOf D) (items : List (Part D)) (l : Lo
     (fields : List (List ℕ)) (layout : List ArenaRegion) (heads : List Found) (base : ℕ) (arena : ArenaState) (score_of : List ℕ → List ℕ) (h : History) (first : ℕ)
     → IsFoundLog disk disks tables layout (map disk.bytes (disks_of items)) fields heads base arena → l ≡ found_log disks tables layout heads base arena
     → layout ≡ layout_of (tables_of items) → IsTrue disk.tells → All (IsSynced disk) disks → IsLog score_of (layout_of (tables_of items)) (map disk.bytes (disks_of items)) h first
-    → IsSound score_of disk l h × (l.base ≡ first) × (l.durable ≡ length h)
+    → IsSoundLog score_of disk l h × (l.base ≡ first) × (l.durable ≡ length h)
 mount_sound {D = D} disk items l disks tables fields layout heads base arena score_of h first is l_is layout_is told settled log =
     let own : IsLog score_of layout (map disk.bytes (disks_of items)) h first = subst (λ (rs : List ArenaRegion). IsLog score_of rs (map disk.bytes (disks_of items)) h first) (sym layout_is) log in
     let it = found_sound disk disks tables layout (map disk.bytes (disks_of items)) fields heads base arena is score_of h first told settled own in
-    subst (λ (x : LogState D). IsSound score_of disk x h × (x.base ≡ first) × (x.durable ≡ length h)) (sym l_is) (it.sound, it.base_is, it.durable_is)
+    subst (λ (x : LogState D). IsSoundLog score_of disk x h × (x.base ≡ first) × (x.durable ≡ length h)) (sym l_is) (it.sound, it.base_is, it.durable_is)
 
 pub mount_is : {D : Type 0} (disk : DiskOf D) (l : LogState D) (disks : List D) (tables : List Table) (files fields : List (List ℕ)) (layout : List ArenaRegion) (heads : List Found) (base : ℕ)
-    (arena : ArenaState) → IsFoundLog disk disks tables layout files fields heads base arena → l ≡ found_log disks tables layout heads base arena → IsMounted l
+    (arena : ArenaState) → IsFoundLog disk disks tables layout files fields heads base arena → l ≡ found_log disks tables layout heads base arena → IsMountedLog l
 mount_is {D = D} disk l disks tables files fields layout heads base arena is l_is =
-    subst IsMounted (sym l_is) (record {
+    subst IsMountedLog (sym l_is) (record {
       committing = refl;
       staged = ap (λ (a : ArenaState). a.staged) is.room.fresh;
       rest = subst (λ (a : ArenaState). IsFalse (is_committing a)) (sym is.room.fresh) refl;

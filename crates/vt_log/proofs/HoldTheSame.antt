@@ -15,11 +15,11 @@ use Rattle.vt_part.specs.declared.layout.ArenaRegion.{ArenaRegion}
 use Rattle.vt_arena.specs.declared.TheConstants.{FRAME_LEN}
 use Rattle.vt_arena.specs.Arena.{ArenaState}
 use Rattle.vt_arena.specs.Layout.{Content, IsArena}
-use Rattle.vt_arena.specs.Sound.{IsRegion, IsSound as IsSoundArena}
+use Rattle.vt_arena.specs.Sound.{IsRegion, IsSoundArena}
 use Rattle.vt_log.specs.Answers.{HoldTheSame}
 use Rattle.vt_log.specs.Log.{LogState}
-use Rattle.vt_log.specs.Sound.{IsAt, IsSound}
-use Rattle.vt_log.specs.Whole.{IsOnDisk, IsWhole}
+use Rattle.vt_log.specs.Sound.{IsArenaAt, IsSoundLog}
+use Rattle.vt_log.specs.Whole.{IsOnDisk, IsWholeLog}
 use Rattle.vt_part.specs.declared.part.Part.{Part}
 use Rattle.vt_part.specs.Parts.{disk_of, tables_of}
 use Rattle.vt_log.proofs.Disks.{parts_disks, parts_tables, hold_set}
@@ -54,8 +54,8 @@ among_arena score_of a region old read before after among sound = record {
 }
 
 -- a log stays whole and sound where its disks hold the same
-pub hold_whole : {D : Type 0} (disk : DiskOf D) (l : LogState D) (ds : List D) → IsWhole disk l → HoldTheSame disk l.disks ds
-    → IsWhole disk (record l { disks = ds })
+pub hold_whole : {D : Type 0} (disk : DiskOf D) (l : LogState D) (ds : List D) → IsWholeLog disk l → HoldTheSame disk l.disks ds
+    → IsWholeLog disk (record l { disks = ds })
 hold_whole disk l ds whole hold = record {
   many_disks = map_long disk.size l.disks ds hold.sizes_are ∙ whole.many_disks;
   layout = whole.layout;
@@ -86,14 +86,14 @@ hold_whole disk l ds whole hold = record {
   durable = whole.durable;
 }
 
-was_at : {D : Type 0} (l : LogState D) (ds : List D) (i : ℕ) (r : ArenaRegion) (disk : D) → length ds ≡ length l.disks → IsAt (record l { disks = ds }) i r disk
-    → (before : D) × IsAt l i r before
+was_at : {D : Type 0} (l : LogState D) (ds : List D) (i : ℕ) (r : ArenaRegion) (disk : D) → length ds ≡ length l.disks → IsArenaAt (record l { disks = ds }) i r disk
+    → (before : D) × IsArenaAt l i r before
 was_at l ds i r disk many at =
     let was = slice_get_other l.disks ds r.part disk many at.disk_is in
     (was.0, record { arena = at.arena; disk_is = was.1 })
 
 pub hold_sound : {D : Type 0} (score_of : List ℕ → List ℕ) (disk : DiskOf D) (l : LogState D) (ds : List D) (h : History)
-    → HoldTheSame disk l.disks ds → IsSound score_of disk l h → IsSound score_of disk (record l { disks = ds }) h
+    → HoldTheSame disk l.disks ds → IsSoundLog score_of disk l h → IsSoundLog score_of disk (record l { disks = ds }) h
 hold_sound {D = D} score_of disk l ds h hold sound = record {
   whole = hold_whole disk l ds sound.whole hold;
   contents = sound.contents;
@@ -142,8 +142,8 @@ pub record IsReadOnly {D : Type 0} (score_of : List ℕ → List ℕ) (disk : Di
   pub disks_are : k.disks ≡ set m.disks i d
   pub was : slice_get m.disks i ≡ Some old
   pub hold : HoldTheSame disk m.disks k.disks
-  pub whole : IsWhole disk m → IsWhole disk k
-  pub sound : (h : History) → IsSound score_of disk m h → IsSound score_of disk k h
+  pub whole : IsWholeLog disk m → IsWholeLog disk k
+  pub sound : (h : History) → IsSoundLog score_of disk m h → IsSoundLog score_of disk k h
 
 pub read_only : {D : Type 0} (score_of : List ℕ → List ℕ) (disk : DiskOf D) (most : ℕ) (ps : List (Part D)) (i : ℕ) (p : Part D) (d : D) (l m : LogState D)
     → l ≡ m → l.disks ≡ map (λ part. disk_of part) ps → l.tables ≡ tables_of ps → slice_get ps i ≡ Some p
@@ -173,14 +173,14 @@ read_only {D = D} score_of disk most ps i p d l m view disks tables at reads =
     hold : HoldTheSame disk m.disks (map (λ (part : Part D). disk_of part) (set ps i (record p { disk = d })))
     hold = subst (λ (ds : List D). HoldTheSame disk m.disks ds) (sym disks_are) (hold_set disk most m.disks i (disk_of p) d was reads)
 
-    whole : IsWhole disk m → IsWhole disk (with_disk ps i p d l)
-    whole is = subst (IsWhole disk) (sym same) (hold_whole disk m _ is hold)
+    whole : IsWholeLog disk m → IsWholeLog disk (with_disk ps i p d l)
+    whole is = subst (IsWholeLog disk) (sym same) (hold_whole disk m _ is hold)
 
-    sound : (h : History) → IsSound score_of disk m h → IsSound score_of disk (with_disk ps i p d l) h
-    sound h is = subst (λ (x : LogState D). IsSound score_of disk x h) (sym same) (hold_sound score_of disk m _ h hold is)
+    sound : (h : History) → IsSoundLog score_of disk m h → IsSoundLog score_of disk (with_disk ps i p d l) h
+    sound h is = subst (λ (x : LogState D). IsSoundLog score_of disk x h) (sym same) (hold_sound score_of disk m _ h hold is)
 
 -- a partition is there for each arena
-pub part_there : {D : Type 0} (disk : DiskOf D) (ps : List (Part D)) (l : LogState D) (arena : ℕ) (r dr : ArenaRegion) → IsWhole disk l → l.disks ≡ map (λ part. disk_of part) ps → arena < length l.layout
+pub part_there : {D : Type 0} (disk : DiskOf D) (ps : List (Part D)) (l : LogState D) (arena : ℕ) (r dr : ArenaRegion) → IsWholeLog disk l → l.disks ≡ map (λ part. disk_of part) ps → arena < length l.layout
     → r ≡ get_or l.layout arena dr → r.part < length ps
 part_there {D = D} disk ps l arena r dr whole disks within r_is =
     let on = at_slice (IsOnDisk disk l.disks) l.layout arena (get_or l.layout arena dr) whole.regions (slice_get-get_or l.layout arena dr within) in

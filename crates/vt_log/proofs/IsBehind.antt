@@ -7,23 +7,23 @@ use Rattle.vt_model.specs.History.{Accepted, History}
 use Rattle.vt_model.specs.Places.{lengths_in}
 use Rattle.vt_arena.specs.Layout.{Content}
 use Rattle.vt_arena.specs.Places.{block_room}
-use Rattle.vt_log.specs.Back.{IsBehind}
+use Rattle.vt_log.specs.Back.{IsTailBehind}
 use Rattle.vt_log.specs.Log.{LogState, front, queued}
-use Rattle.vt_log.specs.Logs.{accepted, blocks_from}
-use Rattle.vt_log.specs.Sound.{IsSound}
+use Rattle.vt_log.specs.Logs.{accepted_in, blocks_from}
+use Rattle.vt_log.specs.Sound.{IsSoundLog}
 use Rattle.vt_log.proofs.Appends.{lengths_none}
 
 -- each block is in one of the arenas
 pub blocks_below : (k : ℕ) (contents : List Content) → All (λ e. e.arena < k + length contents) (blocks_from k contents)
 blocks_below k [] = All-nil (λ (e : Accepted). e.arena < k + 0)
 blocks_below k (a ∷ rest) =
-    All-append (λ (e : Accepted). e.arena < k + length (a ∷ rest)) (map (accepted k) a.stored) (blocks_from (k + 1) rest)
-    (All-map (λ (e : Accepted). e.arena < k + length (a ∷ rest)) (accepted k) a.stored (λ i s below. omega arith))
+    All-append (λ (e : Accepted). e.arena < k + length (a ∷ rest)) (map (accepted_in k) a.stored) (blocks_from (k + 1) rest)
+    (All-map (λ (e : Accepted). e.arena < k + length (a ∷ rest)) (accepted_in k) a.stored (λ i s below. omega arith))
     (All-weaker (λ (e : Accepted). e.arena < k + 1 + length rest) (λ (e : Accepted). e.arena < k + length (a ∷ rest)) (λ e below. omega (arith, below)) (blocks_from (k + 1) rest) (blocks_below (k + 1) rest))
 
 -- a new walk has all blocks before it
 pub tail_behind : {D : Type 0} (score_of : List ℕ → List ℕ) (disk : DiskOf D) (l : LogState D) (h : History)
-    → IsSound score_of disk l h → IsBehind l h (length h) (record { left = front l; queued = queued l; arena = length l.heads; at = record { index = 0; end = 0 } })
+    → IsSoundLog score_of disk l h → IsTailBehind l h (length h) (record { left = front l; queued = queued l; arena = length l.heads; at = record { index = 0; end = 0 } })
 tail_behind score_of disk l h sound =
     let inside : l.durable ≤ length h = omega (arith, sound.front) in
     let few : min (length h) l.durable ≡ l.durable = omega (arith, inside) in

@@ -15,18 +15,18 @@ use Rattle.vt_disk.proofs.Bytes.{same_refl, part_same}
 use Rattle.vt_disk.proofs.Calls.{changes_none, writes_wider, writes_then}
 use Rattle.vt_part.specs.declared.layout.ArenaRegion.{ArenaRegion}
 use Rattle.vt_part.specs.declared.part.Part.{Part}
-use Rattle.vt_part.specs.Laws.{IsArena as IsArenaOfTable}
-use Rattle.vt_part.specs.Layout.{layout_of, region_of}
+use Rattle.vt_part.specs.Laws.{IsArenaOfTable}
+use Rattle.vt_part.specs.Layout.{layout_of, arena_region}
 use Rattle.vt_part.specs.Parts.{disk_of, table_of, tables_of}
-use Rattle.vt_part.specs.Table.{Table, IsTable, end_of}
+use Rattle.vt_part.specs.Table.{Table, IsTable, arenas_end}
 use Rattle.vt_part.proofs.Layouts.{arenas_follow, layouts_have_arenas}
 use Rattle.vt_arena.specs.Layout.{Content, IsArena, InHead, head_place, empty}
 use Rattle.vt_arena.proofs.Regions.{arena_in_region}
 use Rattle.vt_log.specs.Faults.{CountsFaults}
-use Rattle.vt_log.specs.Formatting.{AreEmpty, IsEmpty, InFirstHeads, WritesInFirst, WritesInHeads, StopsAt, StopsIn}
+use Rattle.vt_log.specs.Formatting.{AreEmpty, IsEmpty, InFirstHeads, WritesInFirst, WritesInHeads, StopsAtArena, StopsIn}
 use Rattle.vt_log.specs.Log.{disks_of}
 use Rattle.vt_log.specs.Logs.{first_unsealed, IsUntouched, InOrder, IsLog}
-use Rattle.vt_log.specs.Sound.{AreImages}
+use Rattle.vt_log.specs.Sound.{AreImagesOf}
 use Rattle.vt_log.proofs.IsSplit.{untouched_blocks}
 use Rattle.vt_log.proofs.Disks.{map_same, tells_set}
 use Rattle.vt_log.proofs.Lists.{slice_get_other, at_slice, slice_get_set_same, slice_get_set_other, map_there}
@@ -52,35 +52,35 @@ module _ {D : Type 0} (disk : DiskOf D) (t : Table) where
       among p in_heads = (in_heads.0, omega (arith, in_heads.1, most), in_heads.2)
 
   -- one more head
-  pub heads_more : (k : ℕ) (a b c : D) → WritesInFirst disk t k a b → WritesWithin disk (head_place (region_of t k)) 3 b c → WritesInFirst disk t (k + 1) a c
+  pub heads_more : (k : ℕ) (a b c : D) → WritesInFirst disk t k a b → WritesWithin disk (head_place (arena_region t k)) 3 b c → WritesInFirst disk t (k + 1) a c
   heads_more k a b c first next =
       subst (λ (n : ℕ). WritesAt disk (InFirstHeads t (k + 1)) n a c) (let e : 3 * k + 3 ≡ 3 * (k + 1) = omega arith in e)
       (writes_then disk (InFirstHeads t (k + 1)) (3 * k) 3 a b c
       (writes_wider disk (InFirstHeads t k) (InFirstHeads t (k + 1)) (λ p in_heads. (in_heads.0, omega (arith, in_heads.1), in_heads.2)) (3 * k) (3 * k) (omega arith) a b first)
-      (writes_wider disk (InHead (region_of t k)) (InFirstHeads t (k + 1)) (λ p in_head. (k, omega arith, in_head)) 3 3 (omega arith) b c next))
+      (writes_wider disk (InHead (arena_region t k)) (InFirstHeads t (k + 1)) (λ p in_head. (k, omega arith, in_head)) 3 3 (omega arith) b c next))
 
 -- a head that is written leaves the arenas before it
 pub empty_kept : (t : Table) (k : ℕ) (before after : List ℕ → Type 0) → IsTable t
-    → AreEmpty t k before → ChangesAt (InHead (region_of t k)) before after → AreEmpty t k after
+    → AreEmpty t k before → ChangesAt (InHead (arena_region t k)) before after → AreEmpty t k after
 empty_kept t k before after table none changes score_of number c less left =
     let from = changes c left in
-    let other : Region = region_of t number in
+    let other : Region = arena_region t number in
     let apart = arenas_follow t number k less in
     let sizes = arena_len t.arena_size table.arena_size in
     let stays : region_bytes other c ≡ region_bytes other from.0 =
-    part_same (InHead (region_of t k)) other.start other.len from.0 c from.2 (λ i above below in_head. absurd (omega (arith, above, below, in_head.0, apart))) in
+    part_same (InHead (arena_region t k)) other.start other.len from.0 c from.2 (λ i above below in_head. absurd (omega (arith, above, below, in_head.0, apart))) in
     arena_in_region score_of other number empty from.0 c (omega (arith, sizes.0)) stays (none score_of number from.0 less from.1)
 
-pub empty_more : (t : Table) (k : ℕ) (before after : List ℕ → Type 0) → IsTable t → AreEmpty t k before → ChangesAt (InHead (region_of t k)) before after
-    → ((score_of : List ℕ → List ℕ) (c : List ℕ) → after c → IsArena score_of (region_of t k) k empty c) → AreEmpty t (k + 1) after
+pub empty_more : (t : Table) (k : ℕ) (before after : List ℕ → Type 0) → IsTable t → AreEmpty t k before → ChangesAt (InHead (arena_region t k)) before after
+    → ((score_of : List ℕ → List ℕ) (c : List ℕ) → after c → IsArena score_of (arena_region t k) k empty c) → AreEmpty t (k + 1) after
 empty_more t k before after table none changes new score_of number c less left = ⊎_elim
-    (λ (here : number ≡ k). subst (λ (n : ℕ). IsArena score_of (region_of t n) n empty c) (sym here) (new score_of c left))
+    (λ (here : number ≡ k). subst (λ (n : ℕ). IsArena score_of (arena_region t n) n empty c) (sym here) (new score_of c left))
     (λ (there : number ≢ k). empty_kept t k before after table none changes score_of number c (omega (arith, less, there)) left)
     (cases_eq number k)
 
 pub empty_whole : (t u : Table) (n : ℕ) (images : List ℕ → Type 0) → u ≡ t → u.count ≤ n → AreEmpty t n images → AreEmpty u u.count images
 empty_whole t u n images same most none score_of number c less left =
-    subst (λ (x : Table). IsArena score_of (region_of x number) number empty c) (sym same) (none score_of number c (omega (arith, less, most)) left)
+    subst (λ (x : Table). IsArena score_of (arena_region x number) number empty c) (sym same) (none score_of number c (omega (arith, less, most)) left)
 
 -- ---- all of them
 
@@ -127,7 +127,7 @@ module _ {D : Type 0} (ps : List (Part D)) (i : ℕ) (p q : Part D) (at : slice_
   -- and where it stops
   pub stops_here : (disk : DiskOf D) (old : List (Part D)) → ((k : ℕ) → i ≤ k → slice_get ps k ≡ slice_get old k)
       → ((k : ℕ) (part : Part D) → k < i → slice_get ps k ≡ Some part → IsEmpty disk part)
-      → StopsAt disk p q → StopsIn disk old (set ps i q)
+      → StopsAtArena disk p q → StopsIn disk old (set ps i q)
   stops_here disk old rest done stop = record {
     part = i;
     within = slice_get_within old i p (sym (rest i (omega arith)) ∙ at);
@@ -135,19 +135,19 @@ module _ {D : Type 0} (ps : List (Part D)) (i : ℕ) (p q : Part D) (at : slice_
     here = λ before after was is.
         let p_is : p ≡ before = same_Some p before (sym at ∙ rest i (omega arith) ∙ was) in
         let q_is : q ≡ after = same_Some q after (sym (slice_get_set_same ps i q (slice_get_within ps i p at)) ∙ is) in
-        subst (λ (x : Part D). StopsAt disk before x) q_is (subst (λ (x : Part D). StopsAt disk x q) p_is stop);
+        subst (λ (x : Part D). StopsAtArena disk before x) q_is (subst (λ (x : Part D). StopsAtArena disk x q) p_is stop);
     behind = λ k more. slice_get_set_other ps i k q (λ same. omega (arith, more, same)) ∙ rest k (omega (arith, more));
   }
 
 -- a partition keeps its room
 pub room_kept : {D : Type 0} (disk : DiskOf D) (old ps : List (Part D)) (i : ℕ) (p : Part D) → tables_of ps ≡ tables_of old → map disk.size (disks_of ps) ≡ map disk.size (disks_of old)
-    → All (λ part. end_of (table_of part) ≤ disk.size (disk_of part)) old → slice_get ps i ≡ Some p → end_of (table_of p) ≤ disk.size (disk_of p)
+    → All (λ part. arenas_end (table_of part) ≤ disk.size (disk_of part)) old → slice_get ps i ≡ Some p → arenas_end (table_of p) ≤ disk.size (disk_of p)
 room_kept {D = D} disk old ps i p tables sizes rooms at =
     let many : length ps ≡ length old = sym (length-map ps (λ (part : Part D). table_of part)) ∙ ap (λ (ts : List Table). length ts) tables ∙ length-map old (λ (part : Part D). table_of part) in
     let was = slice_get_other old ps i p many at in
     let table : table_of p ≡ table_of was.0 = map_there (λ (part : Part D). table_of part) old ps i was.0 p tables was.1 at in
     let long : disk.size (disk_of p) ≡ disk.size (disk_of was.0) = map_there disk.size (disks_of old) (disks_of ps) i (disk_of was.0) (disk_of p) sizes (disk_there old i was.0 was.0 was.1) (disk_there ps i p p at) in
-    omega (arith, at_slice (λ (part : Part D). end_of (table_of part) ≤ disk.size (disk_of part)) old i was.0 rooms was.1, ap end_of table, long)
+    omega (arith, at_slice (λ (part : Part D). arenas_end (table_of part) ≤ disk.size (disk_of part)) old i was.0 rooms was.1, ap arenas_end table, long)
 
 -- ---- a log without blocks
 
@@ -166,7 +166,7 @@ empty_first [] = refl
 empty_first (r ∷ rest) = refl
 
 pub empty_log : {D : Type 0} (score_of : List ℕ → List ℕ) (disk : DiskOf D) (ps : List (Part D)) (files : List (List ℕ)) → IsTrue disk.tells
-    → ((k : ℕ) (part : Part D) → slice_get ps k ≡ Some part → IsEmpty disk part) → AreImages disk (disks_of ps) files → IsLog score_of (layout_of (tables_of ps)) files [] 0
+    → ((k : ℕ) (part : Part D) → slice_get ps k ≡ Some part → IsEmpty disk part) → AreImagesOf disk (disks_of ps) files → IsLog score_of (layout_of (tables_of ps)) files [] 0
 empty_log {D = D} score_of disk ps files told none are = record {
   contents = empties (layout_of (tables_of ps));
   arenas = record {
@@ -189,12 +189,12 @@ empty_log {D = D} score_of disk ps files told none are = record {
         let t_is : table_of p.0 ≡ t = same_Some (table_of p.0) t (sym (slice_get-map (λ (part : Part D). table_of part) ps r.part ∙ ap (option_map (λ (part : Part D). table_of part)) p.1) ∙ is.1) in
         let disk_is : slice_get (disks_of ps) r.part ≡ Some (disk_of p.0) = disk_there ps r.part p.0 p.0 p.1 in
         let file = slice_get_other files (disks_of ps) r.part (disk_of p.0) (sym are.many) disk_is in
-        let own : IsArena score_of (region_of t r.number) r.number empty file.0 =
-        subst (λ (u : Table). IsArena score_of (region_of u r.number) r.number empty file.0) t_is
+        let own : IsArena score_of (arena_region t r.number) r.number empty file.0 =
+        subst (λ (u : Table). IsArena score_of (arena_region u r.number) r.number empty file.0) t_is
         ((none r.part p.0 p.1).arenas told score_of r.number file.0 (subst (λ (u : Table). r.number < u.count) (sym t_is) is.2) (are.each r.part (disk_of p.0) file.0 disk_is file.1)) in (
           file.0,
           file.1,
-          subst (λ (x : ArenaRegion). IsArena score_of x.region r.number a file.0) (sym is.3) (subst (λ (x : Content). IsArena score_of (region_of t r.number) r.number x file.0) a_is own),
+          subst (λ (x : ArenaRegion). IsArena score_of x.region r.number a file.0) (sym is.3) (subst (λ (x : Content). IsArena score_of (arena_region t r.number) r.number x file.0) a_is own),
         )
 
 pub settled_parts : {D : Type 0} (disk : DiskOf D) (ps : List (Part D)) → ((k : ℕ) (part : Part D) → slice_get ps k ≡ Some part → IsEmpty disk part) → All (IsSynced disk) (disks_of ps)

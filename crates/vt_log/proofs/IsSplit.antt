@@ -8,7 +8,7 @@ use Rattle.vt_clump.specs.Spelling.{Stored}
 use Rattle.vt_model.specs.History.{Accepted, History}
 use Rattle.vt_model.specs.Places.{last_arena}
 use Rattle.vt_arena.specs.Layout.{Content}
-use Rattle.vt_log.specs.Logs.{accepted, blocks_from, first_unsealed, IsSealed, IsUntouched, InOrder}
+use Rattle.vt_log.specs.Logs.{accepted_in, blocks_from, first_unsealed, IsSealed, IsUntouched, InOrder}
 use Rattle.vt_log.specs.Sound.{IsSplit}
 
 -- untouched arenas have no blocks
@@ -16,7 +16,7 @@ pub untouched_blocks : (k : ℕ) (rest : List Content) → All IsUntouched rest 
 untouched_blocks k [] all = refl
 untouched_blocks k (a ∷ rest) all =
     let first = All-head IsUntouched a rest all in
-    (λ i. map (accepted k) (first.1 i) ++ untouched_blocks (k + 1) rest (All-tail IsUntouched a rest all) i)
+    (λ i. map (accepted_in k) (first.1 i) ++ untouched_blocks (k + 1) rest (All-tail IsUntouched a rest all) i)
 
 -- what is behind the first element but one
 drop_more : {X : Type 0} (c : ℕ) (x : X) (xs : List X) → drop (suc c + 1) (x ∷ xs) ≡ drop (c + 1) xs
@@ -48,35 +48,35 @@ split_order (suc c) (a ∷ rest) split within =
 -- the blocks with those that a commit adds
 pub blocks_set : (k c : ℕ) (contents : List Content) (a next : Content) (added : List Stored) → slice_get contents c ≡ Some a
     → All IsUntouched (drop (c + 1) contents) → next.stored ≡ a.stored ++ added
-    → blocks_from k (set contents c next) ≡ blocks_from k contents ++ map (accepted (k + c)) added
+    → blocks_from k (set contents c next) ≡ blocks_from k contents ++ map (accepted_in (k + c)) added
 blocks_set k c [] a next added at behind adds = absurd (cc)
 blocks_set k zero (x ∷ rest) a next added at behind adds =
     let same : x ≡ a = cc in
     let none : blocks_from (k + 1) rest ≡ [] = untouched_blocks (k + 1) rest behind in
     let stored : next.stored ≡ x.stored ++ added = adds ∙ ap (λ (b : Content). b.stored ++ added) (sym same) in
-    ap (λ (h : History). map (accepted k) next.stored ++ h) none
-    ∙ append-nil (map (accepted k) next.stored)
-    ∙ ap (map (accepted k)) stored
-    ∙ map-append (accepted k) x.stored added
-    ∙ ap (λ (h : History). h ++ map (accepted k) added) (sym (append-nil (map (accepted k) x.stored)) ∙ ap (λ (h : History). map (accepted k) x.stored ++ h) (sym none))
-    ∙ ap (λ (j : ℕ). (map (accepted k) x.stored ++ blocks_from (k + 1) rest) ++ map (accepted j) added) (let e : k ≡ k + 0 = omega arith in e)
+    ap (λ (h : History). map (accepted_in k) next.stored ++ h) none
+    ∙ append-nil (map (accepted_in k) next.stored)
+    ∙ ap (map (accepted_in k)) stored
+    ∙ map-append (accepted_in k) x.stored added
+    ∙ ap (λ (h : History). h ++ map (accepted_in k) added) (sym (append-nil (map (accepted_in k) x.stored)) ∙ ap (λ (h : History). map (accepted_in k) x.stored ++ h) (sym none))
+    ∙ ap (λ (j : ℕ). (map (accepted_in k) x.stored ++ blocks_from (k + 1) rest) ++ map (accepted_in j) added) (let e : k ≡ k + 0 = omega arith in e)
 blocks_set k (suc c) (x ∷ rest) a next added at behind adds =
-    ap (λ (h : History). map (accepted k) x.stored ++ h)
+    ap (λ (h : History). map (accepted_in k) x.stored ++ h)
     (blocks_set (k + 1) c rest a next added at (subst (All IsUntouched) (drop_more c x rest) behind) adds)
-    ∙ sym (append_assoc (map (accepted k) x.stored) (blocks_from (k + 1) rest) (map (accepted (k + 1 + c)) added))
-    ∙ ap (λ (j : ℕ). (map (accepted k) x.stored ++ blocks_from (k + 1) rest) ++ map (accepted j) added) (let e : k + 1 + c ≡ k + suc c = omega arith in e)
+    ∙ sym (append_assoc (map (accepted_in k) x.stored) (blocks_from (k + 1) rest) (map (accepted_in (k + 1 + c)) added))
+    ∙ ap (λ (j : ℕ). (map (accepted_in k) x.stored ++ blocks_from (k + 1) rest) ++ map (accepted_in j) added) (let e : k + 1 + c ≡ k + suc c = omega arith in e)
 
-here : (k c : ℕ) (stored : List Stored) → All (λ e. e.arena ≤ k + c) (map (accepted k) stored)
-here k c stored = All-map (λ (e : Accepted). e.arena ≤ k + c) (accepted k) stored (λ i s below. omega arith)
+here : (k c : ℕ) (stored : List Stored) → All (λ e. e.arena ≤ k + c) (map (accepted_in k) stored)
+here k c stored = All-map (λ (e : Accepted). e.arena ≤ k + c) (accepted_in k) stored (λ i s below. omega arith)
 
 -- all blocks are in arenas up to that one
 pub blocks_arenas : (k c : ℕ) (contents : List Content) → All IsUntouched (drop (c + 1) contents) → All (λ e. e.arena ≤ k + c) (blocks_from k contents)
 blocks_arenas k c [] behind = All-nil (λ (e : Accepted). e.arena ≤ k + c)
 blocks_arenas k zero (a ∷ rest) behind =
-    All-append (λ (e : Accepted). e.arena ≤ k + 0) (map (accepted k) a.stored) (blocks_from (k + 1) rest) (here k 0 a.stored)
+    All-append (λ (e : Accepted). e.arena ≤ k + 0) (map (accepted_in k) a.stored) (blocks_from (k + 1) rest) (here k 0 a.stored)
     (subst (All (λ (e : Accepted). e.arena ≤ k + 0)) (sym (untouched_blocks (k + 1) rest behind)) (All-nil (λ (e : Accepted). e.arena ≤ k + 0)))
 blocks_arenas k (suc c) (a ∷ rest) behind =
-    All-append (λ (e : Accepted). e.arena ≤ k + suc c) (map (accepted k) a.stored) (blocks_from (k + 1) rest) (here k (suc c) a.stored)
+    All-append (λ (e : Accepted). e.arena ≤ k + suc c) (map (accepted_in k) a.stored) (blocks_from (k + 1) rest) (here k (suc c) a.stored)
     (All-weaker (λ (e : Accepted). e.arena ≤ k + 1 + c) (λ (e : Accepted). e.arena ≤ k + suc c) (λ e least. omega (arith, least)) (blocks_from (k + 1) rest)
     (blocks_arenas (k + 1) c rest (subst (All IsUntouched) (drop_more c a rest) behind)))
 

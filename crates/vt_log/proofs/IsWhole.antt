@@ -6,11 +6,11 @@ use Rattle.std.proofs.lemmas.List.Sums.{sum_by-le}
 use Rattle.vt_disk.specs.Members.{DiskOf}
 use Rattle.vt_arena.specs.declared.head.Found.{Found}
 use Rattle.vt_log.specs.Log.{LogState}
-use Rattle.vt_log.specs.Whole.{IsOnDisk, IsWhole}
+use Rattle.vt_log.specs.Whole.{IsOnDisk, IsWholeLog}
 use Rattle.vt_log.proofs.Lists.{slice_get_other, at_slice}
 
 -- an arena's head has few clumps, and few bytes of them
-pub head_small : {D : Type 0} (disk : DiskOf D) (l : LogState D) (i : ℕ) (found : Found) → IsWhole disk l → slice_get l.heads i ≡ Some found
+pub head_small : {D : Type 0} (disk : DiskOf D) (l : LogState D) (i : ℕ) (found : Found) → IsWholeLog disk l → slice_get l.heads i ≡ Some found
     → (found.head.clumps ≤ 42949672) × (found.head.used ≤ 2 ^ 30)
 head_small disk l i found whole at =
     let r = slice_get_other l.layout l.heads i found whole.many at in
@@ -19,7 +19,7 @@ head_small disk l i found whole at =
     (omega (arith, fit, on.region.len.1), omega (arith, fit, on.region.len.1))
 
 -- so that all of them have few
-pub durable_small : {D : Type 0} (disk : DiskOf D) (l : LogState D) → IsWhole disk l → l.durable ≤ 184467440000000000
+pub durable_small : {D : Type 0} (disk : DiskOf D) (l : LogState D) → IsWholeLog disk l → l.durable ≤ 184467440000000000
 durable_small disk l whole =
     let most = sum_by-le (λ (found : Found). found.head.clumps) 42949672 l.heads
     (λ i d below. (head_small disk l i _ whole (slice_get-get_or l.heads i d below)).0) in

@@ -4,9 +4,9 @@ use Rattle.std.specs.Prelude.{slice_get, IsTrue}
 use Rattle.std.proofs.lemmas.List.{drop_at, length-set}
 use Rattle.std.proofs.lemmas.Option.{slice_get_within, slice_get-map, slice_get-get_or, slice_get_read, same_Some}
 use Rattle.vt_base.specs.Faults.{CountsFault, one_more}
-use Rattle.vt_disk.specs.declared.call.CallErr.{CallErr}
+use Rattle.vt_disk.specs.declared.call.CallError.{CallError}
 use Rattle.vt_disk.specs.declared.call.CallCount.{CallCount}
-use Rattle.vt_disk.specs.DeviceCalls.{CallMade, counted, stopped_at}
+use Rattle.vt_disk.specs.DeviceCalls.{CallMade, call_counted, stopped_at}
 use Rattle.vt_disk.specs.Members.{DiskOf}
 use Rattle.vt_disk.specs.declared.region.Region.{Region}
 use Rattle.vt_disk.specs.Calls.{WritesWithin, IsSynced}
@@ -21,23 +21,23 @@ use Rattle.vt_part.specs.declared.part.Part.{Part}
 use Rattle.vt_part.specs.Parts.{disk_of, tables_of}
 use Rattle.vt_arena.specs.declared.head.ArenaHead.{ArenaHead}
 use Rattle.vt_arena.specs.declared.head.Found.{Found}
-use Rattle.vt_arena.specs.Arena.{ArenaState, Advances, next_content, content_after, calls_made, commit_calls, fresh_arena}
+use Rattle.vt_arena.specs.Arena.{ArenaState, ArenaAdvances, next_content, content_after, calls_made, commit_calls, fresh_arena}
 use Rattle.vt_arena.specs.Layout.{Content, IsArena}
 use Rattle.vt_arena.specs.Places.{IsArenaLen, directory_room, arena_room}
-use Rattle.vt_arena.specs.Sound.{IsSound as IsSoundArena, GivesOldOrNext}
-use Rattle.vt_arena.specs.Written.{next_call}
-use Rattle.vt_log.specs.declared.bad.Progress.{Progress}
-use Rattle.vt_log.specs.declared.bad.Progress.TheVariants.{Step as StepMade, Durable}
-use Rattle.vt_log.specs.declared.bad.LogErr.{LogErr}
-use Rattle.vt_log.specs.declared.bad.LogErr.TheVariants.{Fault}
+use Rattle.vt_arena.specs.Sound.{IsSoundArena, GivesOldOrNext}
+use Rattle.vt_arena.specs.Written.{next_commit_call}
+use Rattle.vt_log.specs.declared.error.Progress.{Progress}
+use Rattle.vt_log.specs.declared.error.Progress.TheVariants.{Step as StepMade, Durable}
+use Rattle.vt_log.specs.declared.error.LogErr.{LogErr}
+use Rattle.vt_log.specs.declared.error.LogErr.TheVariants.{Fault}
 use Rattle.vt_log.specs.declared.queue.Waiting.{Waiting}
-use Rattle.vt_log.specs.Answers.{MakesCall, EndsCommit, CallsArena}
-use Rattle.vt_log.specs.Committing.{IsReady, TakesAll, MakesOneCall}
+use Rattle.vt_log.specs.Answers.{LogMakesCall, EndsCommit, CallsArena}
+use Rattle.vt_log.specs.Committing.{IsCommitReady, TakesAllWaiting, MakesOneCall}
 use Rattle.vt_log.specs.Faults.{is_fault_now}
 use Rattle.vt_log.specs.Log.{LogState, queued, packed_of}
-use Rattle.vt_log.specs.Sound.{IsAt, IsSound, AreWithinCall, StandForPrefix}
+use Rattle.vt_log.specs.Sound.{IsArenaAt, IsSoundLog, AreWithinCallOf, LogStandsForPrefix}
 use Rattle.vt_log.specs.Queue.{QueueState}
-use Rattle.vt_log.specs.Whole.{IsOnDisk, IsWhole}
+use Rattle.vt_log.specs.Whole.{IsOnDisk, IsWholeLog}
 use Rattle.vt_log.proofs.Advances.{committing_there}
 use Rattle.vt_log.proofs.CallsArena.{KeepsArena, ChangesRegion, step_keeps, fault_keeps, call_whole, call_sound, call_stands}
 use Rattle.vt_log.proofs.Disks.{parts_disks, parts_tables}
@@ -48,27 +48,27 @@ use Rattle.vt_log.proofs.Owed.{step_made, call_owed, ended_owed, turned_owed}
 
 -- what a call of an arena's commit tells
 pub record IsAdvanced {D : Type 0} (score_of : List ℕ → List ℕ) (disk : DiskOf D)
-    (a : ArenaState) (region : Region) (d e : D) (b : ArenaState) (step : Result Step CallErr) : Type 0 where
+    (a : ArenaState) (region : Region) (d e : D) (b : ArenaState) (step : Result Step CallError) : Type 0 where
   pub sound : (old : Content) → IsTrue disk.tells → IsSoundArena score_of a region old (disk.bytes d) (disk.images d) → IsSoundArena score_of b region (content_after step a old) (disk.bytes e) (disk.images e)
   pub crash : (old : Content) → IsTrue disk.tells → IsSoundArena score_of a region old (disk.bytes d) (disk.images d) → (c : List ℕ) → WithinCall (disk.images d) (disk.images e) c
       → GivesOldOrNext (commit_calls a ≤ calls_made a + 2) score_of region a.number old (next_content a old) c
   pub last : (old : Content) → IsTrue disk.tells → IsSoundArena score_of a region old (disk.bytes d) (disk.images d) → step ≡ Ok Done → (c : List ℕ) → disk.images e c → IsArena score_of region a.number (next_content a old) c
   pub settled : step ≡ Ok Done → IsSynced disk e
-  pub steps : Advances step a b
+  pub steps : ArenaAdvances step a b
   pub left : calls_made a < commit_calls a
   pub done : step ≡ Ok Done → calls_made a + 1 ≡ commit_calls a
   pub n : CallCount
   pub m : CallCount
-  pub makes : CallMade disk (next_call a region) step n m d e
+  pub makes : CallMade disk (next_commit_call a region) step n m d e
   pub writes : WritesWithin disk region 1 d e
 
 -- what is known once the device call was made
 pub record IsCalled {D : Type 0} (score_of : List ℕ → List ℕ) (disk : DiskOf D)
-    (l : LogState D) (r : ArenaRegion) (d e : D) (b : ArenaState) (step : Result Step CallErr) : Type 0 where
-  pub whole : IsWhole disk l
+    (l : LogState D) (r : ArenaRegion) (d e : D) (b : ArenaState) (step : Result Step CallError) : Type 0 where
+  pub whole : IsWholeLog disk l
   pub runs : l.stopped ≡ None
-  pub ready : IsReady l
-  pub at : IsAt l l.committing r d
+  pub ready : IsCommitReady l
+  pub at : IsArenaAt l l.committing r d
   pub made : IsAdvanced score_of disk l.arena r.region d e b step
 
 -- ---- what a call leaves in memory
@@ -79,7 +79,7 @@ count_of l = record { made = l.calls; stopped = l.stopped }
 abbrev called : {D : Type 0} → LogState D → (part : ℕ) → (e : D) → (b : ArenaState) → (calls : ℕ) → (stopped : Option ℕ) → LogState D
 called l part e b calls stopped = record l { disks = set l.disks part e; arena = b; calls = calls; stopped = stopped }
 
-makes_call : {D : Type 0} (l : LogState D) (part : ℕ) (e : D) (b : ArenaState) (stopped : Option ℕ) → KeepsArena l.arena b → MakesCall l (called l part e b (one_more l.calls) stopped)
+makes_call : {D : Type 0} (l : LogState D) (part : ℕ) (e : D) (b : ArenaState) (stopped : Option ℕ) → KeepsArena l.arena b → LogMakesCall l (called l part e b (one_more l.calls) stopped)
 makes_call l part e b stopped keeps = record {
   calls = refl;
   heads = refl;
@@ -89,7 +89,7 @@ makes_call l part e b stopped keeps = record {
   commit = λ on. (keeps.staged, keeps.next);
 }
 
-takes_all : {D : Type 0} (l : LogState D) (part : ℕ) (e : D) (b : ArenaState) (calls : ℕ) (stopped : Option ℕ) → KeepsArena l.arena b → TakesAll l → TakesAll (called l part e b calls stopped)
+takes_all : {D : Type 0} (l : LogState D) (part : ℕ) (e : D) (b : ArenaState) (calls : ℕ) (stopped : Option ℕ) → KeepsArena l.arena b → TakesAllWaiting l → TakesAllWaiting (called l part e b calls stopped)
 takes_all l part e b calls stopped keeps all = record {
   blocks = all.blocks;
   seal = subst (λ (h : ArenaHead). IsTrue h.sealed ↔ (0 < length l.queue.waiting)) (sym keeps.next) all.seal;
@@ -125,7 +125,7 @@ ends_commit l found b m has head_is calls heads durable staged waiting places = 
 -- ---- one call, by its answer
 
 module _ {D : Type 0} (score_of : List ℕ → List ℕ) (disk : DiskOf D) (l : LogState D) (r : ArenaRegion) (d e : D) (b : ArenaState) where
-  calls_arena : (k : LogState D) (step : Result Step CallErr) (result : Result Progress LogErr)
+  calls_arena : (k : LogState D) (step : Result Step CallError) (result : Result Progress LogErr)
       → IsCalled score_of disk l r d e b step → k.disks ≡ set l.disks r.part e
       → CountsFault is_fault_now result (disk.faults d) (disk.faults e) → CallsArena disk result l k
   calls_arena k step result it disks cause = record {
@@ -140,13 +140,13 @@ module _ {D : Type 0} (score_of : List ℕ → List ℕ) (disk : DiskOf D) (l : 
     cause = cause;
   }
 
-  changes : (step : Result Step CallErr) → IsCalled score_of disk l r d e b step → IsTrue disk.tells → ChangesRegion disk r.region d e
+  changes : (step : Result Step CallError) → IsCalled score_of disk l r d e b step → IsTrue disk.tells → ChangesRegion disk r.region d e
   changes step it told =
       record { size_is = it.made.writes.size; images_are = it.made.writes.images; bytes_are = it.made.writes.bytes told }
 
   -- a crash at any moment of the call
-  stands : (step : Result Step CallErr) → IsCalled score_of disk l r d e b step
-      → (h : History) → IsTrue disk.tells → IsSound score_of disk l h → (files : List (List ℕ)) → AreWithinCall disk l.disks (set l.disks r.part e) files → StandForPrefix score_of l files h
+  stands : (step : Result Step CallError) → IsCalled score_of disk l r d e b step
+      → (h : History) → IsTrue disk.tells → IsSoundLog score_of disk l h → (files : List (List ℕ)) → AreWithinCallOf disk l.disks (set l.disks r.part e) files → LogStandsForPrefix score_of l files h
   stands step it h told sound files left =
       call_stands score_of disk l r d e it.at (changes step it told) h (commit_calls l.arena ≤ calls_made l.arena + 2) files sound
       (λ a has c moment. it.made.crash a told (sound.current r d a it.at has) c moment) left
@@ -178,7 +178,7 @@ module _ {D : Type 0} (score_of : List ℕ → List ℕ) (disk : DiskOf D) (l : 
       made = ap (λ (x : ArenaState). calls_made x) it.made.steps ∙ step_made l.arena
 
   -- it failed
-  pub fault_made : (err : CallErr) → IsCalled score_of disk l r d e b (Err err)
+  pub fault_made : (err : CallError) → IsCalled score_of disk l r d e b (Err err)
       → MakesOneCall score_of disk l (called l r.part e b (one_more l.calls) (Some l.calls)) (Err Fault)
   fault_made err it = record {
     whole = call_whole disk l r.part d e b (one_more l.calls) (Some l.calls) it.whole it.ready keeps runs it.at.disk_is it.made.writes.size;
@@ -200,7 +200,7 @@ module _ {D : Type 0} (score_of : List ℕ → List ℕ) (disk : DiskOf D) (l : 
 
   -- ---- one that ends a commit
 
-  content_there : (h : History) → (sound : IsSound score_of disk l h) → slice_get l.layout l.committing ≡ Some r → (a : Content) × (slice_get sound.contents l.committing ≡ Some a)
+  content_there : (h : History) → (sound : IsSoundLog score_of disk l h) → slice_get l.layout l.committing ≡ Some r → (a : Content) × (slice_get sound.contents l.committing ≡ Some a)
   content_there h sound at = slice_get_other sound.contents l.layout l.committing r (sym sound.many) at
 
   ends_arena : IsCalled score_of disk l r d e b (Ok Done) → EndsArena l.arena b
@@ -308,20 +308,20 @@ pub record AreParts {D : Type 0} (ps : List (Part D)) (i : ℕ) (p : Part D) (v 
 -- the arena that is committed in, and its place on the disk of a partition, as the log has them in memory
 pub record IsThere {D : Type 0} (disk : DiskOf D) (ps : List (Part D)) (p : Part D) (v m : LogState D) (r : ArenaRegion) : Type 0 where
   pub view : v ≡ m
-  pub whole : IsWhole disk v
+  pub whole : IsWholeLog disk v
   pub runs : v.stopped ≡ None
-  pub ready : IsReady v
-  pub at : IsAt v v.committing r (disk_of p)
+  pub ready : IsCommitReady v
+  pub at : IsArenaAt v v.committing r (disk_of p)
   pub parts : AreParts ps r.part p v
 
 pub arena_there : {D : Type 0} (disk : DiskOf D) (ps : List (Part D)) (p : Part D) (v m : LogState D) (rs : List ArenaRegion) (r : ArenaRegion)
-    → v ≡ m → IsWhole disk v → v.disks ≡ map (λ part. disk_of part) ps → v.tables ≡ tables_of ps → m.stopped ≡ None → 0 < queued m → IsReady m
+    → v ≡ m → IsWholeLog disk v → v.disks ≡ map (λ part. disk_of part) ps → v.tables ≡ tables_of ps → m.stopped ≡ None → 0 < queued m → IsCommitReady m
     → rs ≡ v.layout → r ≡ region_at rs v.committing → p ≡ get_or ps r.part p → IsThere disk ps p v m r
 arena_there {D = D} disk ps p v m rs r view whole disks tables runs some ready layout r_is p_is = record {
   view = view;
   whole = whole;
   runs = ap (λ (x : LogState D). x.stopped) view ∙ runs;
-  ready = subst (λ (x : LogState D). IsReady x) (sym view) ready;
+  ready = subst (λ (x : LogState D). IsCommitReady x) (sym view) ready;
   at = record { arena = here; disk_is = device };
   parts = record { disks = disks; tables = tables; at = at };
 }
@@ -342,7 +342,7 @@ arena_there {D = D} disk ps p v m rs r view whole disks tables runs some ready l
     device = ap (λ (ds : List D). slice_get ds r.part) disks ∙ slice_get-map (λ (part : Part D). disk_of part) ps r.part ∙ ap (option_map (λ (part : Part D). disk_of part)) at
 
 -- its region is as long as the arena in memory
-pub same_len : {D : Type 0} (disk : DiskOf D) (v m : LogState D) (rs : List ArenaRegion) (r : ArenaRegion) → v ≡ m → IsWhole disk v → 0 < queued m → rs ≡ v.layout → r ≡ region_at rs v.committing
+pub same_len : {D : Type 0} (disk : DiskOf D) (v m : LogState D) (rs : List ArenaRegion) (r : ArenaRegion) → v ≡ m → IsWholeLog disk v → 0 < queued m → rs ≡ v.layout → r ≡ region_at rs v.committing
     → r.region.len ≡ v.arena.len
 same_len {D = D} disk v m rs r view whole some layout r_is =
     let within : v.committing < length v.layout = committing_there disk v whole (subst (λ (x : LogState D). 0 < queued x) (sym view) some) in
@@ -372,12 +372,12 @@ pub record IsNextArena {D : Type 0} (v : LogState D) (q : ArenaRegion) (next : F
   pub len : IsArenaLen q.region.len
   pub fit : next.head.used + directory_room next.head.clumps ≤ arena_room q.region.len
 
-pub seals_too : (E : Type 0) (a b : ArenaState) (step : Step) → Advances {E = E} (Ok step) a b → step ≡ Done → b.next.sealed ≡ true → a.next.sealed ≡ true
+pub seals_too : (E : Type 0) (a b : ArenaState) (step : Step) → ArenaAdvances {E = E} (Ok step) a b → step ≡ Done → b.next.sealed ≡ true → a.next.sealed ≡ true
 seals_too E a b step it done seals =
-    let steps : Advances {E = E} (Ok Done) a b = subst (λ (s : Step). Advances {E = E} (Ok s) a b) done it in
+    let steps : ArenaAdvances {E = E} (Ok Done) a b = subst (λ (s : Step). ArenaAdvances {E = E} (Ok s) a b) done it in
     sym (ap (λ (x : ArenaState). x.next.sealed) steps) ∙ seals
 
-pub next_arena_there : {D : Type 0} (disk : DiskOf D) (v : LogState D) (rs : List ArenaRegion) (q : ArenaRegion) (x next : Found) → IsWhole disk v → v.arena.next.sealed ≡ true
+pub next_arena_there : {D : Type 0} (disk : DiskOf D) (v : LogState D) (rs : List ArenaRegion) (q : ArenaRegion) (x next : Found) → IsWholeLog disk v → v.arena.next.sealed ≡ true
     → rs ≡ v.layout → q ≡ region_at rs (v.committing + 1) → next ≡ get_or (set v.heads v.committing x) (v.committing + 1) next → IsNextArena v q next
 next_arena_there {D = D} disk v rs q x next whole seals layout q_is next_is = record {
   here = here;
@@ -401,7 +401,7 @@ next_arena_there {D = D} disk v rs q x next whole seals layout q_is next_is = re
 
 -- and what is known once its call was made
 pub record IsCalledIn {D : Type 0} (score_of : List ℕ → List ℕ) (disk : DiskOf D)
-    (ps : List (Part D)) (p : Part D) (v m : LogState D) (r : ArenaRegion) (e : D) (b : ArenaState) (step : Result Step CallErr) : Type 0 where
+    (ps : List (Part D)) (p : Part D) (v m : LogState D) (r : ArenaRegion) (e : D) (b : ArenaState) (step : Result Step CallError) : Type 0 where
   pub made : IsAdvanced score_of disk v.arena r.region (disk_of p) e b step
   pub there : IsThere disk ps p v m r
 
@@ -411,16 +411,16 @@ pub record Settles {D : Type 0} (v : LogState D) (found : Found) (b : ArenaState
   pub waiting : queue.waiting ≡ v.queue.waiting
   pub places : queue.places ≡ drop (length v.arena.staged) v.queue.places
   pub durable_is : durable ≡ v.durable + length v.arena.staged
-  pub count_is : n ≡ counted (count_of v)
+  pub count_is : n ≡ call_counted (count_of v)
 
 module _ {D : Type 0} {score_of : List ℕ → List ℕ} {disk : DiskOf D}
     {ps : List (Part D)} {p : Part D} {v m : LogState D} {r : ArenaRegion} {e : D} {b : ArenaState} where
-  called_in : (step : Result Step CallErr) → IsCalledIn score_of disk ps p v m r e b step → IsCalled score_of disk v r (disk_of p) e b step
+  called_in : (step : Result Step CallError) → IsCalledIn score_of disk ps p v m r e b step → IsCalled score_of disk v r (disk_of p) e b step
   called_in step it =
       record { whole = it.there.whole; runs = it.there.runs; ready = it.there.ready; at = it.there.at; made = it.made }
 
   pub more_in_parts : {step : Step} {n : CallCount}
-      → IsCalledIn score_of disk ps p v m r e b (Ok step) → step ≡ More → n ≡ counted (count_of v)
+      → IsCalledIn score_of disk ps p v m r e b (Ok step) → step ≡ More → n ≡ call_counted (count_of v)
       → MakesOneCall score_of disk m (with_disk ps r.part p e (record v { arena = b; calls = n.made; stopped = n.stopped })) (Ok StepMade)
   more_in_parts {step = step} {n = n} it more is =
       subst (λ (x : LogState D). MakesOneCall score_of disk x (with_disk ps r.part p e (record v { arena = b; calls = n.made; stopped = n.stopped })) (Ok StepMade)) made.there.view
@@ -439,7 +439,7 @@ module _ {D : Type 0} {score_of : List ℕ → List ℕ} {disk : DiskOf D}
           λ j. record v { disks = set v.disks r.part e; arena = b; calls = (is j).made; stopped = (is j).stopped } in
           parts_state ps r.part p e (record v { arena = b; calls = n.made; stopped = n.stopped }) are.disks are.tables are.at ∙ same
 
-  pub fault_in_parts : {err : CallErr} {n : CallCount}
+  pub fault_in_parts : {err : CallError} {n : CallCount}
       → IsCalledIn score_of disk ps p v m r e b (Err err) → n ≡ stopped_at (count_of v)
       → MakesOneCall score_of disk m (with_disk ps r.part p e (record v { arena = b; calls = n.made; stopped = n.stopped })) (Err Fault)
   fault_in_parts {err = err} {n = n} made is =

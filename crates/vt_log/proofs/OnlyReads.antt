@@ -6,19 +6,19 @@ use Rattle.std.proofs.lemmas.List.{get_or_default, set-get_or}
 use Rattle.std.proofs.lemmas.Option.{slice_get_read, get_or_from_slice_get, same_Some}
 use Rattle.vt_disk.specs.Members.{DiskOf}
 use Rattle.vt_disk.specs.Calls.{MadeCalls, OnlyReads as OnlyReadsDisk}
-use Rattle.vt_arena.specs.declared.bad.ReadBad.{ReadBad}
+use Rattle.vt_arena.specs.declared.error.ReadBad.{ReadBad}
 use Rattle.vt_clump.specs.declared.reading.Clump.{Clump}
-use Rattle.vt_clump.specs.Clumps.{IsRead}
-use Rattle.vt_clump.specs.Spelling.{Stored, IsStored}
+use Rattle.vt_clump.specs.Clumps.{IsClumpRead}
+use Rattle.vt_clump.specs.Spelling.{Stored, IsStoredBlock}
 use Rattle.vt_arena.specs.Reading.{reads_for}
 use Rattle.vt_arena.specs.Sound.{IsRegion}
 use Rattle.vt_part.specs.declared.layout.ArenaRegion.{ArenaRegion}
 use Rattle.vt_part.specs.declared.part.Part.{Part}
 use Rattle.vt_part.specs.Parts.{disk_of, tables_of}
-use Rattle.vt_log.specs.Answers.{OnlyReads, Spares}
+use Rattle.vt_log.specs.Answers.{OnlyReadsLog, Spares}
 use Rattle.vt_log.specs.Log.{LogState}
-use Rattle.vt_log.specs.Sound.{IsAt}
-use Rattle.vt_log.specs.Whole.{IsOnDisk, IsWhole}
+use Rattle.vt_log.specs.Sound.{IsArenaAt}
+use Rattle.vt_log.specs.Whole.{IsOnDisk, IsWholeLog}
 use Rattle.vt_log.proofs.Disks.{spares_set, calls_set}
 use Rattle.vt_log.proofs.HoldTheSame.{IsReadOnly, read_only, with_disk, part_there}
 use Rattle.vt_log.proofs.Lists.{at_slice}
@@ -33,12 +33,12 @@ pub record IsLent {D : Type 0} (score_of : List ℕ → List ℕ) (disk : DiskOf
   pub layout : slice_get m.layout arena ≡ Some r
   pub r_one : (q : ArenaRegion) → slice_get m.layout arena ≡ Some q → r ≡ q
   pub region : IsRegion r.region (disk.size d)
-  pub disk_one : (q : ArenaRegion) (device : D) → IsAt m arena q device → d ≡ device
+  pub disk_one : (q : ArenaRegion) (device : D) → IsArenaAt m arena q device → d ≡ device
   pub spares : (q : ArenaRegion) → slice_get m.layout arena ≡ Some q → Spares q.part m.disks k.disks
-  pub reads : OnlyReads score_of disk most m k
+  pub reads : OnlyReadsLog score_of disk most m k
 
 pub lent : {D : Type 0} (score_of : List ℕ → List ℕ) (disk : DiskOf D) (most : ℕ) (ps : List (Part D)) (arena : ℕ) (r dr : ArenaRegion) (p : Part D) (e : D)
-    (l m : LogState D) → IsWhole disk l → l ≡ m → l.disks ≡ map (λ part. disk_of part) ps → l.tables ≡ tables_of ps → arena < length m.layout → r ≡ get_or l.layout arena dr → p ≡ get_or ps r.part p
+    (l m : LogState D) → IsWholeLog disk l → l ≡ m → l.disks ≡ map (λ part. disk_of part) ps → l.tables ≡ tables_of ps → arena < length m.layout → r ≡ get_or l.layout arena dr → p ≡ get_or ps r.part p
     → OnlyReadsDisk disk most (disk_of p) e → IsLent score_of disk most arena r (disk_of p) e m (with_disk ps r.part p e l)
 lent {D = D} score_of disk most ps arena r dr p e l m whole view disks tables within r_is p_is reads = record {
   only = only;
@@ -75,7 +75,7 @@ lent {D = D} score_of disk most ps arena r dr p e l m whole view disks tables wi
 
 -- a clump that is read has a block of 57,344 bytes at most
 pub read_whole : (score_of : List ℕ → List ℕ) (result : Result Clump ReadBad)
-    → IfOk result (λ clump. (s : Stored) × IsStored score_of s × IsRead s clump)
+    → IfOk result (λ clump. (s : Stored) × IsStoredBlock score_of s × IsClumpRead s clump)
     → IfOk result (λ clump. length clump.bytes ≤ 57344)
 read_whole score_of (Ok clump) whole =
     omega (arith, ap (λ (b : List ℕ). length b) whole.2.bytes, whole.1)
@@ -87,8 +87,8 @@ reads_one size n few = grind (arith, nat_tests)
 
 pub read_once : {D : Type 0} (score_of : List ℕ → List ℕ) (disk : DiskOf D) (size : ℕ) (d e : D) (m k : LogState D) (result : Result Clump ReadBad)
     → OnlyReadsDisk disk 2 d e → IfOk result (λ clump. MadeCalls disk (reads_for size (length clump.bytes)) d e)
-    → (OnlyReadsDisk disk 1 d e → OnlyReads score_of disk 1 m k)
-    → IfOk result (λ clump. length clump.bytes ≤ size → OnlyReads score_of disk 1 m k)
+    → (OnlyReadsDisk disk 1 d e → OnlyReadsLog score_of disk 1 m k)
+    → IfOk result (λ clump. length clump.bytes ≤ size → OnlyReadsLog score_of disk 1 m k)
 read_once score_of disk size d e m k (Ok clump) reads made once = λ few.
     let one : MadeCalls disk 1 d e = subst (λ (n : ℕ). MadeCalls disk n d e) (reads_one size (length clump.bytes) few) made in
     once (record { bytes = reads.bytes; images = reads.images; size = reads.size; calls = λ told. omega (arith, one told) })

@@ -3,14 +3,14 @@ use Rattle.std.proofs.Common.{◌≡◌, ◌≢◌, ◌⊎◌, ⊎_elim, ℕ, su
 use Rattle.std.specs.Prelude.{IsFalse, is_some, nat_lt}
 use Rattle.std.proofs.lemmas.Bool.Decides.{eqb_tells}
 use Rattle.std.proofs.lemmas.List.{length-map}
-use Rattle.vt_twin.specs.Twin.{Change, with_change, calls_made as twin_calls_made}
+use Rattle.vt_twin.specs.Twin.{FrameChange, with_change, twin_calls_made}
 use Rattle.vt_clump.specs.declared.packed.Packed.{Packed}
 use Rattle.vt_arena.specs.declared.head.ArenaHead.{ArenaHead}
-use Rattle.vt_arena.specs.Arena.{ArenaState, calls_made, commit_calls, is_committing, with_seal, pieces, pieces_of, changing, after_step, after_piece, after_head}
-use Rattle.vt_arena.specs.Heads.{frame_of}
+use Rattle.vt_arena.specs.Arena.{ArenaState, calls_made, commit_calls, is_committing, with_seal, pieces, commit_pieces, changing, after_step, after_piece, after_head}
+use Rattle.vt_arena.specs.Heads.{head_frame}
 use Rattle.vt_arena.proofs.Stage.{resting}
 use Rattle.vt_log.specs.declared.queue.Waiting.{Waiting}
-use Rattle.vt_log.specs.Committing.{Stages, IsReady}
+use Rattle.vt_log.specs.Committing.{Stages, IsCommitReady}
 use Rattle.vt_log.specs.Log.{LogState, packed_of}
 use Rattle.vt_log.specs.Owed.{owed, seal_calls}
 use Rattle.vt_log.specs.Queue.{WaitsFor}
@@ -21,13 +21,13 @@ none_made a rest =
     let it = resting a rest in
     omega (arith, it.written, at a.twin.change it.change)
   where
-    at : (change : Option Change) → change ≡ None → twin_calls_made (record a.twin { change = change }) ≡ 0
+    at : (change : Option FrameChange) → change ≡ None → twin_calls_made (record a.twin { change = change }) ≡ 0
     at None is = refl
     at (Some it) is = absurd (cc)
 
 -- a commit that adds blocks takes less than they are owed
 numbers : (sealed : Bool) (s w t v made seal : ℕ) → made ≡ 0 → t + v ≡ s + w → (s < t) ⊎ ((t ≡ s) × (seal ≡ 4))
-    → pieces_of t + 4 + 6 * v ≤ cond sealed (pieces_of s + 4 - made) (cond (s == 0) 0 (pieces_of s + 4 - made)) + 6 * w + cond sealed 0 seal
+    → commit_pieces t + 4 + 6 * v ≤ cond sealed (commit_pieces s + 4 - made) (cond (s == 0) 0 (commit_pieces s + 4 - made)) + 6 * w + cond sealed 0 seal
 numbers true s w t v made seal none same more = ⊎_elim (λ (h : s < t). omega (arith, none, same, h)) (λ (h : (t ≡ s) × (seal ≡ 4)). omega (arith, none, same, h.0)) more
 numbers false s w t v made seal none same more = ⊎_elim
     (λ (z : ((s == 0) ≡ true) × (s ≡ 0)). rw z.0 (⊎_elim (λ (h : s < t). omega (arith, none, same, h)) (λ (h : (t ≡ s) × (seal ≡ 4)). omega (arith, none, same, h.0, h.1, z.1)) more))
@@ -70,9 +70,9 @@ prepared_owed {D = D} old m l view stages rest some other =
 pub step_made : (a : ArenaState) → calls_made (after_step a) ≡ calls_made a + 1
 step_made a = at (nat_lt a.written (pieces a))
   where
-    head : (change : Option Change) → a.twin.change ≡ change → twin_calls_made (changing a) ≡ twin_calls_made a.twin
-    head None is = ap (λ (o : Option Change). twin_calls_made (cond (is_some o) a.twin (with_change (frame_of a.next) a.twin))) is ∙ sym (ap (λ (o : Option Change). twin_calls_made (record a.twin { change = o })) is)
-    head (Some it) is = ap (λ (o : Option Change). twin_calls_made (cond (is_some o) a.twin (with_change (frame_of a.next) a.twin))) is
+    head : (change : Option FrameChange) → a.twin.change ≡ change → twin_calls_made (changing a) ≡ twin_calls_made a.twin
+    head None is = ap (λ (o : Option FrameChange). twin_calls_made (cond (is_some o) a.twin (with_change (head_frame a.next) a.twin))) is ∙ sym (ap (λ (o : Option FrameChange). twin_calls_made (record a.twin { change = o })) is)
+    head (Some it) is = ap (λ (o : Option FrameChange). twin_calls_made (cond (is_some o) a.twin (with_change (head_frame a.next) a.twin))) is
 
     at : (b : Bool) → calls_made (cond b (after_piece a) (after_head a)) ≡ calls_made a + 1
     at true = omega arith
@@ -82,36 +82,36 @@ some_test : (n : ℕ) → (suc n == 0) ≡ false
 some_test n = ⊎_elim (λ (t : ((suc n == 0) ≡ true) × (suc n ≡ 0)). absurd (omega (arith, t.1))) (λ (t : ((suc n == 0) ≡ false) × (suc n ≢ 0)). t.0) (eqb_tells (suc n) 0)
 
 -- so a call of a commit lowers what is owed
-pub call_owed : {D : Type 0} (l : LogState D) (b : ArenaState) (ds : List D) (calls : ℕ) (stopped : Option ℕ) → b.staged ≡ l.arena.staged → b.next ≡ l.arena.next → IsReady l
+pub call_owed : {D : Type 0} (l : LogState D) (b : ArenaState) (ds : List D) (calls : ℕ) (stopped : Option ℕ) → b.staged ≡ l.arena.staged → b.next ≡ l.arena.next → IsCommitReady l
     → calls_made b ≡ calls_made l.arena + 1 → calls_made l.arena < commit_calls l.arena → owed (record l { disks = ds; arena = b; calls = calls; stopped = stopped }) < owed l
 call_owed l b ds calls stopped staged next ready made left =
     let sealed : b.next.sealed ≡ l.arena.next.sealed = ap (λ (h : ArenaHead). h.sealed) next in
     rw (sealed, staged) (at l.arena.next.sealed l.arena.staged refl refl)
   where
-    less : (n : ℕ) → length l.arena.staged ≡ suc n → pieces_of (suc n) + 4 - calls_made b + 6 * length l.queue.waiting + seal_calls l.committing l.queue.waiting
-        < pieces_of (suc n) + 4 - calls_made l.arena + 6 * length l.queue.waiting + seal_calls l.committing l.queue.waiting
+    less : (n : ℕ) → length l.arena.staged ≡ suc n → commit_pieces (suc n) + 4 - calls_made b + 6 * length l.queue.waiting + seal_calls l.committing l.queue.waiting
+        < commit_pieces (suc n) + 4 - calls_made l.arena + 6 * length l.queue.waiting + seal_calls l.committing l.queue.waiting
     less n is = omega (arith, made, left, is)
 
     at : (s : Bool) (ps : List Packed) → l.arena.next.sealed ≡ s → l.arena.staged ≡ ps
-        → cond s (pieces_of (length ps) + 4 - calls_made b) (cond (length ps == 0) 0 (pieces_of (length ps) + 4 - calls_made b)) + 6 * length l.queue.waiting + cond s 0 (seal_calls l.committing l.queue.waiting)
-        < cond s (pieces_of (length ps) + 4 - calls_made l.arena) (cond (length ps == 0) 0 (pieces_of (length ps) + 4 - calls_made l.arena)) + 6 * length l.queue.waiting + cond s 0 (seal_calls l.committing l.queue.waiting)
+        → cond s (commit_pieces (length ps) + 4 - calls_made b) (cond (length ps == 0) 0 (commit_pieces (length ps) + 4 - calls_made b)) + 6 * length l.queue.waiting + cond s 0 (seal_calls l.committing l.queue.waiting)
+        < cond s (commit_pieces (length ps) + 4 - calls_made l.arena) (cond (length ps == 0) 0 (commit_pieces (length ps) + 4 - calls_made l.arena)) + 6 * length l.queue.waiting + cond s 0 (seal_calls l.committing l.queue.waiting)
     at true ps s_is ps_is = omega (arith, made, left, ap (λ (q : List Packed). length q) ps_is)
     at false [] s_is ps_is = absurd (let off = ready ps_is in cc)
     at false (p ∷ ps) s_is ps_is = rw (some_test (length ps)) (less (length ps) (ap (λ (q : List Packed). length q) ps_is))
 
 -- and so does the last one
-pub ended_owed : {D : Type 0} (l m : LogState D) → m.arena.staged ≡ [] → m.arena.next.sealed ≡ false → m.queue.waiting ≡ l.queue.waiting → l.arena.next.sealed ≡ false → m.committing ≡ l.committing → IsReady l
+pub ended_owed : {D : Type 0} (l m : LogState D) → m.arena.staged ≡ [] → m.arena.next.sealed ≡ false → m.queue.waiting ≡ l.queue.waiting → l.arena.next.sealed ≡ false → m.committing ≡ l.committing → IsCommitReady l
     → calls_made l.arena < commit_calls l.arena → owed m < owed l
 ended_owed l m staged sealed waiting unsealed committing ready left =
     rw (staged, sealed, waiting, unsealed, committing) (at l.arena.staged refl)
   where
     less : (n : ℕ) → length l.arena.staged ≡ suc n → 0 + 6 * length l.queue.waiting + seal_calls l.committing l.queue.waiting
-        < pieces_of (suc n) + 4 - calls_made l.arena + 6 * length l.queue.waiting + seal_calls l.committing l.queue.waiting
+        < commit_pieces (suc n) + 4 - calls_made l.arena + 6 * length l.queue.waiting + seal_calls l.committing l.queue.waiting
     less n is = omega (arith, left, is)
 
     at : (ps : List Packed) → l.arena.staged ≡ ps
         → 0 + 6 * length l.queue.waiting + seal_calls l.committing l.queue.waiting
-        < cond (length ps == 0) 0 (pieces_of (length ps) + 4 - calls_made l.arena) + 6 * length l.queue.waiting + seal_calls l.committing l.queue.waiting
+        < cond (length ps == 0) 0 (commit_pieces (length ps) + 4 - calls_made l.arena) + 6 * length l.queue.waiting + seal_calls l.committing l.queue.waiting
     at [] is = absurd (let off = ready is in cc)
     at (p ∷ ps) is = rw (some_test (length ps)) (less (length ps) (ap (λ (q : List Packed). length q) is))
 

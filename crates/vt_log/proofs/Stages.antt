@@ -15,17 +15,17 @@ use Rattle.vt_model.specs.History.{History}
 use Rattle.vt_part.specs.declared.layout.ArenaRegion.{ArenaRegion}
 use Rattle.vt_arena.specs.declared.head.ArenaHead.{ArenaHead}
 use Rattle.vt_arena.specs.declared.head.Found.{Found}
-use Rattle.vt_arena.specs.Arena.{ArenaState, added_by, fits, is_committing, with_staged, with_seal}
+use Rattle.vt_arena.specs.Arena.{ArenaState, added_by_commit, fits, is_committing, with_staged, with_seal}
 use Rattle.vt_arena.specs.Layout.{Content}
-use Rattle.vt_arena.specs.Sound.{IsSound as IsSoundArena}
+use Rattle.vt_arena.specs.Sound.{IsSoundArena}
 use Rattle.vt_arena.proofs.Stage.{stage_sound, resting}
 use Rattle.vt_log.specs.declared.filling.Filling.{Filling}
 use Rattle.vt_log.specs.declared.queue.Waiting.{Waiting}
 use Rattle.vt_log.specs.Log.{LogState, filled_as, found_filling, fits_in, with_room_taken}
-use Rattle.vt_log.specs.Logs.{accepted}
+use Rattle.vt_log.specs.Logs.{accepted_in}
 use Rattle.vt_log.specs.Queue.{QueueState, WaitsFor, waiting_block}
-use Rattle.vt_log.specs.Sound.{IsSound}
-use Rattle.vt_log.specs.Whole.{IsWhole, Fill, turned_to}
+use Rattle.vt_log.specs.Sound.{IsSoundLog}
+use Rattle.vt_log.specs.Whole.{IsWholeLog, Fill, turned_to}
 use Rattle.vt_log.proofs.Fill.{fits_within, turned_arena}
 use Rattle.vt_log.proofs.Lists.{slice_get_other}
 
@@ -43,7 +43,7 @@ turned_same heads arena f same = ⊎_elim
     (λ (t : ((arena == f.arena) ≡ false) × (arena ≢ f.arena)). absurd (t.1 same)) (eqb_tells arena f.arena)
 
 -- the block fits the arena in memory
-pub waiting_fits : {D : Type 0} (disk : DiskOf D) (l : LogState D) (w : Waiting) (ws : List Waiting) → IsWhole disk l
+pub waiting_fits : {D : Type 0} (disk : DiskOf D) (l : LogState D) (w : Waiting) (ws : List Waiting) → IsWholeLog disk l
     → l.queue.waiting ≡ w ∷ ws → w.arena ≡ l.committing → IsTrue (fits l.arena w.packed.len)
 waiting_fits disk l w ws whole is arena =
     let fill = subst (λ (q : List Waiting). Fill l.layout l.heads (filled_as l.committing l.arena.next) q l.filling) is whole.queue in
@@ -58,8 +58,8 @@ waiting_fits disk l w ws whole is arena =
     rw (← len) fit
 
 -- a log in memory stays whole
-pub stage_whole : {D : Type 0} (score_of : List ℕ → List ℕ) (disk : DiskOf D) (l : LogState D) (w : Waiting) (ws : List Waiting) → IsWhole disk l
-    → IsFalse (is_committing l.arena) → l.queue.waiting ≡ w ∷ ws → w.arena ≡ l.committing → IsWhole disk (with_next_staged score_of w.packed ws l)
+pub stage_whole : {D : Type 0} (score_of : List ℕ → List ℕ) (disk : DiskOf D) (l : LogState D) (w : Waiting) (ws : List Waiting) → IsWholeLog disk l
+    → IsFalse (is_committing l.arena) → l.queue.waiting ≡ w ∷ ws → w.arena ≡ l.committing → IsWholeLog disk (with_next_staged score_of w.packed ws l)
 stage_whole score_of disk l w ws whole rest is arena =
     let from : Filling = filled_as l.committing l.arena.next in
     let fill = subst (λ (q : List Waiting). Fill l.layout l.heads from q l.filling) is whole.queue in
@@ -97,8 +97,8 @@ stage_whole score_of disk l w ws whole rest is arena =
 
 -- and the disks sound
 pub stage_log_sound : {D : Type 0} (score_of : List ℕ → List ℕ) (disk : DiskOf D) (l : LogState D) (h : History) (w : Waiting) (ws : List Waiting)
-    → ((block : List ℕ) → length (score_of block) ≡ 20) → IsSound score_of disk l h
-    → IsFalse (is_committing l.arena) → l.queue.waiting ≡ w ∷ ws → w.arena ≡ l.committing → IsSound score_of disk (with_next_staged score_of w.packed ws l) h
+    → ((block : List ℕ) → length (score_of block) ≡ 20) → IsSoundLog score_of disk l h
+    → IsFalse (is_committing l.arena) → l.queue.waiting ≡ w ∷ ws → w.arena ≡ l.committing → IsSoundLog score_of disk (with_next_staged score_of w.packed ws l) h
 stage_log_sound score_of disk l h w ws scores sound rest is arena = record {
   whole = stage_whole score_of disk l w ws sound.whole rest is arena;
   contents = sound.contents;
@@ -110,7 +110,7 @@ stage_log_sound score_of disk l h w ws scores sound rest is arena = record {
   heads = sound.heads;
   selectors = λ i r device found behind at has. sound.selectors i r device found behind (record { arena = at.arena; disk_is = at.disk_is }) has;
   committed = sound.committed;
-  queued = sound.queued ∙ ap (λ (q : List Waiting). map (accepted l.committing) (added_by l.arena) ++ map waiting_block q) is ∙ sym moved;
+  queued = sound.queued ∙ ap (λ (q : List Waiting). map (accepted_in l.committing) (added_by_commit l.arena) ++ map waiting_block q) is ∙ sym moved;
   front = sound.front;
   packed = All-tail (λ (w : Waiting). IsPacked score_of w.packed) w ws packed;
   places = sound.places;
@@ -125,38 +125,38 @@ stage_log_sound score_of disk l h w ws scores sound rest is arena = record {
     well : IsPacked score_of w.packed
     well = All-head (λ (w : Waiting). IsPacked score_of w.packed) w ws packed
 
-    moved : map (accepted l.committing) (map stored_of (l.arena.staged ++ w.packed ∷ [])) ++ map waiting_block ws ≡ map (accepted l.committing) (added_by l.arena) ++ (waiting_block w ∷ map waiting_block ws)
-    moved = ap (λ (q : List Stored). map (accepted l.committing) q ++ map waiting_block ws) (map-append stored_of l.arena.staged (w.packed ∷ []))
-        ∙ ap (λ (q : History). q ++ map waiting_block ws) (map-append (accepted l.committing) (added_by l.arena) (stored_of w.packed ∷ []))
-        ∙ append_assoc (map (accepted l.committing) (added_by l.arena)) (accepted l.committing (stored_of w.packed) ∷ []) (map waiting_block ws)
-        ∙ ap (λ (k : ℕ). map (accepted l.committing) (added_by l.arena) ++ (accepted k (stored_of w.packed) ∷ map waiting_block ws)) (sym arena)
+    moved : map (accepted_in l.committing) (map stored_of (l.arena.staged ++ w.packed ∷ [])) ++ map waiting_block ws ≡ map (accepted_in l.committing) (added_by_commit l.arena) ++ (waiting_block w ∷ map waiting_block ws)
+    moved = ap (λ (q : List Stored). map (accepted_in l.committing) q ++ map waiting_block ws) (map-append stored_of l.arena.staged (w.packed ∷ []))
+        ∙ ap (λ (q : History). q ++ map waiting_block ws) (map-append (accepted_in l.committing) (added_by_commit l.arena) (stored_of w.packed ∷ []))
+        ∙ append_assoc (map (accepted_in l.committing) (added_by_commit l.arena)) (accepted_in l.committing (stored_of w.packed) ∷ []) (map waiting_block ws)
+        ∙ ap (λ (k : ℕ). map (accepted_in l.committing) (added_by_commit l.arena) ++ (accepted_in k (stored_of w.packed) ∷ map waiting_block ws)) (sym arena)
 
 -- the same of a queue that was changed, and of a log that is known by its fields
 same_queue : (q : QueueState) (places : List Place) → q.places ≡ places → record { waiting = q.waiting; places = places } ≡ q
 same_queue q places same = λ i. record { waiting = q.waiting; places = sym same i }
 
-pub staged_whole : {D : Type 0} (score_of : List ℕ → List ℕ) (disk : DiskOf D) (l m : LogState D) (p : Packed) (q : QueueState) → l ≡ m → IsWhole disk l → IsFalse (is_committing m.arena)
+pub staged_whole : {D : Type 0} (score_of : List ℕ → List ℕ) (disk : DiskOf D) (l m : LogState D) (p : Packed) (q : QueueState) → l ≡ m → IsWholeLog disk l → IsFalse (is_committing m.arena)
     → l.queue.waiting ≡ record { arena = l.committing; packed = p } ∷ q.waiting → q.places ≡ l.queue.places
-    → IsWhole disk (record l { arena = with_staged score_of p l.arena; queue = q })
+    → IsWholeLog disk (record l { arena = with_staged score_of p l.arena; queue = q })
 staged_whole {D = D} score_of disk l m p q view whole rest is places =
-    subst (λ (r : QueueState). IsWhole disk (record l { arena = with_staged score_of p l.arena; queue = r })) (same_queue q l.queue.places places)
+    subst (λ (r : QueueState). IsWholeLog disk (record l { arena = with_staged score_of p l.arena; queue = r })) (same_queue q l.queue.places places)
     (stage_whole score_of disk l (record { arena = l.committing; packed = p }) q.waiting whole (subst (λ (k : LogState D). IsFalse (is_committing k.arena)) (sym view) rest) is refl)
 
-pub staged_fits : {D : Type 0} (disk : DiskOf D) (l : LogState D) (p : Packed) (q : QueueState) → IsWhole disk l
+pub staged_fits : {D : Type 0} (disk : DiskOf D) (l : LogState D) (p : Packed) (q : QueueState) → IsWholeLog disk l
     → l.queue.waiting ≡ record { arena = l.committing; packed = p } ∷ q.waiting → IsTrue (fits l.arena p.len)
 staged_fits disk l p q whole is = waiting_fits disk l (record { arena = l.committing; packed = p }) q.waiting whole is refl
 
 pub staged_sound : {D : Type 0} (score_of : List ℕ → List ℕ) (disk : DiskOf D) (l m : LogState D) (h : History) (p : Packed) (q : QueueState) → l ≡ m
-    → ((block : List ℕ) → length (score_of block) ≡ 20) → IsSound score_of disk m h → IsFalse (is_committing m.arena)
+    → ((block : List ℕ) → length (score_of block) ≡ 20) → IsSoundLog score_of disk m h → IsFalse (is_committing m.arena)
     → l.queue.waiting ≡ record { arena = l.committing; packed = p } ∷ q.waiting → q.places ≡ l.queue.places
-    → IsSound score_of disk (record l { arena = with_staged score_of p l.arena; queue = q }) h
+    → IsSoundLog score_of disk (record l { arena = with_staged score_of p l.arena; queue = q }) h
 staged_sound {D = D} score_of disk l m h p q view scores sound rest is places =
-    subst (λ (r : QueueState). IsSound score_of disk (record l { arena = with_staged score_of p l.arena; queue = r }) h) (same_queue q l.queue.places places)
-    (stage_log_sound score_of disk l h (record { arena = l.committing; packed = p }) q.waiting scores (subst (λ (k : LogState D). IsSound score_of disk k h) (sym view) sound)
+    subst (λ (r : QueueState). IsSoundLog score_of disk (record l { arena = with_staged score_of p l.arena; queue = r }) h) (same_queue q l.queue.places places)
+    (stage_log_sound score_of disk l h (record { arena = l.committing; packed = p }) q.waiting scores (subst (λ (k : LogState D). IsSoundLog score_of disk k h) (sym view) sound)
     (subst (λ (k : LogState D). IsFalse (is_committing k.arena)) (sym view) rest) is refl)
 
 -- asking for a seal
-pub waits_for_next : {D : Type 0} (disk : DiskOf D) (l : LogState D) (w : Waiting) (ws : List Waiting) → IsWhole disk l → l.queue.waiting ≡ w ∷ ws
+pub waits_for_next : {D : Type 0} (disk : DiskOf D) (l : LogState D) (w : Waiting) (ws : List Waiting) → IsWholeLog disk l → l.queue.waiting ≡ w ∷ ws
     → ¬ WaitsFor l.committing l.queue.waiting → (w.arena ≡ l.committing + 1) × (l.committing + 1 < length l.layout)
 waits_for_next disk l w ws whole is other =
     let from : Filling = filled_as l.committing l.arena.next in
@@ -169,14 +169,14 @@ waits_for_next disk l w ws whole is other =
     let most : w.arena ≤ l.committing + 1 = fill.1 in
     (omega (arith, least, most, not_this), omega (arith, least, most, not_this, below, there_arena))
 
-pub seal_whole : {D : Type 0} (disk : DiskOf D) (l m : LogState D) → l ≡ m → IsWhole disk l → IsFalse (is_committing m.arena) → 0 < length l.queue.waiting
-    → ¬ WaitsFor l.committing l.queue.waiting → IsWhole disk (record l { arena = with_seal l.arena })
+pub seal_whole : {D : Type 0} (disk : DiskOf D) (l m : LogState D) → l ≡ m → IsWholeLog disk l → IsFalse (is_committing m.arena) → 0 < length l.queue.waiting
+    → ¬ WaitsFor l.committing l.queue.waiting → IsWholeLog disk (record l { arena = with_seal l.arena })
 seal_whole {D = D} disk l m view whole rest some other = at l.queue.waiting refl
   where
     rests : IsFalse (is_committing l.arena)
     rests = subst (λ (k : LogState D). IsFalse (is_committing k.arena)) (sym view) rest
 
-    at : (ws : List Waiting) → l.queue.waiting ≡ ws → IsWhole disk (record l { arena = with_seal l.arena })
+    at : (ws : List Waiting) → l.queue.waiting ≡ ws → IsWholeLog disk (record l { arena = with_seal l.arena })
     at [] is = absurd (omega (arith, some, ap (λ (q : List Waiting). length q) is))
     at (w ∷ ws) is =
         let next = waits_for_next disk l w ws whole is other in
@@ -228,8 +228,8 @@ seal_arena score_of a region old read images rest sound =
     }
 
 pub seal_sound : {D : Type 0} (score_of : List ℕ → List ℕ) (disk : DiskOf D) (l m : LogState D) (h : History) → l ≡ m
-    → IsSound score_of disk m h → IsFalse (is_committing m.arena) → 0 < length l.queue.waiting
-    → ¬ WaitsFor l.committing l.queue.waiting → IsSound score_of disk (record l { arena = with_seal l.arena }) h
+    → IsSoundLog score_of disk m h → IsFalse (is_committing m.arena) → 0 < length l.queue.waiting
+    → ¬ WaitsFor l.committing l.queue.waiting → IsSoundLog score_of disk (record l { arena = with_seal l.arena }) h
 seal_sound {D = D} score_of disk l m h view of_view rest some other = record {
   whole = seal_whole disk l m view sound.whole rest some other;
   contents = sound.contents;
@@ -250,5 +250,5 @@ seal_sound {D = D} score_of disk l m h view of_view rest some other = record {
   arenas = sound.arenas;
 }
   where
-    sound : IsSound score_of disk l h
-    sound = subst (λ (k : LogState D). IsSound score_of disk k h) (sym view) of_view
+    sound : IsSoundLog score_of disk l h
+    sound = subst (λ (k : LogState D). IsSoundLog score_of disk k h) (sym view) of_view

@@ -9,7 +9,7 @@ use Rattle.vt_disk.specs.Members.{DiskOf}
 use Rattle.vt_model.specs.History.{Accepted, History}
 use Rattle.vt_model.specs.Places.{last_arena}
 use Rattle.vt_part.specs.declared.layout.ArenaRegion.{ArenaRegion}
-use Rattle.vt_arena.specs.Arena.{added_by, next_content}
+use Rattle.vt_arena.specs.Arena.{added_by_commit, next_content}
 use Rattle.vt_arena.specs.Layout.{Content, IsArena}
 use Rattle.vt_arena.specs.declared.head.Found.{Found}
 use Rattle.vt_arena.specs.Sound.{HasBegunSelector}
@@ -18,10 +18,10 @@ use Rattle.vt_arena.proofs.Regions.{arena_in_region}
 use Rattle.vt_log.specs.declared.filling.Filling.{Filling}
 use Rattle.vt_log.specs.declared.queue.Waiting.{Waiting}
 use Rattle.vt_log.specs.Log.{LogState}
-use Rattle.vt_log.specs.Logs.{accepted, blocks_from, AreArenas}
+use Rattle.vt_log.specs.Logs.{accepted_in, blocks_from, AreArenas}
 use Rattle.vt_log.specs.Queue.{WaitsFor, waiting_block}
-use Rattle.vt_log.specs.Sound.{IsAt, IsSplit, IsSound, AreImages, StandForPrefix}
-use Rattle.vt_log.specs.Whole.{IsOnDisk, IsWhole, Fill}
+use Rattle.vt_log.specs.Sound.{IsArenaAt, IsSplit, IsSoundLog, AreImagesOf, LogStandsForPrefix}
+use Rattle.vt_log.specs.Whole.{IsOnDisk, IsWholeLog, Fill}
 use Rattle.vt_log.proofs.IsSplit.{split_order, blocks_set, blocks_arenas, last_arena_le, split_set, split_sealed, longer_prefix}
 use Rattle.vt_log.proofs.Fill.{fill_arena, turned_arena}
 use Rattle.vt_log.proofs.Lists.{slice_get_other, at_slice, slice_get_set_same, slice_get_set_other}
@@ -29,9 +29,9 @@ use Rattle.vt_log.proofs.Lists.{slice_get_other, at_slice, slice_get_set_same, s
 -- an arena that there is, and its disk
 pub record IsThere {D : Type 0} (l : LogState D) (i : ℕ) (r : ArenaRegion) : Type 0 where
   pub disk : D
-  pub at : IsAt l i r disk
+  pub at : IsArenaAt l i r disk
 
-pub there : {D : Type 0} (disk : DiskOf D) (l : LogState D) (i : ℕ) (r : ArenaRegion) → IsWhole disk l → slice_get l.layout i ≡ Some r → IsThere l i r
+pub there : {D : Type 0} (disk : DiskOf D) (l : LogState D) (i : ℕ) (r : ArenaRegion) → IsWholeLog disk l → slice_get l.layout i ≡ Some r → IsThere l i r
 there disk l i r whole is =
     let on = at_slice (IsOnDisk disk l.disks) l.layout i r whole.regions is in
     record { disk = on.device; at = record { arena = is; disk_is = on.has } }
@@ -46,12 +46,12 @@ waits_below layout heads from to (w ∷ ws) arena fill waits =
 -- The files stand for what is committed, where each arena is what it was; and for that with what is
 -- staged, where the one that is committed in is what its commit makes of it.
 pub stand_for_prefix : {D : Type 0} (score_of : List ℕ → List ℕ) (disk : DiskOf D) (l : LogState D) (h : History)
-    (files : List (List ℕ)) → (sound : IsSound score_of disk l h) → length files ≡ length l.disks
-    → ((r : ArenaRegion) (device : D) (a : Content) (file : List ℕ) → IsAt l l.committing r device → slice_get sound.contents l.committing ≡ Some a
+    (files : List (List ℕ)) → (sound : IsSoundLog score_of disk l h) → length files ≡ length l.disks
+    → ((r : ArenaRegion) (device : D) (a : Content) (file : List ℕ) → IsArenaAt l l.committing r device → slice_get sound.contents l.committing ≡ Some a
     → slice_get files r.part ≡ Some file → IsArena score_of r.region r.number a file ⊎ IsArena score_of r.region r.number (next_content l.arena a) file)
-    → ((i : ℕ) (r : ArenaRegion) (device : D) (a : Content) (file : List ℕ) → i ≢ l.committing → IsAt l i r device → slice_get sound.contents i ≡ Some a
+    → ((i : ℕ) (r : ArenaRegion) (device : D) (a : Content) (file : List ℕ) → i ≢ l.committing → IsArenaAt l i r device → slice_get sound.contents i ≡ Some a
     → slice_get files r.part ≡ Some file → IsArena score_of r.region r.number a file)
-    → StandForPrefix score_of l files h
+    → LogStandsForPrefix score_of l files h
 stand_for_prefix {D = D} score_of disk l h files sound many gives rest =
     ⊎_elim
     (λ (it : (a : Content) × (l.committing < length sound.contents) × (slice_get sound.contents l.committing ≡ Some a) × (get_or sound.contents l.committing a ≡ a)).
@@ -100,7 +100,7 @@ stand_for_prefix {D = D} score_of disk l h files sound many gives rest =
     }
 
     conclude : (n c : ℕ) (cs : List Content) → l.durable ≤ n → n ≤ length h → take n h ≡ blocks_from 0 cs → IsSplit c cs → c ≤ length cs
-        → l.base ≤ c → c ≤ l.filling.arena → AreArenas score_of l.layout files cs → StandForPrefix score_of l files h
+        → l.base ≤ c → c ≤ l.filling.arena → AreArenas score_of l.layout files cs → LogStandsForPrefix score_of l files h
     conclude n c cs durable inside history split within base most are =
         let order = split_order c cs split within in
         let up_to : last_arena 0 (blocks_from 0 cs) ≤ c = last_arena_le c 0 (blocks_from 0 cs) (omega arith)
@@ -121,13 +121,13 @@ stand_for_prefix {D = D} score_of disk l h files sound many gives rest =
     inside = omega (arith, sound.front)
 
     before : ((q : ArenaRegion) (b : Content) → slice_get l.layout l.committing ≡ Some q → slice_get sound.contents l.committing ≡ Some b
-        → (file : List ℕ) × (slice_get files q.part ≡ Some file) × IsArena score_of q.region q.number b file) → StandForPrefix score_of l files h
+        → (file : List ℕ) × (slice_get files q.part ≡ Some file) × IsArena score_of q.region q.number b file) → LogStandsForPrefix score_of l files h
     before current = conclude l.durable l.committing sound.contents (omega arith) inside sound.committed sound.split (omega (arith, sound.whole.committing, sound.many))
         sound.whole.base below.0 (arenas sound.contents refl (λ i other. refl) current)
 
     after : (a : Content) → slice_get sound.contents l.committing ≡ Some a → l.committing < length sound.contents
         → ((q : ArenaRegion) (b : Content) → slice_get l.layout l.committing ≡ Some q → slice_get (set sound.contents l.committing (next_content l.arena a)) l.committing ≡ Some b
-        → (file : List ℕ) × (slice_get files q.part ≡ Some file) × IsArena score_of q.region q.number b file) → StandForPrefix score_of l files h
+        → (file : List ℕ) × (slice_get files q.part ≡ Some file) × IsArena score_of q.region q.number b file) → LogStandsForPrefix score_of l files h
     after a is within current = sealing l.arena.next.sealed refl
       where
         next : Content
@@ -137,7 +137,7 @@ stand_for_prefix {D = D} score_of disk l h files sound many gives rest =
         cs = set sound.contents l.committing next
 
         added : History
-        added = map (accepted l.committing) (added_by l.arena)
+        added = map (accepted_in l.committing) (added_by_commit l.arena)
 
         long : length cs ≡ length sound.contents
         long = length-set sound.contents l.committing next
@@ -151,13 +151,13 @@ stand_for_prefix {D = D} score_of disk l h files sound many gives rest =
         history : take (l.durable + length added) h ≡ blocks_from 0 cs
         history = longer_prefix h l.durable added (map waiting_block l.queue.waiting) inside sound.queued
             ∙ ap (λ (q : History). q ++ added) sound.committed
-            ∙ ap (λ (k : ℕ). blocks_from 0 sound.contents ++ map (accepted k) (added_by l.arena)) (let e : l.committing ≡ 0 + l.committing = omega arith in e)
-            ∙ sym (blocks_set 0 l.committing sound.contents a next (added_by l.arena) is sound.split.behind refl)
+            ∙ ap (λ (k : ℕ). blocks_from 0 sound.contents ++ map (accepted_in k) (added_by_commit l.arena)) (let e : l.committing ≡ 0 + l.committing = omega arith in e)
+            ∙ sym (blocks_set 0 l.committing sound.contents a next (added_by_commit l.arena) is sound.split.behind refl)
 
         are : AreArenas score_of l.layout files cs
         are = arenas cs long (λ i other. slice_get_set_other sound.contents l.committing i next other) current
 
-        sealing : (b : Bool) → l.arena.next.sealed ≡ b → StandForPrefix score_of l files h
+        sealing : (b : Bool) → l.arena.next.sealed ≡ b → LogStandsForPrefix score_of l files h
         sealing false unsealed = conclude (l.durable + length added) l.committing cs (omega arith) most history
             (split_set l.committing sound.contents next within sound.split unsealed) (omega (arith, long, within)) sound.whole.base below.0 are
         sealing true sealed =
@@ -166,20 +166,20 @@ stand_for_prefix {D = D} score_of disk l h files sound many gives rest =
             (split_sealed l.committing sound.contents next within sound.split sealed) (omega (arith, long, within)) (omega (arith, sound.whole.base)) waits are
 
 -- the arena in memory has the number of the region's arena
-pub number_is : {D : Type 0} (disk : DiskOf D) (l : LogState D) (r : ArenaRegion) → IsWhole disk l → slice_get l.layout l.committing ≡ Some r → l.arena.number ≡ r.number
+pub number_is : {D : Type 0} (disk : DiskOf D) (l : LogState D) (r : ArenaRegion) → IsWholeLog disk l → slice_get l.layout l.committing ≡ Some r → l.arena.number ≡ r.number
 number_is disk l r whole at =
     let found = slice_get_other l.heads l.layout l.committing r (sym whole.many) at in
     (whole.arena r found.0 at found.1).number
 
 -- a region that an arena has
-pub region_long : {D : Type 0} (disk : DiskOf D) (l : LogState D) (i : ℕ) (r : ArenaRegion) (device : D) → IsWhole disk l → IsAt l i r device → 24576 ≤ r.region.len
+pub region_long : {D : Type 0} (disk : DiskOf D) (l : LogState D) (i : ℕ) (r : ArenaRegion) (device : D) → IsWholeLog disk l → IsArenaAt l i r device → 24576 ≤ r.region.len
 region_long disk l i r device whole at =
     let on = at_slice (IsOnDisk disk l.disks) l.layout i r whole.regions at.arena in
     omega (arith, on.region.len.0)
 
 -- between two calls
 pub moment_stands : {D : Type 0} (score_of : List ℕ → List ℕ) (disk : DiskOf D) (l : LogState D) (h : History)
-    (files : List (List ℕ)) → IsSound score_of disk l h → AreImages disk l.disks files → StandForPrefix score_of l files h
+    (files : List (List ℕ)) → IsSoundLog score_of disk l h → AreImagesOf disk l.disks files → LogStandsForPrefix score_of l files h
 moment_stands score_of disk l h files sound left =
     stand_for_prefix score_of disk l h files sound left.many
     (λ r device a file at content of.

@@ -11,25 +11,25 @@ use Rattle.vt_base.specs.declared.place.Info.{Info}
 use Rattle.vt_base.specs.declared.place.Place.{Place}
 use Rattle.vt_clump.specs.declared.packed.Packed.{Packed}
 use Rattle.vt_clump.specs.Clumps.{stored_of}
-use Rattle.vt_clump.specs.Spelling.{Stored, IsStored}
+use Rattle.vt_clump.specs.Spelling.{Stored, IsStoredBlock}
 use Rattle.vt_model.specs.History.{Accepted, History}
 use Rattle.vt_model.specs.Places.{Spot, lengths_in, offset_behind, place_of}
 use Rattle.vt_arena.specs.declared.directory.At.{At}
 use Rattle.vt_arena.specs.declared.head.Found.{Found}
-use Rattle.vt_arena.specs.declared.bad.BackBad.{BackBad}
-use Rattle.vt_arena.specs.declared.bad.BackBad.TheVariants.{Fault, Damaged}
-use Rattle.vt_arena.specs.Directory.{Walks, IsInfo as IsInfoIn, IsAt as IsAtBlock}
+use Rattle.vt_arena.specs.declared.error.BackBad.{BackBad}
+use Rattle.vt_arena.specs.declared.error.BackBad.TheVariants.{Fault, Damaged}
+use Rattle.vt_arena.specs.Directory.{WalksEntry, IsInfoOfBlock, IsAtBlock}
 use Rattle.vt_base.specs.declared.key.Key.{Key}
 use Rattle.vt_disk.specs.Members.{DiskOf}
-use Rattle.vt_arena.specs.Layout.{Content, head_of, used_of}
+use Rattle.vt_arena.specs.Layout.{Content, arena_head, used_of}
 use Rattle.vt_arena.specs.Places.{block_room, lengths_of, offset_of}
 use Rattle.vt_arena.proofs.Layouts.{used-append, used-cons}
-use Rattle.vt_log.specs.Back.{TailState, GivesEntry, IsTailOf, IsBehind, IsQueued, StepsBack, IsNext}
-use Rattle.vt_log.specs.Log.{LogState, setup_of, packed_of}
-use Rattle.vt_log.specs.Logs.{accepted, blocks_from}
+use Rattle.vt_log.specs.Back.{TailState, GivesEntry, IsTailOf, IsTailBehind, IsQueued, StepsBack, IsNextEntry}
+use Rattle.vt_log.specs.Log.{LogState, setup_of_log, packed_of}
+use Rattle.vt_log.specs.Logs.{accepted_in, blocks_from}
 use Rattle.vt_log.specs.Queue.{spot_of}
-use Rattle.vt_log.specs.Sound.{IsSound}
-use Rattle.vt_log.specs.Whole.{IsWhole}
+use Rattle.vt_log.specs.Sound.{IsSoundLog}
+use Rattle.vt_log.specs.Whole.{IsWholeLog}
 use Rattle.vt_log.proofs.IsWhole.{head_small}
 use Rattle.vt_log.proofs.Lists.{slice_get_other, at_slice}
 use Rattle.vt_log.proofs.Places.{blocks_before, take_blocks, block_at, lengths_take, slice_get_there, split_at}
@@ -67,7 +67,7 @@ pub record IsStanding (contents : List Content) (durable : ℕ) (arena index lef
   pub most : left ≤ durable
 
 pub standing : {D : Type 0} (score_of : List ℕ → List ℕ) (disk : DiskOf D) (l : LogState D) (h : History) (t : TailState) (found : Found)
-    → (sound : IsSound score_of disk l h) → IsTailOf l t → t.queued ≡ 0 → slice_get l.heads t.arena ≡ Some found → IsStanding sound.contents l.durable t.arena t.at.index t.left found
+    → (sound : IsSoundLog score_of disk l h) → IsTailOf l t → t.queued ≡ 0 → slice_get l.heads t.arena ≡ Some found → IsStanding sound.contents l.durable t.arena t.at.index t.left found
 standing score_of disk l h t found sound tail none at =
     let whole = sound.whole in
     let many : length l.heads ≡ length sound.contents = omega (arith, whole.many, sound.many) in
@@ -98,28 +98,28 @@ pub record IsFront (h : History) (arena n : ℕ) (stored : List Stored) : Type 0
   pub arenas : All (λ e. e.arena ≤ arena) (take n h)
 
 pub front_is : {D : Type 0} (score_of : List ℕ → List ℕ) (disk : DiskOf D) (l : LogState D) (h : History) (arena j n : ℕ) (a : Content)
-    → (sound : IsSound score_of disk l h) → slice_get sound.contents arena ≡ Some a → j ≤ length a.stored → n ≡ blocks_before arena sound.contents + j → n ≤ l.durable
+    → (sound : IsSoundLog score_of disk l h) → slice_get sound.contents arena ≡ Some a → j ≤ length a.stored → n ≡ blocks_before arena sound.contents + j → n ≤ l.durable
     → IsFront h arena n (take j a.stored)
 front_is score_of disk l h arena j n a sound at most is below =
     let within : l.durable ≤ length h = omega (arith, sound.front) in
     let blocks : History = blocks_from 0 sound.contents in
     let front : take n h ≡ take (blocks_before arena sound.contents + j) blocks =
     sym (front_take h l.durable n below within) ∙ ap (take n) sound.committed ∙ ap (λ (k : ℕ). take k blocks) is in
-    let parts : take n h ≡ blocks_from 0 (take arena sound.contents) ++ map (accepted (0 + arena)) (take j a.stored) = front ∙ take_blocks 0 sound.contents arena a j at most in
+    let parts : take n h ≡ blocks_from 0 (take arena sound.contents) ++ map (accepted_in (0 + arena)) (take j a.stored) = front ∙ take_blocks 0 sound.contents arena a j at most in
     let inside = slice_get_within sound.contents arena a at in
     record {
       lengths = ap (lengths_in arena) front ∙ lengths_take sound.contents arena a j at most;
       arenas = subst (All (λ (e : Accepted). e.arena ≤ arena)) (sym parts)
-          (All-append (λ (e : Accepted). e.arena ≤ arena) (blocks_from 0 (take arena sound.contents)) (map (accepted (0 + arena)) (take j a.stored))
+          (All-append (λ (e : Accepted). e.arena ≤ arena) (blocks_from 0 (take arena sound.contents)) (map (accepted_in (0 + arena)) (take j a.stored))
           (All-weaker (λ (e : Accepted). e.arena < 0 + length (take arena sound.contents)) (λ (e : Accepted). e.arena ≤ arena)
           (λ e less. omega (arith, less, length-take-le arena sound.contents (omega (arith, inside)))) (blocks_from 0 (take arena sound.contents)) (blocks_below 0 (take arena sound.contents)))
-          (All-map (λ (e : Accepted). e.arena ≤ arena) (accepted (0 + arena)) (take j a.stored) (λ i s lt. omega arith)));
+          (All-map (λ (e : Accepted). e.arena ≤ arena) (accepted_in (0 + arena)) (take j a.stored) (λ i s lt. omega arith)));
     }
 
 -- a walk that comes to an arena has all of its blocks before it
 pub turned_behind : {D : Type 0} (score_of : List ℕ → List ℕ) (disk : DiskOf D) (l : LogState D) (h : History) (n : ℕ) (t : TailState) (found : Found)
-    → IsSound score_of disk l h → IsTailOf l t → t.queued ≡ 0 → t.left ≡ n → slice_get l.heads t.arena ≡ Some found → t.at ≡ record { index = found.head.clumps; end = found.head.used }
-    → IsBehind l h n t
+    → IsSoundLog score_of disk l h → IsTailOf l t → t.queued ≡ 0 → t.left ≡ n → slice_get l.heads t.arena ≡ Some found → t.at ≡ record { index = found.head.clumps; end = found.head.used }
+    → IsTailBehind l h n t
 turned_behind score_of disk l h n t found sound tail none left at start =
     let it = standing score_of disk l h t found sound tail none at in
     let within : l.durable ≤ length h = omega (arith, sound.front) in
@@ -147,11 +147,11 @@ pub record IsAtLast {D : Type 0} (score_of : List ℕ → List ℕ) (disk : Disk
   pub behind : List Stored
   pub stored : Stored
   pub is : HasContent score_of disk l t.arena content
-  pub head : found.head ≡ head_of score_of is.r.number content
+  pub head : found.head ≡ arena_head score_of is.r.number content
   pub split : content.stored ≡ before ++ stored ∷ behind
   pub at : IsAtBlock before stored t.at
-  pub block : slice_get h number ≡ Some (accepted t.arena stored)
-  pub place : place_of (setup_of l) h number ≡ Some (record { arena = t.arena; offset = offset_of before })
+  pub block : slice_get h number ≡ Some (accepted_in t.arena stored)
+  pub place : place_of (setup_of_log l) h number ≡ Some (record { arena = t.arena; offset = offset_of before })
   pub scored : stored.score ≡ score_of stored.block
   pub front : IsFront h t.arena number before
   pub inside : number < l.durable
@@ -165,7 +165,7 @@ take_push {X = X} xs i x at =
     take_more xs i x (slice_get_within xs i x at) ∙ ap (λ (y : X). take i xs ++ y ∷ []) (get_or_from_slice_get xs i x x at)
 
 pub at_last : {D : Type 0} (score_of : List ℕ → List ℕ) (disk : DiskOf D) (l : LogState D) (h : History) (n : ℕ) (t : TailState) (found : Found)
-    → IsSound score_of disk l h → IsTailOf l t → t.queued ≡ 0 → slice_get l.heads t.arena ≡ Some found → 0 < t.at.index → IsBehind l h n t → ((device : D) → disk.images device (disk.bytes device))
+    → IsSoundLog score_of disk l h → IsTailOf l t → t.queued ≡ 0 → slice_get l.heads t.arena ≡ Some found → 0 < t.at.index → IsTailBehind l h n t → ((device : D) → disk.images device (disk.bytes device))
     → IsAtLast score_of disk l h n t found
 at_last score_of disk l h n t found sound tail none at some behind reads =
     let it = standing score_of disk l h t found sound tail none at in
@@ -179,17 +179,17 @@ at_last score_of disk l h n t found sound tail none at some behind reads =
     let count : m ≡ blocks_before t.arena sound.contents + j = omega (arith, it.count, index, last) in
     let below : m < l.durable = omega (arith, it.most, last) in
     let own : 0 + t.arena ≡ t.arena = omega arith in
-    let block : slice_get h m ≡ Some (accepted t.arena s.0) =
+    let block : slice_get h m ≡ Some (accepted_in t.arena s.0) =
     sym (front_same h l.durable m below within) ∙ ap (λ (g : History). slice_get g m) sound.committed ∙ ap (slice_get (blocks_from 0 sound.contents)) count
-    ∙ block_at 0 sound.contents t.arena it.content j s.0 it.at s.1 ∙ ap (λ (k : ℕ). Some (accepted k s.0)) own in
+    ∙ block_at 0 sound.contents t.arena it.content j s.0 it.at s.1 ∙ ap (λ (k : ℕ). Some (accepted_in k s.0)) own in
     let front = front_is score_of disk l h t.arena j m it.content sound it.at (omega (arith, index, it.within)) count (omega (arith, below)) in
     let all = front_is score_of disk l h t.arena t.at.index t.left it.content sound it.at it.within it.count it.most in
     let few : min n l.durable ≡ t.left = omega (arith, behind.left, it.most) in
     let end : t.at.end ≡ used_of (take (j + 1) stored) =
     behind.end ∙ ap (λ (k : ℕ). sum_by block_room (lengths_in t.arena (take k h))) few ∙ ap (λ (ls : List ℕ). sum_by block_room ls) all.lengths ∙ ap (λ (k : ℕ). used_of (take k stored)) (sym index) in
     let is = has_content score_of disk l h sound t.arena it.content it.at reads in
-    let spot : Accepted → Spot = λ (x : Accepted). record { arena = x.arena; offset = offset_behind (setup_of l) x.arena (lengths_in x.arena (take m h)) } in
-    let placed : place_of (setup_of l) h m ≡ Some (spot (accepted t.arena s.0)) = ap (option_map spot) block in
+    let spot : Accepted → Spot = λ (x : Accepted). record { arena = x.arena; offset = offset_behind (setup_of_log l) x.arena (lengths_in x.arena (take m h)) } in
+    let placed : place_of (setup_of_log l) h m ≡ Some (spot (accepted_in t.arena s.0)) = ap (option_map spot) block in
     record {
       number = m;
       number_is = omega (arith, last, behind.left);
@@ -205,8 +205,8 @@ at_last score_of disk l h n t found sound tail none at some behind reads =
         end = end ∙ ap used_of (take_push stored j s.0 s.1) ∙ used_push (take j stored) s.0;
       };
       block = block;
-      place = placed ∙ ap (λ (ls : List ℕ). Some (record { arena = t.arena; offset = offset_behind (setup_of l) t.arena ls })) front.lengths;
-      scored = (at_slice (IsStored score_of) stored j s.0 is.content.stored s.1).scored;
+      place = placed ∙ ap (λ (ls : List ℕ). Some (record { arena = t.arena; offset = offset_behind (setup_of_log l) t.arena ls })) front.lengths;
+      scored = (at_slice (IsStoredBlock score_of) stored j s.0 is.content.stored s.1).scored;
       front = front;
       inside = below;
       within = omega (arith, below, within);
@@ -214,7 +214,7 @@ at_last score_of disk l h n t found sound tail none at some behind reads =
 
 -- the block that a walk gives from the queue
 pub queue_steps : {D : Type 0} (score_of : List ℕ → List ℕ) (disk : DiskOf D) (l : LogState D) (h : History) (n : ℕ) (t new : TailState) (p : Packed) (place : Place) (info : Info)
-    → IsSound score_of disk l h → IsBehind l h n t → IsQueued p place t.left info → slice_get (packed_of l) new.queued ≡ Some p → slice_get l.queue.places new.queued ≡ Some place
+    → IsSoundLog score_of disk l h → IsTailBehind l h n t → IsQueued p place t.left info → slice_get (packed_of l) new.queued ≡ Some p → slice_get l.queue.places new.queued ≡ Some place
     → new.queued + 1 ≡ t.queued → new.left + 1 ≡ t.left → new.arena ≡ t.arena → new.at ≡ t.at → StepsBack score_of l h n new (Some info)
 queue_steps score_of disk l h n t new p place info sound behind is packed placed queue left arena at =
     let q = queued_as score_of disk l h sound new.queued p packed in
@@ -223,13 +223,13 @@ queue_steps score_of disk l h n t new p place info sound behind is packed placed
       new.left,
       omega (arith, left, behind.left),
       record {
-        block = accepted q.arena (stored_of p);
-        at = subst (λ (k : ℕ). slice_get h k ≡ Some (accepted q.arena (stored_of p))) number q.block;
+        block = accepted_in q.arena (stored_of p);
+        at = subst (λ (k : ℕ). slice_get h k ≡ Some (accepted_in q.arena (stored_of p))) number q.block;
         kind = is.kind ∙ q.packed.kind;
         score = ap (λ (s : _). s.0) is.score ∙ q.packed.score ∙ q.packed.stored.scored;
         size = is.size ∙ q.packed.len;
-        place = subst (λ (k : ℕ). place_of (setup_of l) h k ≡ Some (spot_of info.place)) number
-            (subst (λ (x : Place). place_of (setup_of l) h (l.durable + new.queued) ≡ Some (spot_of x)) (sym is.place_is) (sound.places new.queued place placed));
+        place = subst (λ (k : ℕ). place_of (setup_of_log l) h k ≡ Some (spot_of info.place)) number
+            (subst (λ (x : Place). place_of (setup_of_log l) h (l.durable + new.queued) ≡ Some (spot_of x)) (sym is.place_is) (sound.places new.queued place placed));
         number = omega (arith, is.number, left);
       },
       record {
@@ -248,7 +248,7 @@ queue_steps score_of disk l h n t new p place info sound behind is packed placed
 
 -- and the one that it gives from an arena
 pub arena_steps : {D : Type 0} (score_of : List ℕ → List ℕ) (disk : DiskOf D) (l : LogState D) (h : History) (n : ℕ) (t new : TailState) (found : Found) (entry info : Info)
-    → (last : IsAtLast score_of disk l h n t found) → IsInfoIn last.is.r.number last.before last.stored entry → t.queued ≡ 0
+    → (last : IsAtLast score_of disk l h n t found) → IsInfoOfBlock last.is.r.number last.before last.stored entry → t.queued ≡ 0
     → new.at.index + 1 ≡ t.at.index → new.at.end + block_room entry.size ≡ t.at.end → new.left + 1 ≡ n → new.queued ≡ t.queued → new.arena ≡ t.arena
     → info ≡ record { key = entry.key; size = entry.size; place = record { arena = t.arena; offset = entry.place.offset }; number = new.left }
     → StepsBack score_of l h n new (Some info)
@@ -260,12 +260,12 @@ arena_steps score_of disk l h n t new found entry info last is none index end le
       new.left,
       left,
       record {
-        block = accepted t.arena last.stored;
-        at = subst (λ (k : ℕ). slice_get h k ≡ Some (accepted t.arena last.stored)) number last.block;
+        block = accepted_in t.arena last.stored;
+        at = subst (λ (k : ℕ). slice_get h k ≡ Some (accepted_in t.arena last.stored)) number last.block;
         kind = ap (λ (x : Info). x.key.kind) info_is ∙ is.kind;
         score = ap (λ (x : Info). x.key.score.0) info_is ∙ is.score ∙ last.scored;
         size = ap (λ (x : Info). x.size) info_is ∙ is.size;
-        place = subst (λ (k : ℕ). place_of (setup_of l) h k ≡ Some (spot_of info.place)) number
+        place = subst (λ (k : ℕ). place_of (setup_of_log l) h k ≡ Some (spot_of info.place)) number
             (last.place ∙ ap (λ (k : ℕ). Some (record { arena = t.arena; offset = k })) (sym is.offset) ∙ ap (λ (x : Info). Some (spot_of x.place)) (sym info_is));
         number = ap (λ (x : Info). x.number) info_is;
       },
@@ -352,7 +352,7 @@ skip_more l from t new found so some zero_left below at left queue start =
           (cases_eq i t.arena);
     }
 
-pub skip_next : {D : Type 0} (l : LogState D) (from t : TailState) → IsSkipped l from t → 0 < t.at.index → IsNext l.heads from t.arena t.at
+pub skip_next : {D : Type 0} (l : LogState D) (from t : TailState) → IsSkipped l from t → 0 < t.at.index → IsNextEntry l.heads from t.arena t.at
 skip_next l from t so some = record {
   some = some;
   here = λ there. ⊎_elim (λ (is : (t.arena ≡ from.arena) × (t.at ≡ from.at)). is) (λ (is : (from.at.index ≡ 0) × (t.arena < from.arena) × _). absurd (omega (arith, is.0, there))) so.here;
@@ -364,7 +364,7 @@ skip_next l from t so some = record {
 }
 
 pub skip_behind : {D : Type 0} (score_of : List ℕ → List ℕ) (disk : DiskOf D) (l : LogState D) (h : History) (n : ℕ) (from t : TailState)
-    → IsTailOf l from → from.queued ≡ 0 → IsSkipped l from t → IsSound score_of disk l h → IsBehind l h n from → IsBehind l h n t
+    → IsTailOf l from → from.queued ≡ 0 → IsSkipped l from t → IsSoundLog score_of disk l h → IsTailBehind l h n from → IsTailBehind l h n t
 skip_behind score_of disk l h n from t tail none so sound behind = ⊎_elim
     (λ (is : (t.arena ≡ from.arena) × (t.at ≡ from.at)). record {
       left = so.left ∙ behind.left;
@@ -380,7 +380,7 @@ skip_behind score_of disk l h n from t tail none so sound behind = ⊎_elim
     so.here
 
 -- one entry alone is the next
-pub next_once : (heads : List Found) (t : TailState) (a b : ℕ) (at bt : At) (fa fb : Found) → slice_get heads a ≡ Some fa → slice_get heads b ≡ Some fb → IsNext heads t a at → IsNext heads t b bt → (a ≡ b) × (at ≡ bt)
+pub next_once : (heads : List Found) (t : TailState) (a b : ℕ) (at bt : At) (fa fb : Found) → slice_get heads a ≡ Some fa → slice_get heads b ≡ Some fb → IsNextEntry heads t a at → IsNextEntry heads t b bt → (a ≡ b) × (at ≡ bt)
 next_once heads t a b at bt fa fb has_a has_b next_a next_b = ⊎_elim
     (λ (here : 0 < t.at.index). ((next_a.here here).0 ∙ sym (next_b.here here).0, (next_a.here here).1 ∙ sym (next_b.here here).1))
     (λ (none : t.at.index ≤ 0).
@@ -399,7 +399,7 @@ next_once heads t a b at bt fa fb has_a has_b next_a next_b = ⊎_elim
     (cases_lt 0 t.at.index)
 
 -- and there is none where no block is left
-pub no_next : {D : Type 0} (l : LogState D) (t : TailState) (a : ℕ) (at : At) (found : Found) → IsTailOf l t → t.left ≡ 0 → slice_get l.heads a ≡ Some found → IsNext l.heads t a at → ⊥
+pub no_next : {D : Type 0} (l : LogState D) (t : TailState) (a : ℕ) (at : At) (found : Found) → IsTailOf l t → t.left ≡ 0 → slice_get l.heads a ≡ Some found → IsNextEntry l.heads t a at → ⊥
 no_next l t a at found tail none has next = ⊎_elim
     (λ (here : 0 < t.at.index). absurd (omega (arith, here, tail.left, none)))
     (λ (zero : t.at.index ≤ 0).
@@ -411,11 +411,11 @@ no_next l t a at found tail none has next = ⊎_elim
     (cases_lt 0 t.at.index)
 
 -- what is given of an entry
-pub gives_bad : (number arena left used : ℕ) (at : At) (entry : List ℕ) (bad : BackBad) → Walks number used at entry (Err bad) → GivesEntry arena left used at entry (Err bad)
+pub gives_bad : (number arena left used : ℕ) (at : At) (entry : List ℕ) (bad : BackBad) → WalksEntry number used at entry (Err bad) → GivesEntry arena left used at entry (Err bad)
 gives_bad number arena left used at entry Fault walks = tt
 gives_bad number arena left used at entry (Damaged want found) walks = walks
 
-pub gives_info : (number arena left used : ℕ) (at : At) (entry : List ℕ) (read info : Info) → Walks number used at entry (Ok read) → info.number + 1 ≡ left
+pub gives_info : (number arena left used : ℕ) (at : At) (entry : List ℕ) (read info : Info) → WalksEntry number used at entry (Ok read) → info.number + 1 ≡ left
     → info.key ≡ read.key → info.size ≡ read.size → info.place.offset ≡ read.place.offset → info.place.arena ≡ arena → GivesEntry arena left used at entry (Ok (Some info))
 gives_info number arena left used at entry read info walks many key size offset place = (
   walks.0,
@@ -438,7 +438,7 @@ tail_inside l t tail some = ⊎_elim
     (cases_lt t.arena (length l.heads))
 
 -- the place before a walk is a small one
-pub tail_small : {D : Type 0} (disk : DiskOf D) (l : LogState D) (t : TailState) → IsWhole disk l → IsTailOf l t → t.at.end ≤ 2 ^ 30
+pub tail_small : {D : Type 0} (disk : DiskOf D) (l : LogState D) (t : TailState) → IsWholeLog disk l → IsTailOf l t → t.at.end ≤ 2 ^ 30
 tail_small disk l t whole tail = ⊎_elim
     (λ (less : t.arena < length l.heads).
     let found = slice_get_there l.heads t.arena less in

@@ -10,19 +10,19 @@ use Rattle.vt_base.specs.declared.place.Place.{Place}
 use Rattle.vt_disk.specs.Members.{DiskOf}
 use Rattle.vt_clump.specs.declared.packed.Packed.{Packed}
 use Rattle.vt_clump.specs.Clumps.{IsPacked, stored_of}
-use Rattle.vt_clump.specs.Spelling.{Stored, IsStored, size_in}
+use Rattle.vt_clump.specs.Spelling.{Stored, IsStoredBlock, size_in}
 use Rattle.vt_model.specs.History.{Accepted, History}
 use Rattle.vt_model.specs.Places.{Setup, Spot, StandsAt, lengths_in, offset_behind, place_of}
 use Rattle.vt_model.proofs.Spots.{behind_earlier}
 use Rattle.vt_part.specs.declared.layout.ArenaRegion.{ArenaRegion}
 use Rattle.vt_arena.specs.declared.head.Found.{Found}
-use Rattle.vt_arena.specs.Layout.{Content, IsContent, HasBlocks, head_of}
+use Rattle.vt_arena.specs.Layout.{Content, IsArenaContent, HasBlocks, arena_head}
 use Rattle.vt_arena.specs.Places.{lengths_of, offset_of}
 use Rattle.vt_log.specs.declared.queue.Waiting.{Waiting}
-use Rattle.vt_log.specs.Log.{LogState, setup_of, packed_of}
-use Rattle.vt_log.specs.Logs.{accepted, blocks_from}
+use Rattle.vt_log.specs.Log.{LogState, setup_of_log, packed_of}
+use Rattle.vt_log.specs.Logs.{accepted_in, blocks_from}
 use Rattle.vt_log.specs.Queue.{IsNowhere, spot_of, waiting_block}
-use Rattle.vt_log.specs.Sound.{IsAt, IsSound}
+use Rattle.vt_log.specs.Sound.{IsArenaAt, IsSoundLog}
 use Rattle.vt_log.proofs.StandForPrefix.{there}
 use Rattle.vt_log.proofs.Lists.{slice_get_other, at_slice, slice_get_left, slice_get_drop}
 use Rattle.vt_log.proofs.Places.{blocks_before, block_of, block_at, lengths_take, slice_get_there, split_at}
@@ -55,24 +55,24 @@ place_once c h i j s at_i at_j =
 -- a queued clump is a block of the queue
 queue_at : (score_of : List ℕ → List ℕ) (c : ℕ) (staged : List Packed) (waiting : List Waiting) (i : ℕ) (p : Packed) → All (IsPacked score_of) staged
     → All (λ w. IsPacked score_of w.packed) waiting → slice_get (staged ++ map (λ w. w.packed) waiting) i ≡ Some p
-    → (a : ℕ) × (slice_get (map (accepted c) (map stored_of staged) ++ map waiting_block waiting) i ≡ Some (accepted a (stored_of p))) × IsPacked score_of p
+    → (a : ℕ) × (slice_get (map (accepted_in c) (map stored_of staged) ++ map waiting_block waiting) i ≡ Some (accepted_in a (stored_of p))) × IsPacked score_of p
 queue_at score_of c [] [] i p ready waits at = absurd (cc)
 queue_at score_of c [] (w ∷ waiting) zero p ready waits at =
     let same : w.packed ≡ p = same_Some w.packed p at in
     let packed : IsPacked score_of w.packed = All-head (λ (w : Waiting). IsPacked score_of w.packed) w waiting waits in
-    (w.arena, ap (λ (q : Packed). Some (accepted w.arena (stored_of q))) same, subst (IsPacked score_of) same packed)
+    (w.arena, ap (λ (q : Packed). Some (accepted_in w.arena (stored_of q))) same, subst (IsPacked score_of) same packed)
 queue_at score_of c [] (w ∷ waiting) (suc i) p ready waits at =
     queue_at score_of c [] waiting i p ready (All-tail (λ (w : Waiting). IsPacked score_of w.packed) w waiting waits) at
 queue_at score_of c (q ∷ staged) waiting zero p ready waits at =
     let same : q ≡ p = same_Some q p at in
-    (c, ap (λ (q : Packed). Some (accepted c (stored_of q))) same, subst (IsPacked score_of) same (All-head (IsPacked score_of) q staged ready))
+    (c, ap (λ (q : Packed). Some (accepted_in c (stored_of q))) same, subst (IsPacked score_of) same (All-head (IsPacked score_of) q staged ready))
 queue_at score_of c (q ∷ staged) waiting (suc i) p ready waits at =
     queue_at score_of c staged waiting i p (All-tail (IsPacked score_of) q staged ready) waits at
 
 -- block `i` of the history is this queued clump
 pub record IsQueuedAs {D : Type 0} (score_of : List ℕ → List ℕ) (l : LogState D) (h : History) (index : ℕ) (p : Packed) : Type 0 where
   pub arena : ℕ
-  pub block : slice_get h (l.durable + index) ≡ Some (accepted arena (stored_of p))
+  pub block : slice_get h (l.durable + index) ≡ Some (accepted_in arena (stored_of p))
   pub packed : IsPacked score_of p
   pub bytes : drop 38 p.bytes ≡ (stored_of p).block
 
@@ -90,7 +90,7 @@ pub record IsCommitted (contents : List Content) (h : History) (i : ℕ) (e : Ac
   pub stored : Stored
   pub at : slice_get contents e.arena ≡ Some content
   pub has : slice_get content.stored index ≡ Some stored
-  pub block : e ≡ accepted e.arena stored
+  pub block : e ≡ accepted_in e.arena stored
   pub count : i ≡ blocks_before e.arena contents + index
   pub lengths : lengths_in e.arena (take i h) ≡ lengths_of (take index content.stored)
 
@@ -108,10 +108,10 @@ front_take xs n i below within =
 pub record HasContent {D : Type 0} (score_of : List ℕ → List ℕ) (disk : DiskOf D) (l : LogState D) (arena : ℕ) (a : Content) : Type 0 where
   pub r : ArenaRegion
   pub device : D
-  pub at : IsAt l arena r device
-  pub content : IsContent score_of r.region.len a
+  pub at : IsArenaAt l arena r device
+  pub content : IsArenaContent score_of r.region.len a
   pub stand : HasBlocks r.region a.stored (disk.bytes device)
-  pub head : (found : Found) → slice_get l.heads arena ≡ Some found → found.head ≡ head_of score_of r.number a
+  pub head : (found : Found) → slice_get l.heads arena ≡ Some found → found.head ≡ arena_head score_of r.number a
 
 -- the block whose place is none of the queue's stands there in its arena
 pub record IsStoredAt {D : Type 0} (score_of : List ℕ → List ℕ) (disk : DiskOf D) (l : LogState D) (place : Place) (e : Accepted) : Type 0 where
@@ -122,12 +122,12 @@ pub record IsStoredAt {D : Type 0} (score_of : List ℕ → List ℕ) (disk : Di
   pub is : HasContent score_of disk l place.arena content
   pub split : content.stored ≡ before ++ stored ∷ behind
   pub offset : place.offset ≡ offset_of before
-  pub block : e ≡ accepted place.arena stored
+  pub block : e ≡ accepted_in place.arena stored
   pub scored : stored.score ≡ score_of stored.block
 
 -- ---- where disks are sound for a history
 
-module _ {D : Type 0} (score_of : List ℕ → List ℕ) (disk : DiskOf D) (l : LogState D) (h : History) (sound : IsSound score_of disk l h) where
+module _ {D : Type 0} (score_of : List ℕ → List ℕ) (disk : DiskOf D) (l : LogState D) (h : History) (sound : IsSoundLog score_of disk l h) where
   -- what is staged is packed
   pub staged_packed : All (IsPacked score_of) l.arena.staged
   staged_packed = ⊎_elim
@@ -152,13 +152,13 @@ module _ {D : Type 0} (score_of : List ℕ → List ℕ) (disk : DiskOf D) (l : 
       }
 
   -- a block whose place is none of the queue's is committed
-  pub is_durable : (i : ℕ) (place : Place) → i < length h → place_of (setup_of l) h i ≡ Some (spot_of place) → IsNowhere l.queue.places place → i < l.durable
+  pub is_durable : (i : ℕ) (place : Place) → i < length h → place_of (setup_of_log l) h i ≡ Some (spot_of place) → IsNowhere l.queue.places place → i < l.durable
   is_durable i place below at nowhere = ⊎_elim
       (λ (less : i < l.durable). less)
       (λ (behind : l.durable ≤ i).
       let q = slice_get_there l.queue.places (i - l.durable) (omega (arith, behind, below, sound.front)) in
       let k : l.durable + (i - l.durable) ≡ i = omega (arith, behind) in
-      let other : place_of (setup_of l) h i ≡ Some (spot_of q.0) = subst (λ (n : ℕ). place_of (setup_of l) h n ≡ Some (spot_of q.0)) k (sound.places (i - l.durable) q.0 q.1) in
+      let other : place_of (setup_of_log l) h i ≡ Some (spot_of q.0) = subst (λ (n : ℕ). place_of (setup_of_log l) h n ≡ Some (spot_of q.0)) k (sound.places (i - l.durable) q.0 q.1) in
       let spots : spot_of q.0 ≡ spot_of place = same_Some (spot_of q.0) (spot_of place) (sym other ∙ at) in
       let back : Spot → Place = λ (s : Spot). record { arena = s.arena; offset = s.offset } in
       let same : q.0 ≡ place = ap back spots in
@@ -170,11 +170,11 @@ module _ {D : Type 0} (score_of : List ℕ → List ℕ) (disk : DiskOf D) (l : 
       let within : l.durable ≤ length h = omega (arith, sound.front) in
       let many : i < length (blocks_from 0 sound.contents) = omega (arith, below, within, length-take-le l.durable h within, ap (λ (g : History). length g) sound.committed) in
       let it = block_of 0 sound.contents i many in
-      let is : Some e ≡ Some (accepted (0 + it.arena) it.stored) =
+      let is : Some e ≡ Some (accepted_in (0 + it.arena) it.stored) =
       sym at ∙ sym (front_same h l.durable i below within) ∙ ap (λ (g : History). slice_get g i) sound.committed
       ∙ ap (slice_get (blocks_from 0 sound.contents)) it.is ∙ block_at 0 sound.contents it.arena it.content it.index it.stored it.at it.has in
       let own : 0 + it.arena ≡ it.arena = omega arith in
-      let block : e ≡ accepted it.arena it.stored = same_Some e (accepted it.arena it.stored) (is ∙ ap (λ (n : ℕ). Some (accepted n it.stored)) own) in
+      let block : e ≡ accepted_in it.arena it.stored = same_Some e (accepted_in it.arena it.stored) (is ∙ ap (λ (n : ℕ). Some (accepted_in n it.stored)) own) in
       let arena : it.arena ≡ e.arena = sym (ap (λ (x : Accepted). x.arena) block) in
       let lengths : lengths_in it.arena (take i h) ≡ lengths_of (take it.index it.content.stored) =
       ap (lengths_in it.arena) (sym (front_take h l.durable i (omega (arith, below)) within) ∙ ap (take i) sound.committed)
@@ -186,7 +186,7 @@ module _ {D : Type 0} (score_of : List ℕ → List ℕ) (disk : DiskOf D) (l : 
         stored = it.stored;
         at = subst (λ (n : ℕ). slice_get sound.contents n ≡ Some it.content) arena it.at;
         has = it.has;
-        block = subst (λ (n : ℕ). e ≡ accepted n it.stored) arena block;
+        block = subst (λ (n : ℕ). e ≡ accepted_in n it.stored) arena block;
         count = subst (λ (n : ℕ). i ≡ blocks_before n sound.contents + it.index) arena it.is;
         lengths = subst (λ (n : ℕ). lengths_in n (take i h) ≡ lengths_of (take it.index it.content.stored)) arena lengths;
       }
@@ -195,9 +195,9 @@ module _ {D : Type 0} (score_of : List ℕ → List ℕ) (disk : DiskOf D) (l : 
   has_content arena a at reads =
       let r = slice_get_other l.layout sound.contents arena a sound.many at in
       let it = there disk l arena r.0 sound.whole r.1 in
-      let both : IsContent score_of r.0.region.len a × HasBlocks r.0.region a.stored (disk.bytes it.disk) = ⊎_elim
+      let both : IsArenaContent score_of r.0.region.len a × HasBlocks r.0.region a.stored (disk.bytes it.disk) = ⊎_elim
       (λ (same : arena ≡ l.committing).
-      let arena_at : IsAt l l.committing r.0 it.disk = subst (λ (n : ℕ). IsAt l n r.0 it.disk) same it.at in
+      let arena_at : IsArenaAt l l.committing r.0 it.disk = subst (λ (n : ℕ). IsArenaAt l n r.0 it.disk) same it.at in
       let current = sound.current r.0 it.disk a arena_at (subst (λ (n : ℕ). slice_get sound.contents n ≡ Some a) same at) in
       (current.content, current.kept (disk.bytes it.disk) (reads it.disk)))
       (λ (other : arena ≢ l.committing).
@@ -213,16 +213,16 @@ module _ {D : Type 0} (score_of : List ℕ → List ℕ) (disk : DiskOf D) (l : 
         head = λ found has. sound.heads arena r.0 found a r.1 has at;
       }
 
-  pub stored_at : (i : ℕ) (e : Accepted) (place : Place) → slice_get h i ≡ Some e → place_of (setup_of l) h i ≡ Some (spot_of place) → IsNowhere l.queue.places place
+  pub stored_at : (i : ℕ) (e : Accepted) (place : Place) → slice_get h i ≡ Some e → place_of (setup_of_log l) h i ≡ Some (spot_of place) → IsNowhere l.queue.places place
       → ((device : D) → disk.images device (disk.bytes device)) → IsStoredAt score_of disk l place e
   stored_at i e place at placed nowhere reads =
       let below = is_durable i place (slice_get_within h i e at) placed nowhere in
       let it = committed i e at below in
-      let spot : Accepted → Spot = λ (x : Accepted). record { arena = x.arena; offset = offset_behind (setup_of l) x.arena (lengths_in x.arena (take i h)) } in
+      let spot : Accepted → Spot = λ (x : Accepted). record { arena = x.arena; offset = offset_behind (setup_of_log l) x.arena (lengths_in x.arena (take i h)) } in
       let spots : spot e ≡ spot_of place = same_Some (spot e) (spot_of place) (sym (ap (option_map spot) at) ∙ placed) in
       let arena : e.arena ≡ place.arena = ap (λ (s : Spot). s.arena) spots in
       let offset : place.offset ≡ offset_of (take it.index it.content.stored) =
-      sym (ap (λ (s : Spot). s.offset) spots) ∙ ap (offset_behind (setup_of l) e.arena) it.lengths in
+      sym (ap (λ (s : Spot). s.offset) spots) ∙ ap (offset_behind (setup_of_log l) e.arena) it.lengths in
       let is = has_content e.arena it.content it.at reads in
       record {
         content = it.content;
@@ -232,6 +232,6 @@ module _ {D : Type 0} (score_of : List ℕ → List ℕ) (disk : DiskOf D) (l : 
         is = subst (λ (n : ℕ). HasContent score_of disk l n it.content) arena is;
         split = split_at it.content.stored it.index it.stored it.has;
         offset = offset;
-        block = subst (λ (n : ℕ). e ≡ accepted n it.stored) arena it.block;
-        scored = (at_slice (IsStored score_of) it.content.stored it.index it.stored is.content.stored it.has).scored;
+        block = subst (λ (n : ℕ). e ≡ accepted_in n it.stored) arena it.block;
+        scored = (at_slice (IsStoredBlock score_of) it.content.stored it.index it.stored is.content.stored it.has).scored;
       }

@@ -14,30 +14,30 @@ use Rattle.vt_model.specs.Places.{next_arena, place_of}
 use Rattle.vt_part.specs.declared.layout.ArenaRegion.{ArenaRegion}
 use Rattle.vt_arena.specs.declared.head.Found.{Found}
 use Rattle.vt_arena.specs.Arena.{is_committing}
-use Rattle.vt_log.specs.declared.bad.Full.{Full}
-use Rattle.vt_log.specs.declared.bad.Progress.{Progress}
-use Rattle.vt_log.specs.declared.bad.Progress.TheVariants.{Idle, Step, Durable}
-use Rattle.vt_log.specs.declared.bad.LogErr.{LogErr}
-use Rattle.vt_log.specs.declared.bad.LogErr.TheVariants.{Fault, Stopped}
+use Rattle.vt_log.specs.declared.error.Full.{Full}
+use Rattle.vt_log.specs.declared.error.Progress.{Progress}
+use Rattle.vt_log.specs.declared.error.Progress.TheVariants.{Idle, Step, Durable}
+use Rattle.vt_log.specs.declared.error.LogErr.{LogErr}
+use Rattle.vt_log.specs.declared.error.LogErr.TheVariants.{Fault, Stopped}
 use Rattle.vt_log.specs.declared.filling.Filling.{Filling}
 use Rattle.vt_log.specs.Faults.{is_fault_now}
-use Rattle.vt_log.specs.Log.{LogState, setup_of, queued, packed_of, next_filling, with_room_taken}
-use Rattle.vt_log.specs.Logs.{accepted}
+use Rattle.vt_log.specs.Log.{LogState, setup_of_log, queued, packed_of, next_filling, with_room_taken}
+use Rattle.vt_log.specs.Logs.{accepted_in}
 use Rattle.vt_log.specs.Owed.{owed}
-use Rattle.vt_log.specs.Queue.{with_block, spot_of}
-use Rattle.vt_log.specs.Sound.{IsSound}
+use Rattle.vt_log.specs.Queue.{with_waiting_block, spot_of}
+use Rattle.vt_log.specs.Sound.{IsSoundLog}
 
 -- The block is added behind the history, in the next arena that has room, at the place where it
 -- then stands; where none has room nothing changes.
-abbrev pub Appends : {D : Type 0} → (score_of : List ℕ → List ℕ) → DiskOf D
+abbrev pub AppendsBlock : {D : Type 0} → (score_of : List ℕ → List ℕ) → DiskOf D
     → (old new : LogState D) → History → Packed → Result Place Full → Type 0
-Appends score_of disk old new h packed (Ok place) =
-    let longer : History = h ++ accepted place.arena (stored_of packed) ∷ [] in
-    (next_arena (setup_of old) h packed.len ≡ Some place.arena)
-    × (place_of (setup_of old) longer (length h) ≡ Some (spot_of place))
-    × IsSound score_of disk new longer
-Appends score_of disk old new h packed (Err full) =
-    next_arena (setup_of old) h packed.len ≡ None
+AppendsBlock score_of disk old new h packed (Ok place) =
+    let longer : History = h ++ accepted_in place.arena (stored_of packed) ∷ [] in
+    (next_arena (setup_of_log old) h packed.len ≡ Some place.arena)
+    × (place_of (setup_of_log old) longer (length h) ≡ Some (spot_of place))
+    × IsSoundLog score_of disk new longer
+AppendsBlock score_of disk old new h packed (Err full) =
+    next_arena (setup_of_log old) h packed.len ≡ None
 
 -- what it makes of a log: the block goes to the arena that has room, behind what fills that
 pub record TakesIn {D : Type 0} (packed : Packed) (place : Place) (old new : LogState D)
@@ -47,7 +47,7 @@ pub record TakesIn {D : Type 0} (packed : Packed) (place : Place) (old new : Log
   pub arena : place.arena ≡ filling.arena
   pub offset : place.offset ≡ ARENA_HEAD_LEN + filling.used
   pub new_is : new ≡ record old {
-    queue = with_block (record { arena = place.arena; packed = packed }) place old.queue;
+    queue = with_waiting_block (record { arena = place.arena; packed = packed }) place old.queue;
     filling = with_room_taken packed.len filling;
   }
 
@@ -59,7 +59,7 @@ TakesOrRefuses packed old new (Err full) =
 
 -- a device call was made that ended no commit; the queue is what it was, and a commit that was
 -- under way has the blocks and the head that it had
-pub record MakesCall {D : Type 0} (old new : LogState D) : Type 0 where
+pub record LogMakesCall {D : Type 0} (old new : LogState D) : Type 0 where
   pub calls : new.calls ≡ one_more old.calls
   pub heads : new.heads ≡ old.heads
   pub durable : new.durable ≡ old.durable
@@ -80,15 +80,15 @@ pub record EndsCommit {D : Type 0} (blocks : ℕ) (old new : LogState D) : Type 
   pub places : new.queue.places ≡ drop blocks old.queue.places
 
 -- what a call of `advance` leaves
-abbrev pub Advances : {D : Type 0} → Result Progress LogErr → (old new : LogState D) → Type 0
-Advances (Ok Idle) old new = (queued old ≡ 0) × (new ≡ old)
-Advances (Ok Step) old new =
-    MakesCall old new × (new.stopped ≡ None) × (owed new < owed old)
-Advances (Ok (Durable n)) old new =
+abbrev pub LogAdvances : {D : Type 0} → Result Progress LogErr → (old new : LogState D) → Type 0
+LogAdvances (Ok Idle) old new = (queued old ≡ 0) × (new ≡ old)
+LogAdvances (Ok Step) old new =
+    LogMakesCall old new × (new.stopped ≡ None) × (owed new < owed old)
+LogAdvances (Ok (Durable n)) old new =
     EndsCommit (length old.arena.staged) old new × (new.durable ≡ n) × (new.stopped ≡ None)
     × (owed new < owed old)
-Advances (Err Fault) old new = MakesCall old new × (new.stopped ≡ Some old.calls)
-Advances (Err (Stopped n)) old new = (old.stopped ≡ Some n) × (new ≡ old)
+LogAdvances (Err Fault) old new = LogMakesCall old new × (new.stopped ≡ Some old.calls)
+LogAdvances (Err (Stopped n)) old new = (old.stopped ≡ Some n) × (new ≡ old)
 
 -- One device call was made, of the disk on which the arena stands that is committed in. It changed
 -- nothing but in the arena's region, and a fault is told exactly where it failed. The other disks
@@ -118,9 +118,9 @@ pub record HoldTheSame {D : Type 0} (disk : DiskOf D) (old new : List D) : Type 
       → slice_get new i ≡ Some after → AreAmong (disk.images after) (disk.images before)
 
 -- the log reads from its disks, at most so many times, and nothing else changes
-pub record OnlyReads {D : Type 0} (score_of : List ℕ → List ℕ) (disk : DiskOf D) (most : ℕ)
+pub record OnlyReadsLog {D : Type 0} (score_of : List ℕ → List ℕ) (disk : DiskOf D) (most : ℕ)
     (old new : LogState D) : Type 0 where
   pub same : new ≡ record old { disks = new.disks }
-  pub sound : (h : History) → IsSound score_of disk old h → IsSound score_of disk new h
+  pub sound : (h : History) → IsSoundLog score_of disk old h → IsSoundLog score_of disk new h
   pub disks : HoldTheSame disk old.disks new.disks
   pub calls : IsTrue disk.tells → sum_by disk.calls new.disks ≤ sum_by disk.calls old.disks + most

@@ -5,13 +5,13 @@ use Rattle.vt_base.specs.declared.place.Place.{Place}
 use Rattle.vt_clump.specs.declared.packed.Packed.{Packed}
 use Rattle.vt_model.specs.History.{Accepted, History}
 use Rattle.vt_model.specs.Places.{lengths_in, place_of}
-use Rattle.vt_arena.specs.declared.bad.BackBad.{BackBad}
-use Rattle.vt_arena.specs.declared.bad.BackBad.TheVariants.{Fault, Damaged}
+use Rattle.vt_arena.specs.declared.error.BackBad.{BackBad}
+use Rattle.vt_arena.specs.declared.error.BackBad.TheVariants.{Fault, Damaged}
 use Rattle.vt_arena.specs.declared.head.Found.{Found}
-use Rattle.vt_arena.specs.Directory.{first_bad, IsInfoOf}
+use Rattle.vt_arena.specs.Directory.{first_bad_entry, IsInfoOf}
 use Rattle.vt_arena.specs.Places.{block_room}
 use Rattle.vt_arena.specs.declared.directory.At.{At}
-use Rattle.vt_log.specs.Log.{LogState, setup_of, queued}
+use Rattle.vt_log.specs.Log.{LogState, setup_of_log, queued}
 use Rattle.vt_log.specs.Queue.{spot_of}
 
 -- where a walk stands: how many blocks are left, and how many of them are queued; the arena of the
@@ -34,7 +34,7 @@ pub record IsTailOf {D : Type 0} (l : LogState D) (t : TailState) : Type 0 where
 
 -- it has so many blocks of the history before it: the queued ones among them and, of an arena, as
 -- many as come before these
-pub record IsBehind {D : Type 0} (l : LogState D) (h : History) (n : ℕ) (t : TailState)
+pub record IsTailBehind {D : Type 0} (l : LogState D) (h : History) (n : ℕ) (t : TailState)
     : Type 0 where
   pub left : t.left ≡ n
   pub most : n ≤ length h
@@ -44,14 +44,15 @@ pub record IsBehind {D : Type 0} (l : LogState D) (h : History) (n : ℕ) (t : T
   pub arenas : All (λ e. e.arena ≤ t.arena) (take (min n l.durable) h)
 
 -- block i of the history is this one
-pub record IsInfo {D : Type 0} (score_of : List ℕ → List ℕ) (l : LogState D) (h : History) (i : ℕ)
+pub record IsInfoInLog {D : Type 0} (score_of : List ℕ
+    → List ℕ) (l : LogState D) (h : History) (i : ℕ)
     (info : Info) : Type 0 where
   pub block : Accepted
   pub at : slice_get h i ≡ Some block
   pub kind : info.key.kind ≡ block.block.kind
   pub score : info.key.score.0 ≡ score_of block.block.bytes
   pub size : info.size ≡ length block.block.bytes
-  pub place : place_of (setup_of l) h i ≡ Some (spot_of info.place)
+  pub place : place_of (setup_of_log l) h i ≡ Some (spot_of info.place)
   pub number : info.number ≡ i
 
 -- where n blocks are before the walk, it gives the last of them, and has one less before it; where
@@ -59,12 +60,12 @@ pub record IsInfo {D : Type 0} (score_of : List ℕ → List ℕ) (l : LogState 
 abbrev pub StepsBack : {D : Type 0} → (score_of : List ℕ → List ℕ) → LogState D → History
     → (n : ℕ) → (new : TailState) → Option Info → Type 0
 StepsBack score_of l h n new (Some info) =
-    (m : ℕ) × (m + 1 ≡ n) × IsInfo score_of l h m info × IsBehind l h m new
+    (m : ℕ) × (m + 1 ≡ n) × IsInfoInLog score_of l h m info × IsTailBehind l h m new
 StepsBack score_of l h n new None = n ≡ 0
 
 -- the next entry that a walk reads where no queued block is left, in this arena: from its own arena
 -- on down, the first that has one left
-pub record IsNext (heads : List Found) (t : TailState) (arena : ℕ) (at : At) : Type 0 where
+pub record IsNextEntry (heads : List Found) (t : TailState) (arena : ℕ) (at : At) : Type 0 where
   pub some : 0 < at.index
   pub here : 0 < t.at.index → (arena ≡ t.arena) × (at ≡ t.at)
   pub below : t.at.index ≡ 0 → (arena < t.arena) × ((found : Found)
@@ -78,19 +79,19 @@ abbrev pub GivesEntry : (arena left used : ℕ) → At → (entry : List ℕ)
     → Result (Option Info) BackBad → Type 0
 GivesEntry arena left used at entry (Ok None) = ⊥
 GivesEntry arena left used at entry (Ok (Some info)) =
-    (first_bad used at entry ≡ None) × (info.number + 1 ≡ left)
+    (first_bad_entry used at entry ≡ None) × (info.number + 1 ≡ left)
     × IsInfoOf arena at entry (record info { number = at.index - 1 })
 GivesEntry arena left used at entry (Err Fault) = ⊤
 GivesEntry arena left used at entry (Err (Damaged want found)) =
-    first_bad used at entry ≡ Some (Damaged want found)
+    first_bad_entry used at entry ≡ Some (Damaged want found)
 
 -- where the walk stands then: before the entry, or at it where none is given
-abbrev pub Moves : (arena : ℕ) → At → (new : TailState) → Result (Option Info) BackBad → Type 0
-Moves arena at new (Ok None) = ⊥
-Moves arena at new (Ok (Some info)) =
+abbrev pub MovesBack : (arena : ℕ) → At → (new : TailState) → Result (Option Info) BackBad → Type 0
+MovesBack arena at new (Ok None) = ⊥
+MovesBack arena at new (Ok (Some info)) =
     (new.arena ≡ arena) × (new.queued ≡ 0) × (new.at.index + 1 ≡ at.index)
     × (new.at.end + block_room info.size ≡ at.end)
-Moves arena at new (Err bad) = (new.arena ≡ arena) × (new.queued ≡ 0) × (new.at ≡ at)
+MovesBack arena at new (Err bad) = (new.arena ≡ arena) × (new.queued ≡ 0) × (new.at ≡ at)
 
 -- what is given of a queued clump
 pub record IsQueued (p : Packed) (place : Place) (left : ℕ) (info : Info) : Type 0 where

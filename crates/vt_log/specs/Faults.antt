@@ -3,19 +3,19 @@ use Rattle.std.specs.Prelude.{◌≡◌, ◌≢◌, ◌==◌, ◌||◌, ℕ, ◌
 use Rattle.vt_base.specs.Faults.{HasRisen, TellsFault}
 use Rattle.vt_disk.specs.Members.{DiskOf}
 use Rattle.vt_part.specs.declared.layout.ArenaRegion.{ArenaRegion}
-use Rattle.vt_part.specs.declared.bad.PartBad.TheVariants.{Fault as PartFault, TooSmall, NotFormatted as PartNotFormatted, Torn as PartTorn, DuplicateName, NoMemory as PartNoMemory}
+use Rattle.vt_part.specs.declared.error.PartBad.TheVariants.{Fault as PartFault, TooSmall, NotFormatted as PartNotFormatted, Torn as PartTorn, DuplicateName, NoMemory as PartNoMemory}
 use Rattle.vt_part.specs.Layout.{AreFirstNamesakes, AreDistinct}
-use Rattle.vt_arena.specs.declared.bad.ArenaBad.{ArenaBad}
-use Rattle.vt_arena.specs.declared.bad.ArenaBad.TheVariants.{Torn}
+use Rattle.vt_arena.specs.declared.error.ArenaBad.{ArenaBad}
+use Rattle.vt_arena.specs.declared.error.ArenaBad.TheVariants.{Torn}
 use Rattle.vt_arena.specs.declared.head.Found.{Found}
-use Rattle.vt_arena.specs.declared.bad.Field.TheVariants.{Sealed}
-use Rattle.vt_arena.specs.Faults.{first_bad as first_bad_in}
-use Rattle.vt_arena.specs.Heads.{fields_of, sealed_in, clumps_in}
+use Rattle.vt_arena.specs.declared.error.Field.TheVariants.{Sealed}
+use Rattle.vt_arena.specs.Faults.{first_bad_head}
+use Rattle.vt_arena.specs.Heads.{fields_of, sealed_in, clump_count_in}
 use Rattle.vt_arena.specs.Layout.{fields_at}
-use Rattle.vt_log.specs.declared.bad.LogBad.{LogBad}
-use Rattle.vt_log.specs.declared.bad.LogBad.TheVariants.{Part, Arena, Order, Fault, NoMemory}
-use Rattle.vt_log.specs.declared.bad.LogErr.{LogErr}
-use Rattle.vt_log.specs.declared.bad.LogErr.TheVariants.{Fault as LogFault, Stopped}
+use Rattle.vt_log.specs.declared.error.LogBad.{LogBad}
+use Rattle.vt_log.specs.declared.error.LogBad.TheVariants.{Part, Arena, Order, Fault, NoMemory}
+use Rattle.vt_log.specs.declared.error.LogErr.{LogErr}
+use Rattle.vt_log.specs.declared.error.LogErr.TheVariants.{Fault as LogFault, Stopped}
 use Rattle.vt_log.specs.Log.{LogState}
 
 -- the fields of each arena's current head, as the files have them
@@ -28,9 +28,9 @@ pub record AreFields (layout : List ArenaRegion) (files : List (List ℕ)) (fiel
 -- why arena i, with these fields, can't stand behind an unsealed one
 abbrev pub out_of_order : (i : ℕ) → (fields : List ℕ) → Option LogBad
 out_of_order i fields =
-    if clumps_in fields == 0
+    if clump_count_in fields == 0
     then (if sealed_in fields == 0 then None else Some (Arena i (Torn Sealed 1 0)))
-    else Some (Order i (clumps_in fields))
+    else Some (Order i (clump_count_in fields))
 
 -- why it can't be mounted; `behind` is whether an unsealed one stands before it
 abbrev pub bad_arena : (behind : Bool) (i : ℕ) → Option ArenaBad → (fields : List ℕ)
@@ -44,31 +44,31 @@ first_of_two (Some bad) other = Some bad
 first_of_two None other = other
 
 -- the first cause that arenas from number i on give
-abbrev pub first_bad : (behind : Bool) (i : ℕ) → List ArenaRegion → (fields : List (List ℕ))
+abbrev pub first_bad_log : (behind : Bool) (i : ℕ) → List ArenaRegion → (fields : List (List ℕ))
     → Option LogBad
-first_bad behind i [] fields = None
-first_bad behind i (r ∷ rest) [] = None
-first_bad behind i (r ∷ rest) (f ∷ fields) =
-    first_of_two (bad_arena behind i (first_bad_in r.number r.region.len f) f)
-    (first_bad (behind || sealed_in f == 0) (i + 1) rest fields)
+first_bad_log behind i [] fields = None
+first_bad_log behind i (r ∷ rest) [] = None
+first_bad_log behind i (r ∷ rest) (f ∷ fields) =
+    first_of_two (bad_arena behind i (first_bad_head r.number r.region.len f) f)
+    (first_bad_log (behind || sealed_in f == 0) (i + 1) rest fields)
 
 -- Mounting is refused for two partitions of one name or, where there are none, by the first arena
 -- that can't stand. A fault needs neither, and memory may run out before the arenas are read.
-abbrev pub RefusesMount : (names : List (List ℕ)) → List ArenaRegion → (fields : List (List ℕ))
+abbrev pub RefusesLogMount : (names : List (List ℕ)) → List ArenaRegion → (fields : List (List ℕ))
     → LogBad → Type 0
-RefusesMount names layout fields (Part (DuplicateName first second)) =
+RefusesLogMount names layout fields (Part (DuplicateName first second)) =
     AreFirstNamesakes names first second
-RefusesMount names layout fields (Part PartFault) = ⊥
-RefusesMount names layout fields (Part (TooSmall len need)) = ⊥
-RefusesMount names layout fields (Part PartNotFormatted) = ⊥
-RefusesMount names layout fields (Part (PartTorn field found want)) = ⊥
-RefusesMount names layout fields (Part PartNoMemory) = ⊥
-RefusesMount names layout fields (Arena i bad) =
-    AreDistinct names × (first_bad Bool.false 0 layout fields ≡ Some (Arena i bad))
-RefusesMount names layout fields (Order i clumps) =
-    AreDistinct names × (first_bad Bool.false 0 layout fields ≡ Some (Order i clumps))
-RefusesMount names layout fields Fault = AreDistinct names
-RefusesMount names layout fields NoMemory = AreDistinct names
+RefusesLogMount names layout fields (Part PartFault) = ⊥
+RefusesLogMount names layout fields (Part (TooSmall len need)) = ⊥
+RefusesLogMount names layout fields (Part PartNotFormatted) = ⊥
+RefusesLogMount names layout fields (Part (PartTorn field found want)) = ⊥
+RefusesLogMount names layout fields (Part PartNoMemory) = ⊥
+RefusesLogMount names layout fields (Arena i bad) =
+    AreDistinct names × (first_bad_log Bool.false 0 layout fields ≡ Some (Arena i bad))
+RefusesLogMount names layout fields (Order i clumps) =
+    AreDistinct names × (first_bad_log Bool.false 0 layout fields ≡ Some (Order i clumps))
+RefusesLogMount names layout fields Fault = AreDistinct names
+RefusesLogMount names layout fields NoMemory = AreDistinct names
 
 -- of several counts of faults one rose, and the others stand where they stood
 pub record OneHasRisen (old new : List ℕ) : Type 0 where
@@ -86,12 +86,12 @@ CountsFaults disk is_fault result old new =
     (map disk.faults new ≡ map disk.faults old)
 
 -- the refusal tells of a fault of a disk in this call
-abbrev pub is_fault : LogBad → Bool
-is_fault Fault = true
-is_fault (Part bad) = false
-is_fault (Arena i bad) = false
-is_fault (Order i clumps) = false
-is_fault NoMemory = false
+abbrev pub is_log_fault : LogBad → Bool
+is_log_fault Fault = true
+is_log_fault (Part bad) = false
+is_log_fault (Arena i bad) = false
+is_log_fault (Order i clumps) = false
+is_log_fault NoMemory = false
 
 -- so does what `advance` answers; a call that stopped the log before isn't told anew
 abbrev pub is_fault_now : LogErr → Bool
@@ -103,7 +103,7 @@ is_fault_now (Stopped n) = false
 pub record IsMountedBy {D : Type 0} (names : List (List ℕ)) (layout : List ArenaRegion)
     (fields : List (List ℕ)) (l : LogState D) : Type 0 where
   pub distinct : AreDistinct names
-  pub passed : first_bad Bool.false 0 layout fields ≡ None
+  pub passed : first_bad_log Bool.false 0 layout fields ≡ None
   pub heads : map (λ found. fields_of found.head) l.heads ≡ fields
   pub before : All (λ found. found.head.sealed ≡ Bool.true) (take l.base l.heads)
   pub base : (found : Found) → slice_get l.heads l.base ≡ Some found

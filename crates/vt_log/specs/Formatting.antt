@@ -4,17 +4,17 @@ use Rattle.vt_disk.specs.Members.{DiskOf}
 use Rattle.vt_disk.specs.Calls.{WritesAt, IsSynced}
 use Rattle.vt_twin.specs.Formatting.{EndsFormat}
 use Rattle.vt_part.specs.declared.part.Part.{Part}
-use Rattle.vt_part.specs.Layout.{region_of}
+use Rattle.vt_part.specs.Layout.{arena_region}
 use Rattle.vt_part.specs.Parts.{disk_of, table_of}
 use Rattle.vt_part.specs.Table.{Table}
-use Rattle.vt_arena.specs.Heads.{frame_of}
-use Rattle.vt_arena.specs.Layout.{IsArena, InHead, head_place, head_of, empty}
+use Rattle.vt_arena.specs.Heads.{head_frame}
+use Rattle.vt_arena.specs.Layout.{IsArena, InHead, head_place, arena_head, empty}
 
 -- in each image the first arenas of a table, so many, have no blocks
 abbrev pub AreEmpty : Table → (arenas : ℕ) → (images : List ℕ → Type 0) → Type 0
 AreEmpty t arenas images =
     (score_of : List ℕ → List ℕ) (number : ℕ) (c : List ℕ) → number < arenas → images c
-    → IsArena score_of (region_of t number) number empty c
+    → IsArena score_of (arena_region t number) number empty c
 
 -- a partition whose arenas have no blocks, and a crash leaves nothing but what a read gives
 pub record IsEmpty {D : Type 0} (disk : DiskOf D) (part : Part D) : Type 0 where
@@ -24,7 +24,7 @@ pub record IsEmpty {D : Type 0} (disk : DiskOf D) (part : Part D) : Type 0 where
 
 -- the byte lies in the head of one of the first arenas of a table, so many
 abbrev pub InFirstHeads : Table → (arenas : ℕ) → ℕ → Type 0
-InFirstHeads t arenas p = (number : ℕ) × (number < arenas) × InHead (region_of t number) p
+InFirstHeads t arenas p = (number : ℕ) × (number < arenas) × InHead (arena_region t number) p
 
 -- nothing changed but in these heads, by three calls for each at most
 abbrev pub WritesInFirst : {D : Type 0} → DiskOf D → Table → (arenas : ℕ) → (before after : D)
@@ -39,15 +39,15 @@ WritesInHeads disk t before after = WritesInFirst disk t t.count before after
 -- Making a partition's arenas ones without blocks stopped at a call for this one: those before it
 -- have none, the heads of those behind it are as they were, and of its own head nothing was written
 -- behind the call.
-pub record StopsAt {D : Type 0} (disk : DiskOf D) (old new : Part D) : Type 0 where
+pub record StopsAtArena {D : Type 0} (disk : DiskOf D) (old new : Part D) : Type 0 where
   pub arena : ℕ
   pub within : arena < (table_of old).count
   pub done : IsTrue disk.tells → AreEmpty (table_of old) arena (disk.images (disk_of new))
   pub before : D
   pub so_far : WritesInFirst disk (table_of old) arena (disk_of old) before
   pub ends : (score_of : List ℕ → List ℕ) → (made : ℕ)
-      × EndsFormat disk (head_place (region_of (table_of old) arena))
-      (frame_of (head_of score_of arena empty)) made before (disk_of new)
+      × EndsFormat disk (head_place (arena_region (table_of old) arena))
+      (head_frame (arena_head score_of arena empty)) made before (disk_of new)
 
 -- And it stopped in this partition: those before it are done, and those behind it are as they were.
 pub record StopsIn {D : Type 0} (disk : DiskOf D) (old new : List (Part D)) : Type 0 where
@@ -55,5 +55,5 @@ pub record StopsIn {D : Type 0} (disk : DiskOf D) (old new : List (Part D)) : Ty
   pub within : part < length old
   pub done : (i : ℕ) (it : Part D) → i < part → slice_get new i ≡ Some it → IsEmpty disk it
   pub here : (before after : Part D) → slice_get old part ≡ Some before
-      → slice_get new part ≡ Some after → StopsAt disk before after
+      → slice_get new part ≡ Some after → StopsAtArena disk before after
   pub behind : (i : ℕ) → part < i → slice_get new i ≡ slice_get old i

@@ -11,10 +11,10 @@ use Rattle.vt_part.specs.Parts.{disk_of}
 use Rattle.vt_part.specs.Table.{Table}
 use Rattle.vt_arena.specs.declared.head.ArenaHead.{ArenaHead}
 use Rattle.vt_arena.specs.declared.head.Found.{Found}
-use Rattle.vt_arena.specs.Arena.{ArenaState, added_by, is_committing}
+use Rattle.vt_arena.specs.Arena.{ArenaState, added_by_commit, is_committing}
 use Rattle.vt_arena.specs.Places.{block_room, has_room}
 use Rattle.vt_log.specs.declared.filling.Filling.{Filling}
-use Rattle.vt_log.specs.Logs.{accepted}
+use Rattle.vt_log.specs.Logs.{accepted_in}
 use Rattle.vt_log.specs.Queue.{QueueState, no_queue, waiting_block}
 
 -- A log: the disks of its partitions and their tables, the regions of all arenas, and each one's
@@ -44,8 +44,8 @@ abbrev pub front : {D : Type 0} → LogState D → ℕ
 front l = l.durable + queued l
 
 -- the setup of the model; a log knows no buckets
-abbrev pub setup_of : {D : Type 0} → LogState D → Setup
-setup_of l = record {
+abbrev pub setup_of_log : {D : Type 0} → LogState D → Setup
+setup_of_log l = record {
   arenas = map (λ r. r.region.len) l.layout;
   base = l.base;
   sections = [];
@@ -54,7 +54,7 @@ setup_of l = record {
 -- the queued blocks: those that are staged for the commit under way, and those that wait
 abbrev pub queue_of : {D : Type 0} → LogState D → History
 queue_of l =
-    map (accepted l.committing) (added_by l.arena) ++ map waiting_block l.queue.waiting
+    map (accepted_in l.committing) (added_by_commit l.arena) ++ map waiting_block l.queue.waiting
 
 -- and their clumps
 abbrev pub packed_of : {D : Type 0} → LogState D → List Packed
@@ -102,7 +102,7 @@ disks_of parts = map (λ part. disk_of part) parts
 
 -- a log that has made no call: nothing is queued, staged or under way, and the arena that is
 -- committed in is the base
-pub record IsMounted {D : Type 0} (l : LogState D) : Type 0 where
+pub record IsMountedLog {D : Type 0} (l : LogState D) : Type 0 where
   pub committing : l.committing ≡ l.base
   pub staged : l.arena.staged ≡ []
   pub rest : IsFalse (is_committing l.arena)

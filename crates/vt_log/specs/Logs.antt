@@ -9,13 +9,13 @@ use Rattle.vt_part.specs.Table.{Table}
 use Rattle.vt_arena.specs.Layout.{Content, IsArena}
 
 -- a block of the arena with this number, over all partitions
-abbrev pub accepted : (arena : ℕ) → Stored → Accepted
-accepted arena s = record { block = record { kind = s.kind; bytes = s.block }; arena = arena }
+abbrev pub accepted_in : (arena : ℕ) → Stored → Accepted
+accepted_in arena s = record { block = record { kind = s.kind; bytes = s.block }; arena = arena }
 
 -- the blocks of arenas that are numbered from this number on
 abbrev pub blocks_from : (arena : ℕ) → List Content → History
 blocks_from arena [] = []
-blocks_from arena (a ∷ rest) = map (accepted arena) a.stored ++ blocks_from (arena + 1) rest
+blocks_from arena (a ∷ rest) = map (accepted_in arena) a.stored ++ blocks_from (arena + 1) rest
 
 -- how many arenas are sealed before the first that isn't
 abbrev pub first_unsealed : List Content → ℕ
@@ -54,7 +54,7 @@ pub record IsLog (score_of : List ℕ → List ℕ) (layout : List ArenaRegion) 
 
 -- They stand for the first n blocks of a history, with a base from the arena that was filled last
 -- with these to the one that is being filled now.
-pub record StandsFor (score_of : List ℕ → List ℕ) (c : Setup) (layout : List ArenaRegion)
+pub record LogStandsFor (score_of : List ℕ → List ℕ) (c : Setup) (layout : List ArenaRegion)
     (files : List (List ℕ)) (h : History) (n : ℕ) : Type 0 where
   pub base : ℕ
   pub log : IsLog score_of layout files (take n h) base

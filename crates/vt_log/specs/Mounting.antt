@@ -8,23 +8,23 @@ use Rattle.vt_part.specs.declared.part.Part.{Part}
 use Rattle.vt_part.specs.Parts.{tables_of}
 use Rattle.vt_part.specs.Table.{Table}
 use Rattle.vt_arena.specs.declared.TheConstants.{FRAME_LEN}
-use Rattle.vt_arena.specs.declared.bad.ArenaBad.{ArenaBad}
-use Rattle.vt_arena.specs.declared.bad.ArenaBad.TheVariants.{Fault as ArenaFault, NotFormatted, Torn, NoMemory as ArenaNoMemory}
+use Rattle.vt_arena.specs.declared.error.ArenaBad.{ArenaBad}
+use Rattle.vt_arena.specs.declared.error.ArenaBad.TheVariants.{Fault as ArenaFault, NotFormatted, Torn, NoMemory as ArenaNoMemory}
 use Rattle.vt_arena.specs.declared.head.ArenaHead.{ArenaHead}
 use Rattle.vt_arena.specs.declared.head.Found.{Found}
 use Rattle.vt_arena.specs.Arena.{ArenaState, fresh_arena}
-use Rattle.vt_arena.specs.Faults.{first_bad as first_bad_in, CanStand}
+use Rattle.vt_arena.specs.Faults.{first_bad_head, CanStand}
 use Rattle.vt_arena.specs.Heads.{fields_of}
-use Rattle.vt_arena.specs.Layout.{Content, IsArena, fields_at, head_of}
-use Rattle.vt_log.specs.declared.bad.LogBad.{LogBad}
-use Rattle.vt_log.specs.declared.bad.LogBad.TheVariants.{Part as PartRefused, Arena, Order, Fault, NoMemory}
+use Rattle.vt_arena.specs.Layout.{Content, IsArena, fields_at, arena_head}
+use Rattle.vt_log.specs.declared.error.LogBad.{LogBad}
+use Rattle.vt_log.specs.declared.error.LogBad.TheVariants.{Part as PartRefused, Arena, Order, Fault, NoMemory}
 use Rattle.vt_log.specs.Answers.{HoldTheSame}
-use Rattle.vt_log.specs.Faults.{bad_arena, first_bad}
+use Rattle.vt_log.specs.Faults.{bad_arena, first_bad_log}
 use Rattle.vt_log.specs.Log.{LogState, disks_of, filled_as}
 use Rattle.vt_log.specs.Queue.{no_queue}
 
 -- so many calls at most were made of partitions' disks, and they wrote nothing
-pub record AreRead {D : Type 0} (disk : DiskOf D) (most : ℕ) (old new : List (Part D))
+pub record OnlyReadsParts {D : Type 0} (disk : DiskOf D) (most : ℕ) (old new : List (Part D))
     : Type 0 where
   pub tables : tables_of new ≡ tables_of old
   pub disks : HoldTheSame disk (disks_of old) (disks_of new)
@@ -46,20 +46,20 @@ pub record StopsSyncing {D : Type 0} (disk : DiskOf D) (old new : List (Part D))
 
 -- What is told of the disks' bytes is told of settled ones. Nothing is read behind a sync that
 -- fails, and where two partitions have one name no call is made.
-abbrev pub IsTold : {D : Type 0} → DiskOf D → (old new : List (Part D)) → LogBad → Type 0
-IsTold disk old new (PartRefused bad) = new ≡ old
-IsTold disk old new (Arena i bad) = AreSettled disk new
-IsTold disk old new (Order i clumps) = AreSettled disk new
-IsTold disk old new Fault = StopsSyncing disk old new ⊎ AreSettled disk new
-IsTold disk old new NoMemory = (new ≡ old) ⊎ AreSettled disk new
+abbrev pub TellsOfSettled : {D : Type 0} → DiskOf D → (old new : List (Part D)) → LogBad → Type 0
+TellsOfSettled disk old new (PartRefused bad) = new ≡ old
+TellsOfSettled disk old new (Arena i bad) = AreSettled disk new
+TellsOfSettled disk old new (Order i clumps) = AreSettled disk new
+TellsOfSettled disk old new Fault = StopsSyncing disk old new ⊎ AreSettled disk new
+TellsOfSettled disk old new NoMemory = (new ≡ old) ⊎ AreSettled disk new
 
 -- a refusal before any call
-abbrev pub IsEarly : LogBad → Type 0
-IsEarly (PartRefused bad) = ⊤
-IsEarly (Arena i bad) = ⊥
-IsEarly (Order i clumps) = ⊥
-IsEarly Fault = ⊥
-IsEarly NoMemory = ⊤
+abbrev pub IsBeforeCalls : LogBad → Type 0
+IsBeforeCalls (PartRefused bad) = ⊤
+IsBeforeCalls (Arena i bad) = ⊥
+IsBeforeCalls (Order i clumps) = ⊥
+IsBeforeCalls Fault = ⊥
+IsBeforeCalls NoMemory = ⊤
 
 -- these are the fields of an arena's current head, as the files have it
 abbrev pub AreFieldsAt : (files : List (List ℕ)) → ArenaRegion → (fields : List ℕ) → Type 0
@@ -71,30 +71,30 @@ AreFieldsAt files r fields =
 abbrev pub FindsNext : (behind : Bool) (i : ℕ) → ArenaRegion → (fields : List ℕ)
     → Result Found LogBad → Type 0
 FindsNext behind i r fields (Ok found) =
-    (bad_arena behind i (first_bad_in r.number r.region.len fields) fields ≡ None)
+    (bad_arena behind i (first_bad_head r.number r.region.len fields) fields ≡ None)
     × (fields_of found.head ≡ fields)
 FindsNext behind i r fields (Err (PartRefused bad)) = ⊥
 FindsNext behind i r fields (Err (Arena j bad)) =
-    bad_arena behind i (first_bad_in r.number r.region.len fields) fields ≡ Some (Arena j bad)
+    bad_arena behind i (first_bad_head r.number r.region.len fields) fields ≡ Some (Arena j bad)
 FindsNext behind i r fields (Err (Order j clumps)) =
-    bad_arena behind i (first_bad_in r.number r.region.len fields) fields ≡ Some (Order j clumps)
+    bad_arena behind i (first_bad_head r.number r.region.len fields) fields ≡ Some (Order j clumps)
 FindsNext behind i r fields (Err Fault) = ⊤
 FindsNext behind i r fields (Err NoMemory) = ⊥
 
 -- what is told of a log whose arena i can't be mounted
-abbrev pub refused_by : (i : ℕ) → ArenaBad → LogBad
-refused_by i ArenaFault = Fault
-refused_by i NotFormatted = Arena i NotFormatted
-refused_by i (Torn field found want) = Arena i (Torn field found want)
-refused_by i ArenaNoMemory = Arena i ArenaNoMemory
+abbrev pub arena_refusal : (i : ℕ) → ArenaBad → LogBad
+arena_refusal i ArenaFault = Fault
+arena_refusal i NotFormatted = Arena i NotFormatted
+arena_refusal i (Torn field found want) = Arena i (Torn field found want)
+arena_refusal i ArenaNoMemory = Arena i ArenaNoMemory
 
 -- what is found of an arena whose disk reads as this file
-pub record IsFound (tells : Bool) (r : ArenaRegion) (file : List ℕ) (found : Found)
+pub record IsFoundArena (tells : Bool) (r : ArenaRegion) (file : List ℕ) (found : Found)
     : Type 0 where
   pub stands : CanStand r.number r.region.len found.head
   pub selector : IsTrue tells → found.selector % 2 ≡ named_number r.region FRAME_LEN file
   pub head : (score_of : List ℕ → List ℕ) (a : Content) → IsTrue tells
-      → IsArena score_of r.region r.number a file → found.head ≡ head_of score_of r.number a
+      → IsArena score_of r.region r.number a file → found.head ≡ arena_head score_of r.number a
 
 -- what is found of these arenas
 pub record AreFound (tells : Bool) (layout : List ArenaRegion) (files : List (List ℕ))
@@ -102,22 +102,22 @@ pub record AreFound (tells : Bool) (layout : List ArenaRegion) (files : List (Li
   pub many : length heads ≡ length layout
   pub each : (i : ℕ) (r : ArenaRegion) (file : List ℕ) (found : Found)
       → slice_get layout i ≡ Some r → slice_get files r.part ≡ Some file
-      → slice_get heads i ≡ Some found → IsFound tells r file found
+      → slice_get heads i ≡ Some found → IsFoundArena tells r file found
 
 -- the arenas are refused for the first one that can't stand; a fault and want of memory need none
 abbrev pub RefusesArenas : List ArenaRegion → (fields : List (List ℕ)) → LogBad → Type 0
 RefusesArenas layout fields (PartRefused bad) = ⊥
 RefusesArenas layout fields (Arena i bad) =
-    first_bad Bool.false 0 layout fields ≡ Some (Arena i bad)
+    first_bad_log Bool.false 0 layout fields ≡ Some (Arena i bad)
 RefusesArenas layout fields (Order i clumps) =
-    first_bad Bool.false 0 layout fields ≡ Some (Order i clumps)
+    first_bad_log Bool.false 0 layout fields ≡ Some (Order i clumps)
 RefusesArenas layout fields Fault = ⊤
 RefusesArenas layout fields NoMemory = ⊤
 
 -- they pass, and these are their heads
 pub record ArePassed (layout : List ArenaRegion) (fields : List (List ℕ)) (heads : List Found)
     : Type 0 where
-  pub passed : first_bad Bool.false 0 layout fields ≡ None
+  pub passed : first_bad_log Bool.false 0 layout fields ≡ None
   pub heads_are : map (λ found. fields_of found.head) heads ≡ fields
 
 -- the arenas before this one are sealed, and it isn't, if it is there

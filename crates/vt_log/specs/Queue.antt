@@ -6,7 +6,7 @@ use Rattle.vt_clump.specs.Clumps.{stored_of}
 use Rattle.vt_model.specs.History.{Accepted}
 use Rattle.vt_model.specs.Places.{Spot}
 use Rattle.vt_log.specs.declared.queue.Waiting.{Waiting}
-use Rattle.vt_log.specs.Logs.{accepted}
+use Rattle.vt_log.specs.Logs.{accepted_in}
 
 -- the blocks that aren't staged yet, and the places of all queued ones, staged ones first
 pub record QueueState : Type 0 where
@@ -17,8 +17,8 @@ abbrev pub no_queue : QueueState
 no_queue = record { waiting = []; places = [] }
 
 -- with one more block
-abbrev pub with_block : Waiting → Place → QueueState → QueueState
-with_block w place q = record {
+abbrev pub with_waiting_block : Waiting → Place → QueueState → QueueState
+with_waiting_block w place q = record {
   waiting = q.waiting ++ w ∷ [];
   places = q.places ++ place ∷ [];
 }
@@ -42,7 +42,7 @@ TakesFor arena old new None = (new ≡ old) × ¬ WaitsFor arena old.waiting
 
 -- a block, as the history has it
 abbrev pub waiting_block : Waiting → Accepted
-waiting_block w = accepted w.arena (stored_of w.packed)
+waiting_block w = accepted_in w.arena (stored_of w.packed)
 
 -- the place, as the model has it
 abbrev pub spot_of : Place → Spot

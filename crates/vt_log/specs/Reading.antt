@@ -6,16 +6,16 @@ use Rattle.vt_base.specs.declared.why.FieldValue.TheVariants.{Number, Score as S
 use Rattle.vt_base.specs.declared.place.Place.{Place}
 use Rattle.vt_disk.specs.Members.{DiskOf}
 use Rattle.vt_clump.specs.declared.packed.Packed.{Packed}
-use Rattle.vt_clump.specs.Faults.{first_bad}
+use Rattle.vt_clump.specs.Faults.{first_bad_clump}
 use Rattle.vt_clump.specs.Spelling.{Stored, stored_in}
 use Rattle.vt_model.specs.declared.TheConstants.{ARENA_HEAD_LEN, CLUMP_HEADER_LEN}
 use Rattle.vt_part.specs.declared.layout.ArenaRegion.{ArenaRegion}
-use Rattle.vt_arena.specs.declared.bad.ReadBad.{ReadBad}
-use Rattle.vt_arena.specs.declared.bad.ReadBad.TheVariants.{Fault, Damaged, NoMemory}
+use Rattle.vt_arena.specs.declared.error.ReadBad.{ReadBad}
+use Rattle.vt_arena.specs.declared.error.ReadBad.TheVariants.{Fault, Damaged, NoMemory}
 use Rattle.vt_arena.specs.Reading.{HasHeader, clump_at, IsDamaged}
 use Rattle.vt_log.specs.Log.{LogState, packed_of}
 use Rattle.vt_log.specs.Queue.{IsFirstAt, IsNowhere}
-use Rattle.vt_log.specs.Sound.{IsAt}
+use Rattle.vt_log.specs.Sound.{IsArenaAt}
 
 -- a clump of this type and score has another key than the one that was asked for: another type or,
 -- of the same type, another score
@@ -31,11 +31,11 @@ IsDamagedBy key kind score Fault = ⊥
 IsDamagedBy key kind score NoMemory = ⊥
 
 -- the answer where this clump stands at the place
-abbrev pub Gives : Key → Stored → Result (List ℕ) ReadBad → Type 0
-Gives key s (Ok block) = (s.kind ≡ key.kind) × (s.score ≡ key.score.0) × (block ≡ s.block)
-Gives key s (Err (Damaged want found)) = IsOther key s.kind s.score want found
-Gives key s (Err NoMemory) = ⊤
-Gives key s (Err Fault) = ⊤
+abbrev pub GivesBlock : Key → Stored → Result (List ℕ) ReadBad → Type 0
+GivesBlock key s (Ok block) = (s.kind ≡ key.kind) × (s.score ≡ key.score.0) × (block ≡ s.block)
+GivesBlock key s (Err (Damaged want found)) = IsOther key s.kind s.score want found
+GivesBlock key s (Err NoMemory) = ⊤
+GivesBlock key s (Err Fault) = ⊤
 
 -- where this clump is queued: it is given by its own fields, and no device call is made for it
 abbrev pub GivesPacked : Key → Packed → Result (List ℕ) ReadBad → Type 0
@@ -46,15 +46,16 @@ GivesPacked key p (Err NoMemory) = ⊤
 GivesPacked key p (Err Fault) = ⊥
 
 -- and where these bytes stand there: they may be no clump
-abbrev pub ReadsAs : (score_of : List ℕ → List ℕ) → Key → (bytes : List ℕ)
+abbrev pub ReadsBlockAs : (score_of : List ℕ → List ℕ) → Key → (bytes : List ℕ)
     → Result (List ℕ) ReadBad → Type 0
-ReadsAs score_of key bytes (Ok block) =
-    (first_bad score_of bytes ≡ None) × Gives key (stored_in bytes) (Ok block)
-ReadsAs score_of key bytes (Err (Damaged want found)) =
+ReadsBlockAs score_of key bytes (Ok block) =
+    (first_bad_clump score_of bytes ≡ None) × GivesBlock key (stored_in bytes) (Ok block)
+ReadsBlockAs score_of key bytes (Err (Damaged want found)) =
     IsDamaged score_of bytes want found
-    ⊎ ((first_bad score_of bytes ≡ None) × Gives key (stored_in bytes) (Err (Damaged want found)))
-ReadsAs score_of key bytes (Err NoMemory) = ⊤
-ReadsAs score_of key bytes (Err Fault) = ⊤
+    ⊎ ((first_bad_clump score_of bytes ≡ None)
+    × GivesBlock key (stored_in bytes) (Err (Damaged want found)))
+ReadsBlockAs score_of key bytes (Err NoMemory) = ⊤
+ReadsBlockAs score_of key bytes (Err Fault) = ⊤
 
 -- What reading a place answers, for any key: what stands there in the queue or, where nothing
 -- queued has the place, on the disk. Of a place in no arena the number is told, where that of the
@@ -70,6 +71,6 @@ pub record AnswersRead {D : Type 0} (score_of : List ℕ → List ℕ) (disk : D
       → slice_get l.layout place.arena ≡ Some r → ¬ HasHeader r.region.len place.offset
       → result ≡ Err (Damaged (Number ARENA_HEAD_LEN) (Number place.offset))
   pub stored : (r : ArenaRegion) (device : D) → IsNowhere l.queue.places place
-      → IsAt l place.arena r device → HasHeader r.region.len place.offset → (clump : List ℕ)
+      → IsArenaAt l place.arena r device → HasHeader r.region.len place.offset → (clump : List ℕ)
       × (IsTrue disk.tells → clump ≡ clump_at r.region place.offset (disk.bytes device))
-      × ReadsAs score_of key clump result
+      × ReadsBlockAs score_of key clump result

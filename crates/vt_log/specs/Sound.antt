@@ -10,17 +10,18 @@ use Rattle.vt_model.specs.Places.{lengths_in, current_arena, place_of}
 use Rattle.vt_part.specs.declared.layout.ArenaRegion.{ArenaRegion}
 use Rattle.vt_arena.specs.declared.TheConstants.{FRAME_LEN}
 use Rattle.vt_arena.specs.declared.head.Found.{Found}
-use Rattle.vt_arena.specs.Layout.{Content, IsArena, head_of}
+use Rattle.vt_arena.specs.Layout.{Content, IsArena, arena_head}
 use Rattle.vt_arena.specs.Places.{block_room}
-use Rattle.vt_arena.specs.Sound.{IsSettled, IsSound as IsSoundArena}
+use Rattle.vt_arena.specs.Sound.{IsSettled, IsSoundArena}
 use Rattle.vt_log.specs.declared.filling.Filling.{Filling}
-use Rattle.vt_log.specs.Log.{LogState, setup_of, front, queue_of}
-use Rattle.vt_log.specs.Logs.{blocks_from, IsSealed, IsUntouched, StandsFor}
+use Rattle.vt_log.specs.Log.{LogState, setup_of_log, front, queue_of}
+use Rattle.vt_log.specs.Logs.{blocks_from, IsSealed, IsUntouched, LogStandsFor}
 use Rattle.vt_log.specs.Queue.{spot_of}
-use Rattle.vt_log.specs.Whole.{IsWhole}
+use Rattle.vt_log.specs.Whole.{IsWholeLog}
 
 -- arena i stands here, on this disk
-pub record IsAt {D : Type 0} (l : LogState D) (i : ℕ) (r : ArenaRegion) (disk : D) : Type 0 where
+pub record IsArenaAt {D : Type 0} (l : LogState D) (i : ℕ) (r : ArenaRegion) (disk : D)
+    : Type 0 where
   pub arena : slice_get l.layout i ≡ Some r
   pub disk_is : slice_get l.disks r.part ≡ Some disk
 
@@ -38,28 +39,28 @@ pub record IsFilledBy (lengths : List ℕ) (f : Filling) : Type 0 where
 
 -- The disks, by what they read as and by their images, are sound for a log that has accepted this
 -- history.
-pub record IsSound {D : Type 0} (score_of : List ℕ → List ℕ) (disk : DiskOf D) (l : LogState D)
+pub record IsSoundLog {D : Type 0} (score_of : List ℕ → List ℕ) (disk : DiskOf D) (l : LogState D)
     (h : History) : Type 0 where
-  pub whole : IsWhole disk l
+  pub whole : IsWholeLog disk l
   -- what each arena holds
   pub contents : List Content
   pub many : length contents ≡ length l.layout
   pub split : IsSplit l.committing contents
   -- the arena that is committed in is sound; of any other a crash leaves just what is read of it
-  pub current : (r : ArenaRegion) (device : D) (a : Content) → IsAt l l.committing r device
+  pub current : (r : ArenaRegion) (device : D) (a : Content) → IsArenaAt l l.committing r device
       → slice_get contents l.committing ≡ Some a
       → IsSoundArena score_of l.arena r.region a (disk.bytes device) (disk.images device)
   pub others : (i : ℕ) (r : ArenaRegion) (device : D) (a : Content) → i ≢ l.committing
-      → IsAt l i r device → slice_get contents i ≡ Some a
+      → IsArenaAt l i r device → slice_get contents i ≡ Some a
       → IsSettled r.region (disk.bytes device) (disk.images device)
       × IsArena score_of r.region r.number a (disk.bytes device)
   -- the heads are those of what is committed, and behind that arena the selectors are as they are
   -- read
   pub heads : (i : ℕ) (r : ArenaRegion) (found : Found) (a : Content)
       → slice_get l.layout i ≡ Some r → slice_get l.heads i ≡ Some found
-      → slice_get contents i ≡ Some a → found.head ≡ head_of score_of r.number a
+      → slice_get contents i ≡ Some a → found.head ≡ arena_head score_of r.number a
   pub selectors : (i : ℕ) (r : ArenaRegion) (device : D) (found : Found) → l.committing < i
-      → IsAt l i r device → slice_get l.heads i ≡ Some found
+      → IsArenaAt l i r device → slice_get l.heads i ≡ Some found
       → found.selector % 2 ≡ named_number r.region FRAME_LEN (disk.bytes device)
   -- the history is what the arenas hold and, behind it, the queue
   pub committed : take l.durable h ≡ blocks_from 0 contents
@@ -68,13 +69,13 @@ pub record IsSound {D : Type 0} (score_of : List ℕ → List ℕ) (disk : DiskO
   pub packed : All (λ w. IsPacked score_of w.packed) l.queue.waiting
   -- the blocks stand where the model puts them
   pub places : (i : ℕ) (place : Place) → slice_get l.queue.places i ≡ Some place
-      → place_of (setup_of l) h (l.durable + i) ≡ Some (spot_of place)
+      → place_of (setup_of_log l) h (l.durable + i) ≡ Some (spot_of place)
   pub filling : IsFilledBy (lengths_in l.filling.arena h) l.filling
-  pub last : l.filling.arena ≡ current_arena (setup_of l) h
+  pub last : l.filling.arena ≡ current_arena (setup_of_log l) h
   pub arenas : All (λ e. e.arena ≤ l.filling.arena) h
 
 -- one file for each disk, which a crash may leave of it
-pub record AreImages {D : Type 0} (disk : DiskOf D) (disks : List D)
+pub record AreImagesOf {D : Type 0} (disk : DiskOf D) (disks : List D)
     (files : List (List ℕ)) : Type 0 where
   pub many : length files ≡ length disks
   pub each : (i : ℕ) (device : D) (file : List ℕ) → slice_get disks i ≡ Some device
@@ -82,7 +83,7 @@ pub record AreImages {D : Type 0} (disk : DiskOf D) (disks : List D)
 
 -- and which a crash may leave of it at a moment within a call that turns the one list into the
 -- other
-pub record AreWithinCall {D : Type 0} (disk : DiskOf D) (old new : List D)
+pub record AreWithinCallOf {D : Type 0} (disk : DiskOf D) (old new : List D)
     (files : List (List ℕ)) : Type 0 where
   pub many : length files ≡ length old
   pub each : (i : ℕ) (before after : D) (file : List ℕ) → slice_get old i ≡ Some before
@@ -90,8 +91,8 @@ pub record AreWithinCall {D : Type 0} (disk : DiskOf D) (old new : List D)
       → WithinCall (disk.images before) (disk.images after) file
 
 -- the files stand for a prefix of the history that has all durable blocks
-abbrev pub StandForPrefix : {D : Type 0} → (score_of : List ℕ → List ℕ) → LogState D
+abbrev pub LogStandsForPrefix : {D : Type 0} → (score_of : List ℕ → List ℕ) → LogState D
     → (files : List (List ℕ)) → History → Type 0
-StandForPrefix score_of l files h =
+LogStandsForPrefix score_of l files h =
     (n : ℕ) × (l.durable ≤ n) × (n ≤ length h)
-    × StandsFor score_of (setup_of l) l.layout files h n
+    × LogStandsFor score_of (setup_of_log l) l.layout files h n

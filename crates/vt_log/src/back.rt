@@ -10,18 +10,17 @@ ghost use Rattle.vt_part.specs.declared.layout.ArenaRegion.{ArenaRegion};
 ghost use Rattle.vt_arena.specs.declared.directory.At.{At};
 ghost use Rattle.vt_arena.specs.declared.head.Found.{Found};
 ghost use Rattle.vt_clump.specs.Spelling.{Stored};
-ghost use Rattle.vt_arena.specs.Directory.{last_entry, Walks, IsInfo, NamesDamage, is_fault, IsAt as IsAtBlock};
-ghost use Rattle.vt_arena.specs.Layout.{Content, IsContent, HasBlocks, head_of};
+ghost use Rattle.vt_arena.specs.Directory.{last_entry, WalksEntry, IsInfoOfBlock, NamesDamage, is_back_fault, IsAtBlock};
+ghost use Rattle.vt_arena.specs.Layout.{Content, IsArenaContent, HasBlocks, arena_head};
 ghost use Rattle.vt_arena.specs.Places.{block_room};
 
 use crate::log::Log;
 use std::marker::Model;
 use std::sync::ledger::Ledger;
 use vt_arena::{At, BackBad, info};
-use vt_base::{Info, Key, Place, Scorer};
+use vt_base::{Info, Key, Place, Scorer, Steps};
 use vt_disk::Disk;
 use vt_model::ARENA_HEAD_LEN;
-use vt_steps::Steps;
 
 /// Where a walk of a log stands, from its last block to the first.
 #[derive(Drop)]
@@ -57,21 +56,21 @@ impl Tail {
 }
 
 impl<D: Disk, S: Scorer> Log<D, S> {
-    ghost use Rattle.vt_log.specs.Answers.{OnlyReads, Spares};
-    ghost use Rattle.vt_log.specs.Back.{IsTailOf, IsBehind, StepsBack, IsNext, GivesEntry, Moves, IsQueued};
+    ghost use Rattle.vt_log.specs.Answers.{OnlyReadsLog, Spares};
+    ghost use Rattle.vt_log.specs.Back.{IsTailOf, IsTailBehind, StepsBack, IsNextEntry, GivesEntry, MovesBack, IsQueued};
     ghost use Rattle.vt_log.specs.Faults.{CountsFaults};
     ghost use Rattle.vt_log.specs.Log.{front, packed_of};
-    ghost use Rattle.vt_log.specs.Sound.{IsSound, IsAt};
-    ghost use Rattle.vt_log.specs.Whole.{IsWhole};
+    ghost use Rattle.vt_log.specs.Sound.{IsSoundLog, IsArenaAt};
+    ghost use Rattle.vt_log.specs.Whole.{IsWholeLog};
 
     /// A walk that has all blocks before it.
     pub fn tail(&self) -> Tail
-        ensures whole { IsWhole D.Disk self.now }
+        ensures whole { IsWholeLog D.Disk self.now }
         ensures tail { IsTailOf self.now result }
         ensures all { result.left ≡ front self.now }
         ensures behind { (h : History)
-            → IsSound S.score_of D.Disk self.now h
-            → IsBehind self.now h (length h) result }
+            → IsSoundLog S.score_of D.Disk self.now h
+            → IsTailBehind self.now h (length h) result }
     {
         Tail {
             left: self.front(),
@@ -112,9 +111,9 @@ impl<D: Disk, S: Scorer> Log<D, S> {
 
         // The blocks are given from the last to the first.
         ensures blocks { (h : History) (n : ℕ) → IsTrue D.tells
-            → IsSound S.score_of D.Disk self.old h → IsBehind self.old h n tail.old
+            → IsSoundLog S.score_of D.Disk self.old h → IsTailBehind self.old h n tail.old
             → MatchResult result (StepsBack S.score_of self.old h n tail.new)
-            (λ bad. (bad ≡ BackBad.Fault) × IsBehind self.old h n tail.new) }
+            (λ bad. (bad ≡ BackBad.Fault) × IsTailBehind self.old h n tail.new) }
 
         // Whatever the disks hold, an answer is what the queue or an entry says.
         ensures queued { 0 < tail.old.queued → (info : Info) × (p : Packed) × (place : Place)
@@ -126,12 +125,12 @@ impl<D: Disk, S: Scorer> Log<D, S> {
               queued = tail.old.queued - 1;
             }) }
         ensures entry { (arena : ℕ) (at : At) (found : Found) (r : ArenaRegion) (disk : D)
-            → tail.old.queued ≡ 0 → IsNext self.old.heads tail.old arena at
-            → slice_get self.old.heads arena ≡ Some found → IsAt self.old arena r disk
+            → tail.old.queued ≡ 0 → IsNextEntry self.old.heads tail.old arena at
+            → slice_get self.old.heads arena ≡ Some found → IsArenaAt self.old arena r disk
             → (entry : List ℕ) × (IsTrue D.tells
             → entry ≡ last_entry r.region at.index (D.bytes disk))
             × GivesEntry arena tail.old.left found.head.used at entry result
-            × Moves arena at tail.new result }
+            × MovesBack arena at tail.new result }
         ensures none { (result ≡ Ok None) ↔ (tail.old.left ≡ 0) }
 
         // The two values of a damage are of one form, and differ.
@@ -145,12 +144,13 @@ impl<D: Disk, S: Scorer> Log<D, S> {
         ensures cost { 0 < tail.old.left → tail.old.queued ≡ 0 → steps.new ≡ steps.old + 1 }
         ensures free { (tail.old.left ≡ 0) ⊎ (0 < tail.old.queued)
             → (steps.new ≡ steps.old) × (self.new ≡ self.old) }
-        ensures reads { OnlyReads S.score_of D.Disk 1 self.old self.new }
+        ensures reads { OnlyReadsLog S.score_of D.Disk 1 self.old self.new }
         ensures spares { (arena : ℕ) (at : At) (found : Found) (r : ArenaRegion)
-            → IsNext self.old.heads tail.old arena at → slice_get self.old.heads arena ≡ Some found
+            → IsNextEntry self.old.heads tail.old arena at → slice_get self.old.heads arena
+            ≡ Some found
             → slice_get self.old.layout arena ≡ Some r
             → Spares r.part self.old.disks self.new.disks }
-        ensures cause { CountsFaults D.Disk is_fault result self.old.disks self.new.disks }
+        ensures cause { CountsFaults D.Disk is_back_fault result self.old.disks self.new.disks }
     {
         if tail.queued > 0 {
             return Ok(Some(self.back_in_queue(tail)));
@@ -168,7 +168,7 @@ impl<D: Disk, S: Scorer> Log<D, S> {
         requires tail { IsTailOf self.now tail.old }
         requires some { 0 < tail.old.queued }
         ensures blocks { (h : History) (n : ℕ)
-            → IsSound S.score_of D.Disk self.now h → IsBehind self.now h n tail.old
+            → IsSoundLog S.score_of D.Disk self.now h → IsTailBehind self.now h n tail.old
             → StepsBack S.score_of self.now h n tail.new (Some result) }
         ensures queued { (p : Packed) × (place : Place) × IsQueued p place tail.old.left result
             × (slice_get (packed_of self.now) (tail.old.queued - 1) ≡ Some p)
@@ -201,10 +201,10 @@ impl<D: Disk, S: Scorer> Log<D, S> {
         requires left { 0 < tail.old.left }
         ensures tail { IsTailOf self.now tail.new }
         ensures same { (tail.new.left ≡ tail.old.left) × (tail.new.queued ≡ 0) }
-        ensures next { IsNext self.now.heads tail.old tail.new.arena tail.new.at }
+        ensures next { IsNextEntry self.now.heads tail.old tail.new.arena tail.new.at }
         ensures behind { (h : History) (n : ℕ)
-            → IsSound S.score_of D.Disk self.now h → IsBehind self.now h n tail.old
-            → IsBehind self.now h n tail.new }
+            → IsSoundLog S.score_of D.Disk self.now h → IsTailBehind self.now h n tail.old
+            → IsTailBehind self.now h n tail.new }
     {
         while tail.at.index == 0 {
             tail.arena -= 1;
@@ -218,24 +218,24 @@ impl<D: Disk, S: Scorer> Log<D, S> {
         requires queued { tail.old.queued ≡ 0 }
         requires some { 0 < tail.old.at.index }
         ensures blocks { (h : History) (n : ℕ) → IsTrue D.tells
-            → IsSound S.score_of D.Disk self.old h → IsBehind self.old h n tail.old
+            → IsSoundLog S.score_of D.Disk self.old h → IsTailBehind self.old h n tail.old
             → MatchResult result (StepsBack S.score_of self.old h n tail.new)
-            (λ bad. (bad ≡ BackBad.Fault) × IsBehind self.old h n tail.new) }
+            (λ bad. (bad ≡ BackBad.Fault) × IsTailBehind self.old h n tail.new) }
         ensures entry { (found : Found) (r : ArenaRegion) (disk : D)
             → slice_get self.old.heads tail.old.arena ≡ Some found
-            → IsAt self.old tail.old.arena r disk → (entry : List ℕ)
+            → IsArenaAt self.old tail.old.arena r disk → (entry : List ℕ)
             × (IsTrue D.tells → entry ≡ last_entry r.region tail.old.at.index (D.bytes disk))
             × GivesEntry tail.old.arena tail.old.left found.head.used tail.old.at entry result }
         ensures differs { IfErr result NamesDamage }
-        ensures moved { Moves tail.old.arena tail.old.at tail.new result }
+        ensures moved { MovesBack tail.old.arena tail.old.at tail.new result }
         ensures some { result ≢ Ok None }
         ensures tail { IsTailOf self.new tail.new }
         ensures left { MatchResult result (λ it. MatchOption it (tail.new.left ≡ tail.old.left)
             (λ _. tail.new.left + 1 ≡ tail.old.left)) (λ _. tail.new.left ≡ tail.old.left) }
-        ensures reads { OnlyReads S.score_of D.Disk 1 self.old self.new }
+        ensures reads { OnlyReadsLog S.score_of D.Disk 1 self.old self.new }
         ensures spares { (r : ArenaRegion) → slice_get self.old.layout tail.old.arena ≡ Some r
             → Spares r.part self.old.disks self.new.disks }
-        ensures cause { CountsFaults D.Disk is_fault result self.old.disks self.new.disks }
+        ensures cause { CountsFaults D.Disk is_back_fault result self.old.disks self.new.disks }
     {
         let arena = tail.arena;
         let info = self.read_entry(arena, &mut tail.at)?;
@@ -259,24 +259,24 @@ impl<D: Disk, S: Scorer> Log<D, S> {
             → (at.old.index ≤ found.head.clumps) × (at.old.end ≤ found.head.used) }
         ensures entry { (found : Found) (r : ArenaRegion) (disk : D)
             → slice_get self.old.heads arena ≡ Some found
-            → IsAt self.old arena r disk → (entry : List ℕ)
+            → IsArenaAt self.old arena r disk → (entry : List ℕ)
             × (IsTrue D.tells → entry ≡ last_entry r.region at.old.index (D.bytes disk))
-            × Walks found.head.number found.head.used at.old entry result }
+            × WalksEntry found.head.number found.head.used at.old entry result }
         ensures differs { IfErr result NamesDamage }
         ensures moved { IfOk result (λ info. (at.new.index + 1 ≡ at.old.index)
             × (at.new.end + block_room info.size ≡ at.old.end)) }
         ensures stays { IfErr result (λ _. at.new ≡ at.old) }
         ensures committed { (found : Found) (r : ArenaRegion) (disk : D) (number : ℕ)
             (a : Content) (before behind : List Stored) (s : Stored) → IsTrue D.tells
-            → slice_get self.old.heads arena ≡ Some found → IsAt self.old arena r disk
-            → IsContent S.score_of r.region.len a → HasBlocks r.region a.stored (D.bytes disk)
-            → a.stored ≡ before ++ s ∷ behind → found.head ≡ head_of S.score_of number a
+            → slice_get self.old.heads arena ≡ Some found → IsArenaAt self.old arena r disk
+            → IsArenaContent S.score_of r.region.len a → HasBlocks r.region a.stored (D.bytes disk)
+            → a.stored ≡ before ++ s ∷ behind → found.head ≡ arena_head S.score_of number a
             → IsAtBlock before s at.old
-            → MatchResult result (IsInfo number before s) (λ bad. bad ≡ BackBad.Fault) }
-        ensures reads { OnlyReads S.score_of D.Disk 1 self.old self.new }
+            → MatchResult result (IsInfoOfBlock number before s) (λ bad. bad ≡ BackBad.Fault) }
+        ensures reads { OnlyReadsLog S.score_of D.Disk 1 self.old self.new }
         ensures spares { (r : ArenaRegion) → slice_get self.old.layout arena ≡ Some r
             → Spares r.part self.old.disks self.new.disks }
-        ensures cause { CountsFaults D.Disk is_fault result self.old.disks self.new.disks }
+        ensures cause { CountsFaults D.Disk is_back_fault result self.old.disks self.new.disks }
     {
         let r = self.layout.as_slice()[arena as usize];
         let head = self.heads[arena as usize].head;

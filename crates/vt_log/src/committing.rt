@@ -4,7 +4,7 @@ ghost use Rattle.std.specs.Prelude.{◌≡◌, ◌↔◌, ◌⊎◌, ◌+◌, �
 ghost use Rattle.vt_model.specs.History.{History};
 ghost use Rattle.vt_arena.specs.Arena.{calls_made, commit_calls, is_committing};
 
-use crate::bad::{LogErr, Progress};
+use crate::error::{LogErr, Progress};
 use crate::log::Log;
 use crate::queue::Queue;
 use vt_arena::Arena;
@@ -13,11 +13,11 @@ use vt_disk::Disk;
 use vt_twin::Step;
 
 impl<D: Disk, S: Scorer> Log<D, S> {
-    ghost use Rattle.vt_log.specs.Committing.{Stages, IsReady, TakesAll, TakesStep, Prepares, MakesOneCall};
+    ghost use Rattle.vt_log.specs.Committing.{Stages, IsCommitReady, TakesAllWaiting, LogTakesStep, Prepares, MakesOneCall};
     ghost use Rattle.vt_log.specs.Log.{LogState, queued, packed_of};
     ghost use Rattle.vt_log.specs.Queue.{WaitsFor};
     ghost use Rattle.vt_log.specs.Owed.{owed, seal_calls};
-    ghost use Rattle.vt_log.specs.Sound.{IsSound, AreWithinCall, StandForPrefix};
+    ghost use Rattle.vt_log.specs.Sound.{IsSoundLog, AreWithinCallOf, LogStandsForPrefix};
 
     /// How many calls of `advance` are left at most until nothing is queued: at most six for each
     /// queued block, and six. Each that makes a device call lowers it.
@@ -57,17 +57,17 @@ impl<D: Disk, S: Scorer> Log<D, S> {
     pub fn advance(&mut self) -> Result<Progress, LogErr>
         // For each history for which the disks are sound they stay so. It isn't changed.
         ensures sound { (h : History) → IsTrue D.tells
-            → IsSound S.score_of D.Disk self.old h → IsSound S.score_of D.Disk self.new h }
+            → IsSoundLog S.score_of D.Disk self.old h → IsSoundLog S.score_of D.Disk self.new h }
 
         // A crash at any moment of the call leaves disks that, taken together, stand for a prefix
         // of it that has all durable blocks.
         ensures crash { (h : History) → IsTrue D.tells
-            → IsSound S.score_of D.Disk self.old h
-            → (files : List (List ℕ)) → AreWithinCall D.Disk self.old.disks self.new.disks files
-            → StandForPrefix S.score_of self.old files h }
+            → IsSoundLog S.score_of D.Disk self.old h
+            → (files : List (List ℕ)) → AreWithinCallOf D.Disk self.old.disks self.new.disks files
+            → LogStandsForPrefix S.score_of self.old files h }
 
         // So much holds whatever the disks have.
-        ensures step { TakesStep D.Disk result self.old self.new }
+        ensures step { LogTakesStep D.Disk result self.old self.new }
     {
         if let Some(call) = self.calls.stopped {
             return Err(LogErr::Stopped(call));
@@ -75,17 +75,16 @@ impl<D: Disk, S: Scorer> Log<D, S> {
         if self.queue.is_empty() {
             return Ok(Progress::Idle);
         }
-        self.prepare();
+        self.stage_commit();
         self.make_call()
     }
 
     /// Stages a commit, where none is under way.
-    // (a commit; prepare of vt_answer takes a session's memory, that of vt_turns makes its words)
-    fn prepare(&mut self)
+    fn stage_commit(&mut self)
         requires { 0 < queued self.old }
         ensures prepares { Prepares self.old self.new }
-        ensures sound { (h : History) → IsSound S.score_of D.Disk self.old h
-            → IsSound S.score_of D.Disk self.new h }
+        ensures sound { (h : History) → IsSoundLog S.score_of D.Disk self.old h
+            → IsSoundLog S.score_of D.Disk self.new h }
     {
         if !self.arena.is_committing() {
             self.stage_all();
@@ -101,12 +100,12 @@ impl<D: Disk, S: Scorer> Log<D, S> {
             ≡ record self.old { arena = self.new.arena; queue = self.new.queue } }
         ensures places { self.new.queue.places ≡ self.old.queue.places }
         ensures packed { packed_of self.new ≡ packed_of self.old }
-        ensures ready { IsReady self.new }
-        ensures batch { TakesAll self.new }
+        ensures ready { IsCommitReady self.new }
+        ensures batch { TakesAllWaiting self.new }
         ensures owed { owed self.new ≤ owed self.old }
         ensures still { IsFalse (is_committing self.new.arena) }
-        ensures sound { (h : History) → IsSound S.score_of D.Disk self.old h
-            → IsSound S.score_of D.Disk self.new h }
+        ensures sound { (h : History) → IsSoundLog S.score_of D.Disk self.old h
+            → IsSoundLog S.score_of D.Disk self.new h }
     {
         while self.stage_next() {}
         if self.queue.waiting() > 0 {
@@ -122,8 +121,8 @@ impl<D: Disk, S: Scorer> Log<D, S> {
             → length self.new.queue.waiting + 1 ≡ length self.old.queue.waiting }
         ensures none { IsFalse result → (self.new ≡ self.old)
             × ¬ WaitsFor self.old.committing self.old.queue.waiting }
-        ensures sound { (h : History) → IsSound S.score_of D.Disk self.old h
-            → IsSound S.score_of D.Disk self.new h }
+        ensures sound { (h : History) → IsSoundLog S.score_of D.Disk self.old h
+            → IsSoundLog S.score_of D.Disk self.new h }
     {
         match self.queue.take_for(self.committing) {
             Some(packed) => {
@@ -138,7 +137,7 @@ impl<D: Disk, S: Scorer> Log<D, S> {
     fn make_call(&mut self) -> Result<Progress, LogErr>
         requires runs { self.old.stopped ≡ None }
         requires some { 0 < queued self.old }
-        requires ready { IsReady self.old }
+        requires ready { IsCommitReady self.old }
         ensures { MakesOneCall S.score_of D.Disk self.old self.new result }
     {
         let blocks = self.arena.staged().len();

@@ -5,7 +5,7 @@ ghost use Rattle.vt_model.specs.History.{History};
 ghost use Rattle.vt_part.specs.declared.layout.ArenaRegion.{ArenaRegion};
 ghost use Rattle.vt_log.specs.Log.{LogState};
 ghost use Rattle.vt_log.specs.Logs.{IsLog};
-ghost use Rattle.vt_log.specs.Sound.{IsSound, AreImages, StandForPrefix};
+ghost use Rattle.vt_log.specs.Sound.{IsSoundLog, AreImagesOf, LogStandsForPrefix};
 
 use vt_disk::{Disk, MOST_ARENA};
 
@@ -14,8 +14,8 @@ use vt_disk::{Disk, MOST_ARENA};
 pub fn crash_gives_a_prefix<D: Disk>()
     ensures { (score_of : List ℕ → List ℕ) (l : LogState D) (h : History)
         (files : List (List ℕ))
-        → IsSound score_of D.Disk l h → AreImages D.Disk l.disks files
-        → StandForPrefix score_of l files h }
+        → IsSoundLog score_of D.Disk l h → AreImagesOf D.Disk l.disks files
+        → LogStandsForPrefix score_of l files h }
 {}
 
 /// Files are one log at most.

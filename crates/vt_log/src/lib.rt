@@ -5,8 +5,8 @@
 #![tactic(auto)]
 
 mod back;
-mod bad;
 mod committing;
+mod error;
 mod filling;
 mod laws;
 mod log;
@@ -15,7 +15,7 @@ mod queue;
 mod reading;
 
 pub use back::Tail;
-pub use bad::{Full, LogBad, LogErr, Progress};
+pub use error::{Full, LogBad, LogErr, Progress};
 pub use laws::{crash_gives_a_prefix, logs_are_told_apart};
 pub use log::Log;
 pub use mounting::{format, mount};

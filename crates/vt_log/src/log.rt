@@ -13,7 +13,7 @@ ghost use Rattle.vt_arena.specs.Places.{IsArenaLen, directory_room, arena_room};
 ghost use Rattle.vt_log.specs.declared.TheConstants.{QUEUE_MAX};
 
 use crate::QUEUE_MAX;
-use crate::bad::Full;
+use crate::error::Full;
 use crate::filling::Filling;
 use crate::queue::Queue;
 use std::marker::Model;
@@ -59,18 +59,18 @@ impl<D: Disk, S: Scorer> Model for Log<D, S> {
     ghost Value = { LogState D };
 
     ghost use Rattle.vt_log.specs.View.{state_of};
-    ghost use Rattle.vt_log.specs.Whole.{IsWhole};
+    ghost use Rattle.vt_log.specs.Whole.{IsWholeLog};
 
     ghost view = { state_of };
 
-    ghost invariant = { λ l. IsWhole D.Disk (state_of l) };
+    ghost invariant = { λ l. IsWholeLog D.Disk (state_of l) };
 }
 
 impl<D: Disk, S: Scorer> Log<D, S> {
-    ghost use Rattle.vt_log.specs.Answers.{Appends, OnlyReads, TakesOrRefuses, Spares};
+    ghost use Rattle.vt_log.specs.Answers.{AppendsBlock, OnlyReadsLog, TakesOrRefuses, Spares};
     ghost use Rattle.vt_log.specs.Faults.{CountsFaults};
-    ghost use Rattle.vt_log.specs.Log.{LogState, front, queued, setup_of, has_next, next_filling, fits_in};
-    ghost use Rattle.vt_log.specs.Sound.{IsSound};
+    ghost use Rattle.vt_log.specs.Log.{LogState, front, queued, setup_of_log, has_next, next_filling, fits_in};
+    ghost use Rattle.vt_log.specs.Sound.{IsSoundLog};
 
     /// How many arenas there are.
     pub fn arenas(&self) -> u32
@@ -112,7 +112,7 @@ impl<D: Disk, S: Scorer> Log<D, S> {
             × (buf.new ≡ part_of (r.region.start + at) (length buf.old) (D.bytes disk))) }
 
         // It makes one read of the arena's disk, and changes nothing.
-        ensures reads { OnlyReads S.score_of D.Disk 1 self.old self.new }
+        ensures reads { OnlyReadsLog S.score_of D.Disk 1 self.old self.new }
         ensures spares { (r : ArenaRegion) → slice_get self.old.layout arena ≡ Some r
             → Spares r.part self.old.disks self.new.disks }
         ensures cause { CountsFaults D.Disk (λ _. Bool.true) result self.old.disks self.new.disks }
@@ -173,8 +173,8 @@ impl<D: Disk, S: Scorer> Log<D, S> {
     pub fn room(&self, n: u32) -> bool
         ensures room { result ≡ has_next self.now n }
         ensures next { (h : History)
-            → IsSound S.score_of D.Disk self.now h
-            → result ≡ is_some (next_arena (setup_of self.now) h n) }
+            → IsSoundLog S.score_of D.Disk self.now h
+            → result ≡ is_some (next_arena (setup_of_log self.now) h n) }
     {
         self.next_filling(n).is_some()
     }
@@ -188,8 +188,8 @@ impl<D: Disk, S: Scorer> Log<D, S> {
         // For each history for which the disks are sound, the block is added exactly where there is
         // a next arena for it, in that arena.
         ensures appends { (h : History) → IsPacked S.score_of packed
-            → IsSound S.score_of D.Disk self.old h
-            → Appends S.score_of D.Disk self.old self.new h packed result }
+            → IsSoundLog S.score_of D.Disk self.old h
+            → AppendsBlock S.score_of D.Disk self.old self.new h packed result }
 
         // So much holds whatever the disks have.
         ensures takes { TakesOrRefuses packed self.old self.new result }

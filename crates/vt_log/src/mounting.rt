@@ -6,7 +6,7 @@ ghost use Rattle.vt_disk.specs.Calls.{IsSynced};
 ghost use Rattle.vt_model.specs.History.{History};
 ghost use Rattle.vt_part.specs.Layout.{layout_of, AreDistinct};
 ghost use Rattle.vt_part.specs.Parts.{disk_of, table_of, tables_of, names_of};
-ghost use Rattle.vt_part.specs.Table.{end_of};
+ghost use Rattle.vt_part.specs.Table.{arenas_end};
 ghost use Rattle.vt_part.specs.declared.layout.ArenaRegion.{ArenaRegion};
 ghost use Rattle.vt_part.specs.declared.part.Part.{Part};
 ghost use Rattle.vt_arena.specs.declared.head.Found.{Found};
@@ -14,16 +14,16 @@ ghost use Rattle.vt_arena.specs.Faults.{CanStand};
 ghost use Rattle.vt_arena.specs.Heads.{fields_of};
 ghost use Rattle.vt_arena.specs.Places.{IsArenaLen};
 ghost use Rattle.vt_log.specs.Answers.{HoldTheSame};
-ghost use Rattle.vt_log.specs.Faults.{AreFields, RefusesMount, CountsFaults, IsMountedBy, out_of_order, is_fault};
-ghost use Rattle.vt_log.specs.Formatting.{IsEmpty, WritesInHeads, StopsAt, StopsIn};
-ghost use Rattle.vt_log.specs.Log.{IsMounted, disks_of, disks_after};
+ghost use Rattle.vt_log.specs.Faults.{AreFields, RefusesLogMount, CountsFaults, IsMountedBy, out_of_order, is_log_fault};
+ghost use Rattle.vt_log.specs.Formatting.{IsEmpty, WritesInHeads, StopsAtArena, StopsIn};
+ghost use Rattle.vt_log.specs.Log.{IsMountedLog, disks_of, disks_after};
 ghost use Rattle.vt_log.specs.Logs.{IsLog, arena_count};
-ghost use Rattle.vt_log.specs.Mounting.{IsTold, IsEarly, StopsSyncing, AreRead, AreFieldsAt, FindsNext, refused_by, IsFound, AreFound, RefusesArenas, ArePassed, IsFirstOpen, IsRoomFor};
+ghost use Rattle.vt_log.specs.Mounting.{TellsOfSettled, IsBeforeCalls, StopsSyncing, OnlyReadsParts, AreFieldsAt, FindsNext, arena_refusal, IsFoundArena, AreFound, RefusesArenas, ArePassed, IsFirstOpen, IsRoomFor};
 ghost use Rattle.vt_log.specs.Queue.{no_queue};
-ghost use Rattle.vt_log.specs.Sound.{IsSound, AreImages};
-ghost use Rattle.vt_log.specs.Whole.{IsOnDisk, IsWhole};
+ghost use Rattle.vt_log.specs.Sound.{IsSoundLog, AreImagesOf};
+ghost use Rattle.vt_log.specs.Whole.{IsOnDisk, IsWholeLog};
 
-use crate::bad::LogBad;
+use crate::error::LogBad;
 use crate::filling::Filling;
 use crate::log::Log;
 use crate::queue::Queue;
@@ -36,11 +36,11 @@ use vt_part::{ArenaRegion, Layout, Part, PartBad};
 /// Makes each arena of these partitions one without blocks. Its head is written and synced; other
 /// bytes stay. Failed says that a device call failed.
 pub fn format<D: Disk>(parts: &mut [Part<D>]) -> Result<(), Failed>
-    requires rooms { All (λ part. end_of (table_of part) ≤ D.size (disk_of part)) parts.old }
+    requires rooms { All (λ part. arenas_end (table_of part) ≤ D.size (disk_of part)) parts.old }
 
     // Any images taken together are a log without blocks, whose base is its first arena.
     ensures empty { (score_of : List ℕ → List ℕ) (files : List (List ℕ)) → IsTrue D.tells
-        → AreImages D.Disk (disks_of parts.new) files → OnOk result
+        → AreImagesOf D.Disk (disks_of parts.new) files → OnOk result
         (IsLog score_of (layout_of (tables_of parts.old)) files [] 0) }
     ensures settled { OnOk result (All (IsSynced D.Disk) (disks_of parts.new)) }
 
@@ -64,12 +64,12 @@ pub fn format<D: Disk>(parts: &mut [Part<D>]) -> Result<(), Failed>
 
 /// Makes each arena of a partition one without blocks.
 fn format_part<D: Disk>(part: &mut Part<D>) -> Result<(), Failed>
-    requires { end_of (table_of part.old) ≤ D.size (disk_of part.old) }
+    requires { arenas_end (table_of part.old) ≤ D.size (disk_of part.old) }
     ensures empty { OnOk result (IsEmpty D.Disk part.new) }
     ensures table { table_of part.new ≡ table_of part.old }
     ensures writes { WritesInHeads D.Disk (table_of part.old) (disk_of part.old)
         (disk_of part.new) }
-    ensures stops { OnErr result (StopsAt D.Disk part.old part.new) }
+    ensures stops { OnErr result (StopsAtArena D.Disk part.old part.new) }
     ensures cause { HasCause result (D.faults (disk_of part.old)) (D.faults (disk_of part.new)) }
 {
     for arena in 0..part.count() {
@@ -93,17 +93,17 @@ pub fn mount<D: Disk, S: Scorer + Drop>(
 ) -> Result<Log<D, S>, (LogBad, Vec<Part<D>>)>
     requires many { length parts.items < 2 ^ 32 }
     requires few { arena_count (tables_of parts.items) < 2 ^ 32 }
-    requires rooms { All (λ part. end_of (table_of part) ≤ D.size (disk_of part)) parts.items }
+    requires rooms { All (λ part. arenas_end (table_of part) ≤ D.size (disk_of part)) parts.items }
 
     // The log that is there is found, with exactly its history and its base.
     ensures found { (h : History) (base : ℕ) → IsTrue D.tells → AreDistinct (names_of parts.items)
         → IsLog S.score_of (layout_of (tables_of parts.items))
         (map D.bytes (disks_of parts.items)) h base
-        → MatchResult result (λ log. IsSound S.score_of D.Disk log h
+        → MatchResult result (λ log. IsSoundLog S.score_of D.Disk log h
         × (log.base ≡ base) × (log.durable ≡ length h))
         (λ refusal. (refusal.0 ≡ LogBad.Fault) ⊎ (refusal.0 ≡ LogBad.NoMemory)) }
-    ensures mounted { IfOk result IsMounted }
-    ensures whole { IfOk result (IsWhole D.Disk) }
+    ensures mounted { IfOk result IsMountedLog }
+    ensures whole { IfOk result (IsWholeLog D.Disk) }
     ensures layout { IfOk result (λ log. (log.layout ≡ layout_of (tables_of parts.items))
         × (log.tables ≡ tables_of parts.items)) }
 
@@ -112,11 +112,13 @@ pub fn mount<D: Disk, S: Scorer + Drop>(
         → AreFields (layout_of (tables_of parts.items)) (map D.bytes (disks_of parts.items)) fields)
         × MatchResult result
         (IsMountedBy (names_of parts.items) (layout_of (tables_of parts.items)) fields)
-        (λ refusal. RefusesMount (names_of parts.items) (layout_of (tables_of parts.items)) fields
+        (λ refusal. RefusesLogMount (names_of parts.items) (layout_of (tables_of parts.items))
+        fields
         refusal.0) }
 
     // A refusal is told of disks that are settled, and nothing is read behind a failed sync.
-    ensures told { IfErr result (λ refusal. IsTold D.Disk parts.items refusal.1.items refusal.0) }
+    ensures told { IfErr result
+        (λ refusal. TellsOfSettled D.Disk parts.items refusal.1.items refusal.0) }
 
     // It writes nothing, and syncs each disk and reads each head once.
     ensures handed_back { IfErr result (λ refusal. tables_of refusal.1.items
@@ -126,7 +128,7 @@ pub fn mount<D: Disk, S: Scorer + Drop>(
     ensures most_calls { IsTrue D.tells → sum_by D.calls (disks_after result)
         ≤ sum_by D.calls (disks_of parts.items) + length parts.items
         + 2 * arena_count (tables_of parts.items) }
-    ensures cause { CountsFaults D.Disk (λ refusal. is_fault refusal.0) result
+    ensures cause { CountsFaults D.Disk (λ refusal. is_log_fault refusal.0) result
         (disks_of parts.items) (disks_after result) }
 {
     match find_log(alloc, &mut parts) {
@@ -151,7 +153,7 @@ impl Opened {
 
     fn into_log<D: Disk, S: Scorer>(self, parts: Vec<Part<D>>, scorer: S) -> Log<D, S>
         requires queue { self.queue ≡ no_queue }
-        requires whole { IsWhole D.Disk (found_log (disks_of parts.items) (tables_of parts.items)
+        requires whole { IsWholeLog D.Disk (found_log (disks_of parts.items) (tables_of parts.items)
             self.layout self.heads.items self.base self.arena) }
         ensures { result ≡ found_log (disks_of parts.items) (tables_of parts.items)
             self.layout self.heads.items self.base self.arena }
@@ -198,13 +200,13 @@ fn blocks_in(heads: &[Found]) -> u64
 fn find_log<D: Disk>(alloc: Global, parts: &mut [Part<D>]) -> Result<Opened, LogBad>
     requires many { length parts.old < 2 ^ 32 }
     requires few { arena_count (tables_of parts.old) < 2 ^ 32 }
-    requires rooms { All (λ part. end_of (table_of part) ≤ D.size (disk_of part)) parts.old }
+    requires rooms { All (λ part. arenas_end (table_of part) ≤ D.size (disk_of part)) parts.old }
     ensures distinct { OnOk result (AreDistinct (names_of parts.old)) }
     ensures answer { (fields : List (List ℕ)) × (IsTrue D.tells
         → AreFields (layout_of (tables_of parts.old)) (map D.bytes (disks_of parts.old)) fields)
         × MatchResult result
         (λ it. ArePassed (layout_of (tables_of parts.old)) fields it.heads.items)
-        (λ bad. RefusesMount (names_of parts.old) (layout_of (tables_of parts.old)) fields bad) }
+        (λ bad. RefusesLogMount (names_of parts.old) (layout_of (tables_of parts.old)) fields bad) }
     ensures found { IfOk result (λ it. AreFound D.tells (layout_of (tables_of parts.old))
         (map D.bytes (disks_of parts.old)) it.heads.items) }
     ensures layout { IfOk result (λ it. it.layout ≡ layout_of (tables_of parts.old)) }
@@ -213,10 +215,10 @@ fn find_log<D: Disk>(alloc: Global, parts: &mut [Part<D>]) -> Result<Opened, Log
         (λ it. IsRoomFor (layout_of (tables_of parts.old)) it.heads.items it.base it.arena) }
     ensures queue { IfOk result (λ it. it.queue ≡ no_queue) }
     ensures settled { OnOk result (All (IsSynced D.Disk) (disks_of parts.new)) }
-    ensures told { IfErr result (IsTold D.Disk parts.old parts.new) }
-    ensures read { AreRead D.Disk
+    ensures told { IfErr result (TellsOfSettled D.Disk parts.old parts.new) }
+    ensures read { OnlyReadsParts D.Disk
         (length parts.old + 2 * arena_count (tables_of parts.old)) parts.old parts.new }
-    ensures cause { CountsFaults D.Disk is_fault result (disks_of parts.old)
+    ensures cause { CountsFaults D.Disk is_log_fault result (disks_of parts.old)
         (disks_of parts.new) }
 {
     let layout = list(alloc, parts)?;
@@ -231,9 +233,9 @@ fn list<D>(alloc: Global, parts: &[Part<D>]) -> Result<Layout, LogBad>
     ensures listed { IfOk result (λ layout. layout ≡ layout_of (tables_of parts.now)) }
     ensures distinct { OnOk result (AreDistinct (names_of parts.now)) }
     ensures refused { (layout : List ArenaRegion) (fields : List (List ℕ))
-        → IfErr result (RefusesMount (names_of parts.now) layout fields) }
-    ensures early { IfErr result IsEarly }
-    ensures no_fault { IfErr result (λ bad. IsFalse (is_fault bad)) }
+        → IfErr result (RefusesLogMount (names_of parts.now) layout fields) }
+    ensures early { IfErr result IsBeforeCalls }
+    ensures no_fault { IfErr result (λ bad. IsFalse (is_log_fault bad)) }
 {
     match vt_part::list(alloc, parts) {
         Ok(layout) => Ok(layout),
@@ -247,8 +249,8 @@ fn sync_all<D: Disk>(parts: &mut [Part<D>]) -> Result<(), LogBad>
     ensures settled { OnOk result (All (IsSynced D.Disk) (disks_of parts.new)) }
     ensures fault { IfErr result (λ bad. bad ≡ LogBad.Fault) }
     ensures stops { OnErr result (StopsSyncing D.Disk parts.old parts.new) }
-    ensures read { AreRead D.Disk (length parts.old) parts.old parts.new }
-    ensures cause { CountsFaults D.Disk is_fault result (disks_of parts.old)
+    ensures read { OnlyReadsParts D.Disk (length parts.old) parts.old parts.new }
+    ensures cause { CountsFaults D.Disk is_log_fault result (disks_of parts.old)
         (disks_of parts.new) }
 {
     for part in parts.iter_mut() {
@@ -271,8 +273,8 @@ fn find_all<D: Disk>(
         (λ bad. RefusesArenas layout.now fields bad) }
     ensures found { IfOk result (λ heads. AreFound D.tells layout.now
         (map D.bytes (disks_of parts.old)) heads.items) }
-    ensures read { AreRead D.Disk (2 * length layout.now) parts.old parts.new }
-    ensures cause { CountsFaults D.Disk is_fault result (disks_of parts.old)
+    ensures read { OnlyReadsParts D.Disk (2 * length layout.now) parts.old parts.new }
+    ensures cause { CountsFaults D.Disk is_log_fault result (disks_of parts.old)
         (disks_of parts.new) }
 {
     let regions = layout.as_slice();
@@ -302,9 +304,9 @@ fn find_next<D: Disk>(
         × (IsTrue D.tells → AreFieldsAt (map D.bytes (disks_of parts.old)) r fields)
         × FindsNext behind arena r fields result }
     ensures found { IfOk result (λ found. (disk : D) → slice_get (disks_of parts.old) r.part
-        ≡ Some disk → IsFound D.tells r (D.bytes disk) found) }
-    ensures read { AreRead D.Disk 2 parts.old parts.new }
-    ensures cause { CountsFaults D.Disk is_fault result (disks_of parts.old)
+        ≡ Some disk → IsFoundArena D.tells r (D.bytes disk) found) }
+    ensures read { OnlyReadsParts D.Disk 2 parts.old parts.new }
+    ensures cause { CountsFaults D.Disk is_log_fault result (disks_of parts.old)
         (disks_of parts.new) }
 {
     let found = find_arena(parts, r, arena)?;
@@ -321,9 +323,9 @@ fn find_arena<D: Disk>(parts: &mut [Part<D>], r: ArenaRegion, arena: u32) -> Res
         × (IsTrue D.tells → AreFieldsAt (map D.bytes (disks_of parts.old)) r fields)
         × FindsNext Bool.false arena r fields result }
     ensures found { IfOk result (λ found. (disk : D) → slice_get (disks_of parts.old) r.part
-        ≡ Some disk → IsFound D.tells r (D.bytes disk) found) }
-    ensures read { AreRead D.Disk 2 parts.old parts.new }
-    ensures cause { CountsFaults D.Disk is_fault result (disks_of parts.old)
+        ≡ Some disk → IsFoundArena D.tells r (D.bytes disk) found) }
+    ensures read { OnlyReadsParts D.Disk 2 parts.old parts.new }
+    ensures cause { CountsFaults D.Disk is_log_fault result (disks_of parts.old)
         (disks_of parts.new) }
 {
     match find(&mut parts[r.part as usize].disk, r.region, r.number) {
@@ -334,7 +336,7 @@ fn find_arena<D: Disk>(parts: &mut [Part<D>], r: ArenaRegion, arena: u32) -> Res
 
 /// Why a log can't be mounted, where this is why its arena of this number can't.
 fn refused(arena: u32, bad: ArenaBad) -> LogBad
-    ensures { result ≡ refused_by arena bad }
+    ensures { result ≡ arena_refusal arena bad }
 {
     match bad {
         ArenaBad::Fault => LogBad::Fault,
@@ -346,7 +348,7 @@ fn refused(arena: u32, bad: ArenaBad) -> LogBad
 fn check_order(arena: u32, head: &ArenaHead) -> Result<(), LogBad>
     ensures order { MatchResult result (λ _. out_of_order arena (fields_of head.now) ≡ None)
         (λ bad. out_of_order arena (fields_of head.now) ≡ Some bad) }
-    ensures no_fault { IfErr result (λ bad. IsFalse (is_fault bad)) }
+    ensures no_fault { IfErr result (λ bad. IsFalse (is_log_fault bad)) }
 {
     if head.clumps > 0 {
         return Err(LogBad::Order {

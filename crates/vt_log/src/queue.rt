@@ -41,7 +41,7 @@ impl Model for Queue {
 }
 
 impl Queue {
-    ghost use Rattle.vt_log.specs.Queue.{no_queue, with_block, TakesFor, IsArenaOfFirst, IsFirstAt, IsNowhere};
+    ghost use Rattle.vt_log.specs.Queue.{no_queue, with_waiting_block, TakesFor, IsArenaOfFirst, IsFirstAt, IsNowhere};
 
     /// No blocks, and room for 64.
     pub fn new(alloc: Global) -> Result<Queue, AllocError>
@@ -77,7 +77,7 @@ impl Queue {
     pub fn push(&mut self, packed: Packed, place: Place)
         requires waiting { length self.old.waiting < QUEUE_MAX }
         requires places { length self.old.places < QUEUE_MAX }
-        ensures { self.new ≡ with_block
+        ensures { self.new ≡ with_waiting_block
             (record { arena = place.arena; packed = packed }) place self.old }
     {
         let Ok(()) = self.waiting.push_back(Waiting {

@@ -6,33 +6,32 @@ ghost use Rattle.vt_base.specs.declared.TheConstants.{MAX_BLOCK};
 ghost use Rattle.vt_base.specs.declared.why.FieldValue.{FieldValue};
 ghost use Rattle.vt_clump.specs.declared.packed.Packed.{Packed};
 ghost use Rattle.vt_clump.specs.Spelling.{Stored};
-ghost use Rattle.vt_clump.specs.Clumps.{IsRead};
+ghost use Rattle.vt_clump.specs.Clumps.{IsClumpRead};
 ghost use Rattle.vt_model.specs.declared.TheConstants.{ARENA_HEAD_LEN, CLUMP_HEADER_LEN};
 ghost use Rattle.vt_model.specs.History.{Accepted, History};
 ghost use Rattle.vt_model.specs.Places.{place_of};
 ghost use Rattle.vt_part.specs.declared.layout.ArenaRegion.{ArenaRegion};
-ghost use Rattle.vt_arena.specs.Layout.{Content, IsContent, HasBlocks};
+ghost use Rattle.vt_arena.specs.Layout.{Content, IsArenaContent, HasBlocks};
 ghost use Rattle.vt_arena.specs.Places.{offset_of};
-ghost use Rattle.vt_arena.specs.Reading.{HasHeader, clump_at, is_fault, ReadsAs as ReadsClump};
+ghost use Rattle.vt_arena.specs.Reading.{HasHeader, clump_at, is_clump_fault, ReadsClumpAs};
 ghost use Rattle.vt_log.specs.Reading.{IsDamagedBy};
 
 use crate::log::Log;
 use std::alloc::Global;
 use std::sync::ledger::Ledger;
 use vt_arena::{ReadBad, has_header};
-use vt_base::{Bytes, FieldValue, Key, Kind, Place, Score, Scorer};
+use vt_base::{Bytes, FieldValue, Key, Kind, Place, Score, Scorer, Steps};
 use vt_clump::{Clump, Packed};
 use vt_disk::Disk;
 use vt_model::CLUMP_HEADER_LEN;
-use vt_steps::Steps;
 
 impl<D: Disk, S: Scorer> Log<D, S> {
-    ghost use Rattle.vt_log.specs.Answers.{OnlyReads, Spares};
+    ghost use Rattle.vt_log.specs.Answers.{OnlyReadsLog, Spares};
     ghost use Rattle.vt_log.specs.Faults.{CountsFaults};
-    ghost use Rattle.vt_log.specs.Log.{setup_of, packed_of};
+    ghost use Rattle.vt_log.specs.Log.{setup_of_log, packed_of};
     ghost use Rattle.vt_log.specs.Queue.{IsFirstAt, IsNowhere, spot_of};
     ghost use Rattle.vt_log.specs.Reading.{AnswersRead};
-    ghost use Rattle.vt_log.specs.Sound.{IsSound, IsAt};
+    ghost use Rattle.vt_log.specs.Sound.{IsSoundLog, IsArenaAt};
 
     /// Reads the block with this key that stands at this place. A queued block is given from the
     /// queue, without a device call. Else one clump is read from its disk, and counted as one step,
@@ -52,8 +51,8 @@ impl<D: Disk, S: Scorer> Log<D, S> {
     ) -> Result<Bytes, ReadBad>
         // Each accepted block is given, by its place and key.
         ensures block { (h : History) (i : ℕ) (e : Accepted) → IsTrue D.tells
-            → IsSound S.score_of D.Disk self.old h
-            → slice_get h i ≡ Some e → place_of (setup_of self.old) h i ≡ Some (spot_of place)
+            → IsSoundLog S.score_of D.Disk self.old h
+            → slice_get h i ≡ Some e → place_of (setup_of_log self.old) h i ≡ Some (spot_of place)
             → key.now.kind ≡ e.block.kind → key.now.score.0 ≡ S.score_of e.block.bytes
             → MatchResult result (λ block. block ≡ e.block.bytes)
             (λ bad. (bad ≡ ReadBad.Fault) ⊎ (bad ≡ ReadBad.NoMemory)) }
@@ -75,12 +74,12 @@ impl<D: Disk, S: Scorer> Log<D, S> {
             ⊎ ((r : ArenaRegion) × (slice_get self.old.layout place.arena ≡ Some r)
             × ¬ HasHeader r.region.len place.offset)
             → (steps.new ≡ steps.old) × (self.new ≡ self.old) }
-        ensures reads { OnlyReads S.score_of D.Disk 2 self.old self.new }
+        ensures reads { OnlyReadsLog S.score_of D.Disk 2 self.old self.new }
         ensures once { IfOk result (λ block. length block ≤ size
-            → OnlyReads S.score_of D.Disk 1 self.old self.new) }
+            → OnlyReadsLog S.score_of D.Disk 1 self.old self.new) }
         ensures spares { (r : ArenaRegion) → slice_get self.old.layout place.arena ≡ Some r
             → Spares r.part self.old.disks self.new.disks }
-        ensures cause { CountsFaults D.Disk is_fault result self.old.disks self.new.disks }
+        ensures cause { CountsFaults D.Disk is_clump_fault result self.old.disks self.new.disks }
     {
         if let Some(index) = self.queue.find(place) {
             return copy_queued(alloc, self.packed(index), key);
@@ -110,25 +109,25 @@ impl<D: Disk, S: Scorer> Log<D, S> {
             → ¬ HasHeader r.region.len place.offset → (result ≡ Err (ReadBad.Damaged
             (FieldValue.Number ARENA_HEAD_LEN) (FieldValue.Number place.offset)))
             × (self.new ≡ self.old) × (steps.new ≡ steps.old) }
-        ensures stored { (r : ArenaRegion) (disk : D) → IsAt self.old place.arena r disk
+        ensures stored { (r : ArenaRegion) (disk : D) → IsArenaAt self.old place.arena r disk
             → HasHeader r.region.len place.offset → (bytes : List ℕ)
             × (IsTrue D.tells → bytes ≡ clump_at r.region place.offset (D.bytes disk))
-            × ReadsClump S.score_of bytes result }
+            × ReadsClumpAs S.score_of bytes result }
         ensures committed { (r : ArenaRegion) (disk : D) (a : Content)
             (before behind : List Stored) (s : Stored) → IsTrue D.tells
-            → IsAt self.old place.arena r disk → IsContent S.score_of r.region.len a
+            → IsArenaAt self.old place.arena r disk → IsArenaContent S.score_of r.region.len a
             → HasBlocks r.region a.stored (D.bytes disk) → a.stored ≡ before ++ s ∷ behind
-            → place.offset ≡ offset_of before → MatchResult result (IsRead s)
+            → place.offset ≡ offset_of before → MatchResult result (IsClumpRead s)
             (λ bad. (bad ≡ ReadBad.Fault) ⊎ (bad ≡ ReadBad.NoMemory)) }
         ensures whole { IfOk result (λ clump. length clump.bytes ≤ MAX_BLOCK) }
         ensures cost { (r : ArenaRegion) → slice_get self.old.layout place.arena ≡ Some r
             → HasHeader r.region.len place.offset → steps.new ≡ steps.old + 1 }
-        ensures reads { OnlyReads S.score_of D.Disk 2 self.old self.new }
+        ensures reads { OnlyReadsLog S.score_of D.Disk 2 self.old self.new }
         ensures once { IfOk result (λ clump. length clump.bytes ≤ size
-            → OnlyReads S.score_of D.Disk 1 self.old self.new) }
+            → OnlyReadsLog S.score_of D.Disk 1 self.old self.new) }
         ensures spares { (r : ArenaRegion) → slice_get self.old.layout place.arena ≡ Some r
             → Spares r.part self.old.disks self.new.disks }
-        ensures cause { CountsFaults D.Disk is_fault result self.old.disks self.new.disks }
+        ensures cause { CountsFaults D.Disk is_clump_fault result self.old.disks self.new.disks }
     {
         let r = self.layout.as_slice()[place.arena as usize];
         let offset = u64::from(place.offset);

@@ -6,7 +6,7 @@
 
 ghost use Rattle.std.specs.Prelude.{◌≡◌, ◌<◌, ◌≤◌, IfOk};
 ghost use Rattle.vt_part.specs.Parts.{disk_of, table_of};
-ghost use Rattle.vt_part.specs.Table.{end_of};
+ghost use Rattle.vt_part.specs.Table.{arenas_end};
 
 use crate::cases::note;
 use std::alloc::Global;
@@ -14,7 +14,9 @@ use std::marker::Brand;
 use std::sync::ledger::{Blank, Ledger};
 use std::test::Fail;
 use vt_arena::{BackBad, ReadBad};
-use vt_base::{Bytes, Failed, FieldValue, Info, Key, Kind, Place, Scorer, Sha1Scorer, Text, Why};
+use vt_base::{
+    Bytes, Failed, FieldValue, Info, Key, Kind, Place, Scorer, Sha1Scorer, Steps, Text, Why,
+};
 use vt_clump::{Packed, pack};
 use vt_disk::Disk;
 use vt_log::{Log, LogBad, LogErr, Progress, format, mount};
@@ -22,7 +24,6 @@ use vt_memdisk::{CrashMode, Listed, MemDisk};
 use vt_model::PlainStore;
 use vt_part::{Part, PartBad};
 use vt_rows::Rows;
-use vt_steps::Steps;
 
 type TestLog<D> = Log<D, Sha1Scorer>;
 

@@ -7,19 +7,19 @@ use Rattle.vt_base.specs.Protocol.{write}
 use Rattle.vt_base.specs.declared.place.Place.{Place}
 use Rattle.vt_clump.specs.Clumps.{IsPacked, stored_of}
 use Rattle.vt_clump.specs.Laws.{IsUnambiguous}
-use Rattle.vt_clump.specs.Spelling.{Stored, spelled}
+use Rattle.vt_clump.specs.Spelling.{Stored, clump_bytes}
 use Rattle.vt_clump.specs.declared.packed.Packed.{Packed}
 use Rattle.vt_icache.specs.Index.{entry_of}
 use Rattle.vt_isect.specs.Agreement.{IsEntryOf}
 use Rattle.vt_log.specs.Answers.{TakesIn}
-use Rattle.vt_log.specs.Log.{LogState, setup_of}
-use Rattle.vt_log.specs.Logs.{accepted}
+use Rattle.vt_log.specs.Log.{LogState, setup_of_log}
+use Rattle.vt_log.specs.Logs.{accepted_in}
 use Rattle.vt_log.specs.Queue.{spot_of}
 use Rattle.vt_model.specs.History.{History, Accepted}
 use Rattle.vt_model.specs.Places.{Setup, next_arena, place_of}
 
 -- a block is an accepted one by its fields
-accepted_is : (block : Accepted) (arena : ℕ) (s : Stored) → block.block.kind ≡ s.kind → block.block.bytes ≡ s.block → block.arena ≡ arena → block ≡ accepted arena s
+accepted_is : (block : Accepted) (arena : ℕ) (s : Stored) → block.block.kind ≡ s.kind → block.block.bytes ≡ s.block → block.arena ≡ arena → block ≡ accepted_in arena s
 accepted_is block arena s kind bytes place =
     let B : ℕ → List ℕ → ℕ → Accepted = λ k b a. record { block = record { kind = k; bytes = b }; arena = a } in
     ap (λ (k : ℕ). B k block.block.bytes block.arena) kind ∙ ap (λ (b : List ℕ). B s.kind b block.arena) bytes ∙ ap (λ (a : ℕ). B s.kind s.block a) place
@@ -45,7 +45,7 @@ module _ (score : List ℕ → List ℕ) (c : Setup) (h : History) (packed : Pac
       let same : Some block.arena ≡ Some arena = sym model ∙ ap (λ (n : ℕ). next_arena c h n) lens ∙ log in
       cc
 
-  pub block_is : block ≡ accepted arena (stored_of packed)
+  pub block_is : block ≡ accepted_in arena (stored_of packed)
   block_is = accepted_is block arena (stored_of packed) (sym own_kind ∙ is.kind) (sym own_bytes) own_arena
 
   -- its entry
@@ -63,18 +63,18 @@ module _ (score : List ℕ → List ℕ) (c : Setup) (h : History) (packed : Pac
   }
 
 -- a log that takes a block in has the setup that it had
-pub taken_opened : {D : Type 0} (c : Setup) (packed : Packed) (place : Place) (old new : LogState D) → TakesIn packed place old new → c ≡ record (setup_of old) { sections = c.sections }
-    → c ≡ record (setup_of new) { sections = c.sections }
-taken_opened {D} c packed place old new it opened = subst (λ (l : LogState D). c ≡ record (setup_of l) { sections = c.sections }) (sym it.new_is) opened
+pub taken_opened : {D : Type 0} (c : Setup) (packed : Packed) (place : Place) (old new : LogState D) → TakesIn packed place old new → c ≡ record (setup_of_log old) { sections = c.sections }
+    → c ≡ record (setup_of_log new) { sections = c.sections }
+taken_opened {D} c packed place old new it opened = subst (λ (l : LogState D). c ≡ record (setup_of_log l) { sections = c.sections }) (sym it.new_is) opened
 
 -- what was packed says what it was packed of
 pub packed_is : (score : List ℕ → List ℕ) (p : Packed) (kind : ℕ) (s block : List ℕ) (time : ℕ) → IsUnambiguous → IsPacked score p → p.kind ≡ kind → p.score.0 ≡ s
-    → p.bytes ≡ spelled (record { kind = kind; score = s; creator = replicate 4 0; time = time; block = block }) → s ≡ score block → 0 < length block → length block ≤ 57344 → time < 2 ^ 32
+    → p.bytes ≡ clump_bytes (record { kind = kind; score = s; creator = replicate 4 0; time = time; block = block }) → s ≡ score block → 0 < length block → length block ≤ 57344 → time < 2 ^ 32
     → ((stored_of p).block ≡ block) × ((stored_of p).time ≡ time)
 packed_is score p kind s block time one is kinds scores bytes scored some most small =
     let own : Stored = record { kind = kind; score = s; creator = replicate 4 0; time = time; block = block } in
     let same : stored_of p ≡ own = one score (stored_of p) own p.bytes
-    (record { stored = is.stored; spelling = ([], is.bytes ∙ sym (append-nil (spelled (stored_of p)))) })
+    (record { stored = is.stored; spelling = ([], is.bytes ∙ sym (append-nil (clump_bytes (stored_of p)))) })
     (record {
       stored = record {
         kind = subst (λ (n : ℕ). IsKind n) (sym is.kind ∙ kinds) is.stored.kind;
@@ -85,7 +85,7 @@ packed_is score p kind s block time one is kinds scores bytes scored some most s
         some = some;
         most = most;
       };
-      spelling = ([], bytes ∙ sym (append-nil (spelled own)));
+      spelling = ([], bytes ∙ sym (append-nil (clump_bytes own)));
     }) in
     (ap (λ (x : Stored). x.block) same, ap (λ (x : Stored). x.time) same)
 

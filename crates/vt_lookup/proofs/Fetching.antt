@@ -20,21 +20,21 @@ use Rattle.vt_disk.specs.Disk.{AreAmong}
 use Rattle.vt_disk.specs.Members.{DiskOf}
 use Rattle.vt_model.specs.History.{History, Accepted}
 use Rattle.vt_model.specs.Places.{Setup, Spot, place_of}
-use Rattle.vt_arena.specs.Reading.{is_fault}
-use Rattle.vt_arena.specs.declared.bad.ReadBad.{ReadBad}
-use Rattle.vt_arena.specs.declared.bad.ReadBad.TheVariants as read_bad
+use Rattle.vt_arena.specs.Reading.{is_clump_fault}
+use Rattle.vt_arena.specs.declared.error.ReadBad.{ReadBad}
+use Rattle.vt_arena.specs.declared.error.ReadBad.TheVariants as read_bad
 use Rattle.vt_arena.proofs.Commits.{none_is}
-use Rattle.vt_isect.specs.Agreement.{IsEntryOf, IsOfBlock}
+use Rattle.vt_isect.specs.Agreement.{IsEntryOf, IsEntryOfBlock}
 use Rattle.vt_isect.specs.Section.{SectionState}
-use Rattle.vt_log.specs.Answers.{OnlyReads}
+use Rattle.vt_log.specs.Answers.{OnlyReadsLog}
 use Rattle.vt_log.specs.Faults.{CountsFaults}
-use Rattle.vt_log.specs.Log.{LogState, setup_of}
+use Rattle.vt_log.specs.Log.{LogState, setup_of_log}
 use Rattle.vt_log.specs.Queue.{IsFirstAt, spot_of}
 use Rattle.vt_log.specs.Reading.{AnswersRead}
-use Rattle.vt_lumps.specs.Lumps.{LumpsState, bytes_of, used, kept}
+use Rattle.vt_lumps.specs.Lumps.{LumpsState, cached_bytes, used, with_lump}
 use Rattle.vt_shard.specs.Search.{IsLumpOf}
 use Rattle.vt_shard.specs.Shard.{ShardState}
-use Rattle.vt_shard.specs.Sound.{IsSound as IsSoundShard}
+use Rattle.vt_shard.specs.Sound.{IsSoundShard}
 use Rattle.vt_lookup.specs.Finding.{parts_of, AreSound, LooksFor, MayKeepFrom, ReadsShard, TakesLump, why_of_read}
 use Rattle.vt_lookup.specs.Seeking.{Fetches, fetched}
 
@@ -80,13 +80,13 @@ put_found {K} {X} same s k v own = ⊎_elim
 own_key : (key : Key) → same_key key key ≡ true
 own_key key = ap (λ (b : Bool). b && (key.kind == key.kind)) ((bytes_eq-Decides key.score.0 key.score.0).1 refl) ∙ eq-eqb key.kind key.kind refl
 
-pub used_still : (key : Key) (s : LumpsState) → bytes_of key (used key s) ≡ bytes_of key s
+pub used_still : (key : Key) (s : LumpsState) → cached_bytes key (used key s) ≡ cached_bytes key s
 used_still key s = still_found (same_key key) s.entries
 
-pub unused : (key : Key) (s : LumpsState) → bytes_of key s ≡ None → used key s ≡ s
+pub unused : (key : Key) (s : LumpsState) → cached_bytes key s ≡ None → used key s ≡ s
 unused key s absent = ap (λ (es : List (Key × List ℕ)). lru_cache es s.cap) (none_promoted (same_key key) s.entries absent)
 
-pub kept_there : (key : Key) (bytes : List ℕ) (s : LumpsState) → bytes_of key (kept key bytes s) ≡ Some bytes
+pub kept_there : (key : Key) (bytes : List ℕ) (s : LumpsState) → cached_bytes key (with_lump key bytes s) ≡ Some bytes
 kept_there key bytes s = put_found same_key s key bytes (own_key key)
 
 pub is_there : {X : Type 0} (o : Option X) → is_some o ≡ true → (x : X) × (o ≡ Some x)
@@ -99,7 +99,7 @@ some_is {X} o x is = subst (λ (p : Option X). IsSome p) (sym is) refl
 -- ---- parts of which little changes
 
 module _ {D : Type 0} (score : List ℕ → List ℕ) (disk : DiskOf D) where
-  pub log_rests : (most : ℕ) (l : LogState D) → OnlyReads score disk most l l
+  pub log_rests : (most : ℕ) (l : LogState D) → OnlyReadsLog score disk most l l
   log_rests most l = record {
     same = refl;
     sound = λ h sound. sound;
@@ -152,32 +152,32 @@ module _ {D : Type 0} (score : List ℕ → List ℕ) (disk : DiskOf D) where
 
   -- ---- a read of the log
 
-  pub fails_reading : {T : Type 0} (place : Place) (bad : ReadBad) (l new : LogState D) (s : ShardState D) → OnlyReads score disk 2 l new
-      → (r : Result (List ℕ) ReadBad) → r ≡ Err bad → CountsFaults disk is_fault r l.disks new.disks
+  pub fails_reading : {T : Type 0} (place : Place) (bad : ReadBad) (l new : LogState D) (s : ShardState D) → OnlyReadsLog score disk 2 l new
+      → (r : Result (List ℕ) ReadBad) → r ≡ Err bad → CountsFaults disk is_clump_fault r l.disks new.disks
       → (0 < length l.layout → (want found : FieldValue) → r ≡ Err (read_bad.Damaged want found) → Differ want found)
       → LooksFor {T = T} score disk 2 0 (Err (why_of_read place bad)) (parts_of l s) (parts_of new s)
   fails_reading place read_bad.Fault l new s reads r is cause differ = record {
     log = reads;
     shard = shard_rests 0 s s refl refl refl refl;
-    counts = inl (subst (λ (x : Result (List ℕ) ReadBad). CountsFaults disk is_fault x l.disks new.disks) is cause, refl);
+    counts = inl (subst (λ (x : Result (List ℕ) ReadBad). CountsFaults disk is_clump_fault x l.disks new.disks) is cause, refl);
     cause = λ _. tt;
   }
   fails_reading place (read_bad.Damaged want found) l new s reads r is cause differ = record {
     log = reads;
     shard = shard_rests 0 s s refl refl refl refl;
-    counts = (subst (λ (x : Result (List ℕ) ReadBad). CountsFaults disk is_fault x l.disks new.disks) is cause, refl);
+    counts = (subst (λ (x : Result (List ℕ) ReadBad). CountsFaults disk is_clump_fault x l.disks new.disks) is cause, refl);
     cause = λ some. differ some want found is;
   }
   fails_reading place read_bad.NoMemory l new s reads r is cause differ = record {
     log = reads;
     shard = shard_rests 0 s s refl refl refl refl;
-    counts = (subst (λ (x : Result (List ℕ) ReadBad). CountsFaults disk is_fault x l.disks new.disks) is cause, refl);
+    counts = (subst (λ (x : Result (List ℕ) ReadBad). CountsFaults disk is_clump_fault x l.disks new.disks) is cause, refl);
     cause = λ _. tt;
   }
 
   -- what was read is kept, or memory is short
   abbrev pub Keeping : {U : Type 0} → Result U Why → Key → (bytes : List ℕ) → (s new : ShardState D) → Type 0
-  Keeping r key bytes s new = MatchResult r (λ _. new ≡ record s { lumps = kept key bytes s.lumps }) (λ why. (why ≡ NoMemory) × (new ≡ s))
+  Keeping r key bytes s new = MatchResult r (λ _. new ≡ record s { lumps = with_lump key bytes s.lumps }) (λ why. (why ≡ NoMemory) × (new ≡ s))
 
   pub by_lumps : (s new : ShardState D) (l : LumpsState) → new ≡ record s { lumps = l } → new ≡ record s { lumps = new.lumps }
   by_lumps s new l is = is ∙ ap (λ (m : LumpsState). record s { lumps = m }) (sym (ap (λ (t : ShardState D). t.lumps) is))
@@ -186,19 +186,19 @@ module _ {D : Type 0} (score : List ℕ → List ℕ) (disk : DiskOf D) where
   same_lumps s new is = is ∙ ap (λ (l : LumpsState). record s { lumps = l }) (sym (ap (λ (t : ShardState D). t.lumps) is))
 
   pub keeping_lumps : {U : Type 0} (r : Result U Why) (key : Key) (bytes : List ℕ) (s new : ShardState D) → Keeping r key bytes s new → new ≡ record s { lumps = new.lumps }
-  keeping_lumps (Ok u) key bytes s new is = by_lumps s new (kept key bytes s.lumps) is
+  keeping_lumps (Ok u) key bytes s new is = by_lumps s new (with_lump key bytes s.lumps) is
   keeping_lumps (Err why) key bytes s new is = same_lumps s new is.1
 
-  pub keeping_there : {U : Type 0} (r : Result U Why) (key : Key) (bytes : List ℕ) (s new : ShardState D) → Keeping r key bytes s new → OnOk r (IsSome (bytes_of key new.lumps))
+  pub keeping_there : {U : Type 0} (r : Result U Why) (key : Key) (bytes : List ℕ) (s new : ShardState D) → Keeping r key bytes s new → OnOk r (IsSome (cached_bytes key new.lumps))
   keeping_there (Ok u) key bytes s new is =
-      some_is (bytes_of key new.lumps) bytes (ap (λ (t : ShardState D). bytes_of key t.lumps) is ∙ kept_there key bytes s.lumps)
+      some_is (cached_bytes key new.lumps) bytes (ap (λ (t : ShardState D). cached_bytes key t.lumps) is ∙ kept_there key bytes s.lumps)
   keeping_there (Err why) key bytes s new is = tt
 
-  pub keeping_looks : {U : Type 0} (r : Result U Why) (key : Key) (bytes : List ℕ) (l new_log : LogState D) (s new : ShardState D) → OnlyReads score disk 2 l new_log
+  pub keeping_looks : {U : Type 0} (r : Result U Why) (key : Key) (bytes : List ℕ) (l new_log : LogState D) (s new : ShardState D) → OnlyReadsLog score disk 2 l new_log
       → map disk.faults new_log.disks ≡ map disk.faults l.disks → Keeping r key bytes s new → LooksFor score disk 2 0 r (parts_of l s) (parts_of new_log new)
   keeping_looks (Ok u) key bytes l new_log s new reads same is = record {
     log = reads;
-    shard = lumps_rest 0 s new (by_lumps s new (kept key bytes s.lumps) is);
+    shard = lumps_rest 0 s new (by_lumps s new (with_lump key bytes s.lumps) is);
     counts = (same, ap (λ (t : ShardState D). disk.faults t.section.disk) is);
     cause = λ _. tt;
   }
@@ -212,21 +212,21 @@ module _ {D : Type 0} (score : List ℕ → List ℕ) (disk : DiskOf D) where
   -- ---- what is fetched
 
   -- it is in memory
-  pub there_taken : (key : Key) (l : LogState D) (s new : ShardState D) → is_some (bytes_of key s.lumps) ≡ true → new ≡ record s { lumps = used key s.lumps }
-      → TakesLump key (Ok (bytes_of key new.lumps)) (parts_of l s) (parts_of l new) × IsSome (bytes_of key new.lumps)
+  pub there_taken : (key : Key) (l : LogState D) (s new : ShardState D) → is_some (cached_bytes key s.lumps) ≡ true → new ≡ record s { lumps = used key s.lumps }
+      → TakesLump key (Ok (cached_bytes key new.lumps)) (parts_of l s) (parts_of l new) × IsSome (cached_bytes key new.lumps)
   there_taken key l s new there is =
-      let it = is_there (bytes_of key s.lumps) there in
-      let now : bytes_of key new.lumps ≡ Some it.0 = ap (λ (t : ShardState D). bytes_of key t.lumps) is ∙ used_still key s.lumps ∙ it.1 in (
+      let it = is_there (cached_bytes key s.lumps) there in
+      let now : cached_bytes key new.lumps ≡ Some it.0 = ap (λ (t : ShardState D). cached_bytes key t.lumps) is ∙ used_still key s.lumps ∙ it.1 in (
         record { bytes = it.0; has = it.1; block_is = inl (ap (λ (o : Option (List ℕ)). Ok o) now); new_is = ap (λ (t : ShardState D). parts_of l t) is },
-        some_is (bytes_of key new.lumps) it.0 now,
+        some_is (cached_bytes key new.lumps) it.0 now,
       )
 
   -- where it isn't, nothing was used
-  pub nothing_used : (key : Key) (s new : ShardState D) → is_some (bytes_of key s.lumps) ≡ false → new ≡ record s { lumps = used key s.lumps } → new ≡ s
-  nothing_used key s new none is = is ∙ ap (λ (l : LumpsState). record s { lumps = l }) (unused key s.lumps (none_is (bytes_of key s.lumps) none))
+  pub nothing_used : (key : Key) (s new : ShardState D) → is_some (cached_bytes key s.lumps) ≡ false → new ≡ record s { lumps = used key s.lumps } → new ≡ s
+  nothing_used key s new none is = is ∙ ap (λ (l : LumpsState). record s { lumps = l }) (unused key s.lumps (none_is (cached_bytes key s.lumps) none))
 
-  module _ (entry : Entry) (l new_log : LogState D) (s : ShardState D) (absent : bytes_of entry.key s.lumps ≡ None) (r : Result (List ℕ) ReadBad)
-      (answers : AnswersRead score disk l entry.place entry.key r) (reads : OnlyReads score disk 2 l new_log)
+  module _ (entry : Entry) (l new_log : LogState D) (s : ShardState D) (absent : cached_bytes entry.key s.lumps ≡ None) (r : Result (List ℕ) ReadBad)
+      (answers : AnswersRead score disk l entry.place entry.key r) (reads : OnlyReadsLog score disk 2 l new_log)
       (queued : (i : ℕ) → IsFirstAt l.queue.places entry.place i → new_log ≡ l) where
     pub read_fetched : {U : Type 0} (bytes : List ℕ) → r ≡ Ok bytes → (u : Result U Why) (new : ShardState D) → Keeping u entry.key bytes s new
         → Fetches score disk entry (fetched entry.key u new) (parts_of l s) (parts_of new_log new)
@@ -237,7 +237,7 @@ module _ {D : Type 0} (score : List ℕ → List ℕ) (disk : DiskOf D) where
       reads = reads;
       queued = queued;
       keeps = inl keeps;
-      block_is = inl (ap (λ (o : Option (List ℕ)). Ok o) (ap (λ (t : ShardState D). bytes_of entry.key t.lumps) keeps ∙ kept_there entry.key bytes s.lumps));
+      block_is = inl (ap (λ (o : Option (List ℕ)). Ok o) (ap (λ (t : ShardState D). cached_bytes entry.key t.lumps) keeps ∙ kept_there entry.key bytes s.lumps));
     })
     read_fetched bytes is (Err why) new keeps = inr (record {
       absent = absent;
@@ -263,19 +263,19 @@ module _ {D : Type 0} (score : List ℕ → List ℕ) (disk : DiskOf D) where
   -- ---- on sound parts
 
   module _ (c : Setup) (h : History) (durable : ℕ) where
-    log_opened : (l new : LogState D) → new ≡ record l { disks = new.disks } → c ≡ record (setup_of l) { sections = c.sections } → c ≡ record (setup_of new) { sections = c.sections }
-    log_opened l new same opened = subst (λ (x : LogState D). c ≡ record (setup_of x) { sections = c.sections }) (sym same) opened
+    log_opened : (l new : LogState D) → new ≡ record l { disks = new.disks } → c ≡ record (setup_of_log l) { sections = c.sections } → c ≡ record (setup_of_log new) { sections = c.sections }
+    log_opened l new same opened = subst (λ (x : LogState D). c ≡ record (setup_of_log x) { sections = c.sections }) (sym same) opened
 
     pub shard_sound : (l : LogState D) (s new : ShardState D) → IsSoundShard score c disk new h durable → AreSound score disk c (parts_of l s) h durable → AreSound score disk c (parts_of l new) h durable
     shard_sound l s new shard was = record { log = was.log; shard = shard; opened = was.opened; legal = was.legal }
 
-    pub read_sound : (most : ℕ) (l new_log : LogState D) (s new : ShardState D) → OnlyReads score disk most l new_log → IsSoundShard score c disk new h durable
+    pub read_sound : (most : ℕ) (l new_log : LogState D) (s new : ShardState D) → OnlyReadsLog score disk most l new_log → IsSoundShard score c disk new h durable
         → AreSound score disk c (parts_of l s) h durable → AreSound score disk c (parts_of new_log new) h durable
     read_sound most l new_log s new reads shard was = record { log = reads.sound h was.log; shard = shard; opened = log_opened l new_log reads.same was.opened; legal = was.legal }
 
     -- a block is read by its entry
     abbrev pub GivesBlocks : (l : LogState D) → Place → Key → Result (List ℕ) ReadBad → Type 0
-    GivesBlocks l place key r = (i : ℕ) (e : Accepted) → slice_get h i ≡ Some e → place_of (setup_of l) h i ≡ Some (spot_of place)
+    GivesBlocks l place key r = (i : ℕ) (e : Accepted) → slice_get h i ≡ Some e → place_of (setup_of_log l) h i ≡ Some (spot_of place)
         → key.kind ≡ e.block.kind → key.score.0 ≡ score e.block.bytes → MatchResult r (λ block. block ≡ e.block.bytes) (λ bad. (bad ≡ read_bad.Fault) ⊎ (bad ≡ read_bad.NoMemory))
 
     entry_spot : (spot : Spot) (place : Place) → place.arena ≡ spot.arena → place.offset ≡ spot.offset → spot ≡ spot_of place
@@ -288,7 +288,7 @@ module _ {D : Type 0} (score : List ℕ → List ℕ) (disk : DiskOf D) where
     entry_given l entry r gives i it = gives i it.block it.stands.block
         (it.stands.place ∙ ap (λ (s : Spot). Some s) (entry_spot it.spot entry.place it.arena_is it.offset_is)) it.kind_is it.score_is
 
-    pub entry_lump : (l : LogState D) (entry : Entry) (r : Result (List ℕ) ReadBad) (bytes : List ℕ) → r ≡ Ok bytes → GivesBlocks l entry.place entry.key r → IsOfBlock score c h entry → IsLumpOf score h entry.key bytes
+    pub entry_lump : (l : LogState D) (entry : Entry) (r : Result (List ℕ) ReadBad) (bytes : List ℕ) → r ≡ Ok bytes → GivesBlocks l entry.place entry.key r → IsEntryOfBlock score c h entry → IsLumpOf score h entry.key bytes
     entry_lump l entry r bytes is gives of =
         let it = of.1 in (
           of.0,
@@ -296,7 +296,7 @@ module _ {D : Type 0} (score : List ℕ → List ℕ) (disk : DiskOf D) where
           subst (λ (x : Result (List ℕ) ReadBad). MatchResult x (λ block. block ≡ it.block.block.bytes) (λ bad. (bad ≡ read_bad.Fault) ⊎ (bad ≡ read_bad.NoMemory))) is (entry_given l entry r gives of.0 it),
         )
 
-    pub entry_fails : (l : LogState D) (entry : Entry) (r : Result (List ℕ) ReadBad) (bad : ReadBad) → r ≡ Err bad → GivesBlocks l entry.place entry.key r → IsOfBlock score c h entry
+    pub entry_fails : (l : LogState D) (entry : Entry) (r : Result (List ℕ) ReadBad) (bad : ReadBad) → r ≡ Err bad → GivesBlocks l entry.place entry.key r → IsEntryOfBlock score c h entry
         → MayKeepFrom (why_of_read entry.place bad)
     entry_fails l entry r bad is gives of =
         ⊎_elim (λ fault. inl (ap (why_of_read entry.place) fault)) (λ memory. inr (ap (why_of_read entry.place) memory))

@@ -10,26 +10,26 @@ use Rattle.vt_base.specs.declared.why.Why.TheVariants.{NoMemory}
 use Rattle.vt_bucket.specs.declared.decoding.BucketBad.{BucketBad}
 use Rattle.vt_bucket.specs.declared.decoding.BucketBad.TheVariants as bucket_bad
 use Rattle.vt_disk.specs.Members.{DiskOf}
-use Rattle.vt_isect.specs.Agreement.{IsOfBlock}
-use Rattle.vt_isect.specs.Faults.{is_fault, damage_of, NamesDamage}
-use Rattle.vt_isect.specs.Merging.{IsFaulty}
-use Rattle.vt_isect.specs.declared.bad.ShardErr.{ShardErr}
-use Rattle.vt_isect.specs.declared.bad.ShardErr.TheVariants as shard_err
+use Rattle.vt_isect.specs.Agreement.{IsEntryOfBlock}
+use Rattle.vt_isect.specs.Faults.{is_section_fault, damage_of_bucket, NamesDamage}
+use Rattle.vt_isect.specs.Merging.{IsFaultyFrame}
+use Rattle.vt_isect.specs.declared.error.ShardErr.{ShardErr}
+use Rattle.vt_isect.specs.declared.error.ShardErr.TheVariants as shard_err
 use Rattle.vt_log.specs.Log.{LogState}
-use Rattle.vt_lumps.specs.Lumps.{bytes_of}
+use Rattle.vt_lumps.specs.Lumps.{cached_bytes}
 use Rattle.vt_model.specs.History.{History, HasScoreAt, held}
 use Rattle.vt_model.specs.Places.{Setup}
 use Rattle.vt_shard.specs.Looking.{IsFrameAt, Looks, LooksUp}
-use Rattle.vt_shard.specs.Search.{Finds, FindsScore, HasKeyOf, IsLumpOf}
+use Rattle.vt_shard.specs.Search.{FindsEntry, FindsScore, HasKeyOf, IsLumpOf}
 use Rattle.vt_shard.specs.Shard.{ShardState}
-use Rattle.vt_lookup.specs.Finding.{Parts, parts_of, with_shard, LooksFor, MayEndLook, MayKeepFrom, ReadsShard, SeeksBlock, ReadsFound, TakesLump, Sought, why_of_shard}
+use Rattle.vt_lookup.specs.Finding.{StoreParts, parts_of, with_shard, LooksFor, MayEndLook, MayKeepFrom, ReadsShard, SeeksBlock, ReadsFound, TakesLump, Sought, why_of_shard}
 use Rattle.vt_lookup.specs.Seeking.{Fetches, IsOwn, differs, fetched}
 use Rattle.vt_lookup.proofs.Fetching.{log_rests}
 
 -- ---- what an index look-up reads
 
 -- a frame that is damaged is told as damage
-damage_is_told : (n : ℕ) (fault : BucketBad) (call : ℕ) → shard_err.Stopped call ≡ damage_of n fault → ⊥
+damage_is_told : (n : ℕ) (fault : BucketBad) (call : ℕ) → shard_err.Stopped call ≡ damage_of_bucket n fault → ⊥
 damage_is_told n (bucket_bad.Magic found) call e = cc
 damage_is_told n (bucket_bad.Number found) call e = cc
 damage_is_told n (bucket_bad.Count found) call e = cc
@@ -37,7 +37,7 @@ damage_is_told n (bucket_bad.Order entry count) call e = cc
 
 module _ {D : Type 0} (score : List ℕ → List ℕ) (disk : DiskOf D) where
   -- why it may fail
-  look_ends : (n : ℕ) (bad : ShardErr) (frame_is : List ℕ → Type 0) → (bad ≡ shard_err.Fault) ⊎ ((frame : List ℕ) × IsFaulty n frame bad × frame_is frame) → NamesDamage bad → MayEndLook (why_of_shard bad)
+  look_ends : (n : ℕ) (bad : ShardErr) (frame_is : List ℕ → Type 0) → (bad ≡ shard_err.Fault) ⊎ ((frame : List ℕ) × IsFaultyFrame n frame bad × frame_is frame) → NamesDamage bad → MayEndLook (why_of_shard bad)
   look_ends n shard_err.Fault frame_is cause names = tt
   look_ends n (shard_err.Damaged bucket want found) frame_is cause names = names
   look_ends n (shard_err.Stopped call) frame_is cause names = ⊎_elim (λ e. absurd (cc)) (λ it. absurd (damage_is_told n it.1.0 call it.1.2)) cause
@@ -54,13 +54,13 @@ module _ {D : Type 0} (score : List ℕ → List ℕ) (disk : DiskOf D) where
 
   pub looks_fails : {T U : Type 0} (n : ℕ) (r : Result T ShardErr) (bad : ShardErr) → r ≡ Err bad → (l : LogState D) (s new : ShardState D) → Looks disk n r s new
       → LooksFor {T = U} score disk 2 2 (Err (why_of_shard bad)) (parts_of l s) (parts_of l new)
-  looks_fails {T} {U} n r bad is l s new it = fails bad (subst (λ (x : Result T ShardErr). CountsFault is_fault x (disk.faults s.section.disk) (disk.faults new.section.disk)) is it.faults)
+  looks_fails {T} {U} n r bad is l s new it = fails bad (subst (λ (x : Result T ShardErr). CountsFault is_section_fault x (disk.faults s.section.disk) (disk.faults new.section.disk)) is it.faults)
       (ends (subst (λ (x : Result T ShardErr). Looks disk n x s new) is it))
     where
       ends : Looks {T = T} disk n (Err bad) s new → MayEndLook (why_of_shard bad)
       ends own = look_ends n bad (λ frame. IsFrameAt disk s.section n frame) own.cause own.names
 
-      fails : (b : ShardErr) → CountsFault {T = T} is_fault (Err b) (disk.faults s.section.disk) (disk.faults new.section.disk) → MayEndLook (why_of_shard b)
+      fails : (b : ShardErr) → CountsFault {T = T} is_section_fault (Err b) (disk.faults s.section.disk) (disk.faults new.section.disk) → MayEndLook (why_of_shard b)
           → LooksFor {T = U} score disk 2 2 (Err (why_of_shard b)) (parts_of l s) (parts_of l new)
       fails shard_err.Fault counts end = record { log = log_rests score disk 2 l; shard = looks_reads n r s new it; counts = inr (refl, counts); cause = λ _. tt }
       fails (shard_err.Damaged bucket want found) counts end = record { log = log_rests score disk 2 l; shard = looks_reads n r s new it; counts = (refl, counts); cause = λ _. end }
@@ -68,21 +68,21 @@ module _ {D : Type 0} (score : List ℕ → List ℕ) (disk : DiskOf D) where
 
   -- ---- by a key
 
-  pub seeks_none : (may_have : Bool) (key : Key) (p : Parts D) → may_have ≡ false → SeeksBlock score disk may_have key (Ok None) p p
+  pub seeks_none : (may_have : Bool) (key : Key) (p : StoreParts D) → may_have ≡ false → SeeksBlock score disk may_have key (Ok None) p p
   seeks_none may_have key p is = subst (λ (b : Bool). SeeksBlock score disk b key (Ok None) p p) (sym is) (refl, refl)
 
-  pub seeks_index : (key : Key) (block : Sought) (l : LogState D) (s mid shard : ShardState D) (new : Parts D) (r : Result (Option Entry) ShardErr)
-      → bytes_of key s.lumps ≡ None → mid ≡ s → LooksUp disk key r mid shard → ReadsFound score disk r block (parts_of l shard) new → SeeksBlock score disk true key block (parts_of l s) new
+  pub seeks_index : (key : Key) (block : Sought) (l : LogState D) (s mid shard : ShardState D) (new : StoreParts D) (r : Result (Option Entry) ShardErr)
+      → cached_bytes key s.lumps ≡ None → mid ≡ s → LooksUp disk key r mid shard → ReadsFound score disk r block (parts_of l shard) new → SeeksBlock score disk true key block (parts_of l s) new
   seeks_index key block l s mid shard new r absent same looks reads =
       inr (record { absent = absent; found = r; shard = shard; looks = subst (λ (t : ShardState D). LooksUp disk key r t shard) same looks; reads = reads })
 
   -- the block of the entry that was found
-  pub reads_entry : {U : Type 0} (key : Key) (entry : Entry) (r : Result (Option Entry) ShardErr) → r ≡ Ok (Some entry) → entry.key ≡ key → (u : U) (old : Parts D) (l : LogState D) (s : ShardState D)
-      → Fetches score disk entry (fetched entry.key (Ok u) s) old (parts_of l s) → ReadsFound score disk r (Ok (bytes_of key s.lumps)) old (parts_of l s)
-  reads_entry key entry r is same u old l s it = subst (λ (x : Result (Option Entry) ShardErr). ReadsFound score disk x (Ok (bytes_of key s.lumps)) old (parts_of l s)) (sym is)
-      (subst (λ (k : Key). Fetches score disk entry (Ok (bytes_of k s.lumps)) old (parts_of l s)) same it)
+  pub reads_entry : {U : Type 0} (key : Key) (entry : Entry) (r : Result (Option Entry) ShardErr) → r ≡ Ok (Some entry) → entry.key ≡ key → (u : U) (old : StoreParts D) (l : LogState D) (s : ShardState D)
+      → Fetches score disk entry (fetched entry.key (Ok u) s) old (parts_of l s) → ReadsFound score disk r (Ok (cached_bytes key s.lumps)) old (parts_of l s)
+  reads_entry key entry r is same u old l s it = subst (λ (x : Result (Option Entry) ShardErr). ReadsFound score disk x (Ok (cached_bytes key s.lumps)) old (parts_of l s)) (sym is)
+      (subst (λ (k : Key). Fetches score disk entry (Ok (cached_bytes k s.lumps)) old (parts_of l s)) same it)
 
-  pub reads_fails : (entry : Entry) (r : Result (Option Entry) ShardErr) → r ≡ Ok (Some entry) → (why : Why) (old new : Parts D)
+  pub reads_fails : (entry : Entry) (r : Result (Option Entry) ShardErr) → r ≡ Ok (Some entry) → (why : Why) (old new : StoreParts D)
       → Fetches score disk entry (Err why) old new → ReadsFound score disk r (Err why) old new
   reads_fails entry r is why old new it = subst (λ (x : Result (Option Entry) ShardErr). ReadsFound score disk x (Err why) old new) (sym is) it
 
@@ -95,16 +95,16 @@ pub shard_keeps_from : (bad : ShardErr) → bad ≡ shard_err.Fault → MayKeepF
 shard_keeps_from bad fault = inl (ap why_of_shard fault)
 
 -- what was found of a key
-pub found_entry : (score : List ℕ → List ℕ) (c : Setup) (h : History) (key : Key) (entry : Entry) (r : Result (Option Entry) ShardErr) → r ≡ Ok (Some entry) → IfOk r (Finds score c h 0 key) → IsOfBlock score c h entry
+pub found_entry : (score : List ℕ → List ℕ) (c : Setup) (h : History) (key : Key) (entry : Entry) (r : Result (Option Entry) ShardErr) → r ≡ Ok (Some entry) → IfOk r (FindsEntry score c h 0 key) → IsEntryOfBlock score c h entry
 found_entry score c h key entry r is found =
-    let own : Finds score c h 0 key (Some entry) = subst (λ (x : Result (Option Entry) ShardErr). IfOk x (Finds score c h 0 key)) is found in own.1
+    let own : FindsEntry score c h 0 key (Some entry) = subst (λ (x : Result (Option Entry) ShardErr). IfOk x (FindsEntry score c h 0 key)) is found in own.1
 
-pub found_none : (score : List ℕ → List ℕ) (c : Setup) (h : History) (key : Key) (r : Result (Option Entry) ShardErr) → r ≡ Ok None → IfOk r (Finds score c h 0 key) → (i : ℕ) → ¬ HasKeyOf score h i key
+pub found_none : (score : List ℕ → List ℕ) (c : Setup) (h : History) (key : Key) (r : Result (Option Entry) ShardErr) → r ≡ Ok None → IfOk r (FindsEntry score c h 0 key) → (i : ℕ) → ¬ HasKeyOf score h i key
 found_none score c h key r is found i =
-    let own : Finds score c h 0 key None = subst (λ (x : Result (Option Entry) ShardErr). IfOk x (Finds score c h 0 key)) is found in own i (omega arith)
+    let own : FindsEntry score c h 0 key None = subst (λ (x : Result (Option Entry) ShardErr). IfOk x (FindsEntry score c h 0 key)) is found in own i (omega arith)
 
 pub found_other : (score : List ℕ → List ℕ) (c : Setup) (h : History) (s : List ℕ) (entry : Entry) (r : Result (Option Entry) ShardErr) → r ≡ Ok (Some entry) → IfOk r (FindsScore score c h 0 s)
-    → (entry.key.score.0 ≡ s) × IsOfBlock score c h entry
+    → (entry.key.score.0 ≡ s) × IsEntryOfBlock score c h entry
 found_other score c h s entry r is found =
     let own : FindsScore score c h 0 s (Some entry) = subst (λ (x : Result (Option Entry) ShardErr). IfOk x (FindsScore score c h 0 s)) is found in own
 
@@ -127,16 +127,16 @@ differ_is (Some block) bytes same is = ap (λ (b : Bool). Ok (not b)) is
 
 module _ {D : Type 0} (score : List ℕ → List ℕ) (disk : DiskOf D) where
   -- memory may be short for a copy of it
-  lump_short : (key : Key) (bytes : List ℕ) (old new : Parts D) → TakesLump key (Ok (Some bytes)) old new → TakesLump key (Err NoMemory) old new
+  lump_short : (key : Key) (bytes : List ℕ) (old new : StoreParts D) → TakesLump key (Ok (Some bytes)) old new → TakesLump key (Err NoMemory) old new
   lump_short key bytes old new it = record { bytes = it.bytes; has = it.has; block_is = inr refl; new_is = it.new_is }
 
-  found_short : (bytes : List ℕ) (r : Result (Option Entry) ShardErr) (old new : Parts D) → ReadsFound score disk r (Ok (Some bytes)) old new → ReadsFound score disk r (Err NoMemory) old new
+  found_short : (bytes : List ℕ) (r : Result (Option Entry) ShardErr) (old new : StoreParts D) → ReadsFound score disk r (Ok (Some bytes)) old new → ReadsFound score disk r (Err NoMemory) old new
   found_short bytes (Err bad) old new it = let e = it.0 in absurd (cc)
   found_short bytes (Ok None) old new it = let e = it.0 in absurd (cc)
   found_short bytes (Ok (Some entry)) old new it = ⊎_elim (λ lump. inl (lump_short entry.key bytes old new lump))
       (λ clump. inr (record { absent = clump.absent; answer = clump.answer; answers = clump.answers; reads = clump.reads; queued = clump.queued; keeps = clump.keeps; block_is = inr refl })) it
 
-  pub seeks_short : (may_have : Bool) (key : Key) (bytes : List ℕ) (why : Why) (old new : Parts D) → may_have ≡ true → why ≡ NoMemory → SeeksBlock score disk true key (Ok (Some bytes)) old new
+  pub seeks_short : (may_have : Bool) (key : Key) (bytes : List ℕ) (why : Why) (old new : StoreParts D) → may_have ≡ true → why ≡ NoMemory → SeeksBlock score disk true key (Ok (Some bytes)) old new
       → SeeksBlock score disk may_have key (Err why) old new
   seeks_short may_have key bytes why old new is short it =
       subst (λ (b : Bool). SeeksBlock score disk b key (Err why) old new) (sym is) (subst (λ (w : Why). SeeksBlock score disk true key (Err w) old new) (sym short)

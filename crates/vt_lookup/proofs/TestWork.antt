@@ -15,11 +15,11 @@ use Rattle.vt_bloom.specs.Bits.{Filter, HasBitsOf}
 use Rattle.vt_base.specs.declared.place.Info.{Info}
 use Rattle.vt_icache.specs.Index.{dirty_info, is_info_of}
 use Rattle.vt_isect.specs.Section.{SectionState}
-use Rattle.vt_isect.specs.declared.bad.ShardErr.{ShardErr}
-use Rattle.vt_isect.specs.declared.bad.ShardErr.TheVariants as shard_err
-use Rattle.vt_log.specs.Answers.{OnlyReads}
+use Rattle.vt_isect.specs.declared.error.ShardErr.{ShardErr}
+use Rattle.vt_isect.specs.declared.error.ShardErr.TheVariants as shard_err
+use Rattle.vt_log.specs.Answers.{OnlyReadsLog}
 use Rattle.vt_log.specs.Faults.{OneHasRisen}
-use Rattle.vt_log.specs.Log.{LogState, setup_of}
+use Rattle.vt_log.specs.Log.{LogState, setup_of_log}
 use Rattle.vt_part.specs.declared.layout.ArenaRegion.{ArenaRegion}
 use Rattle.vt_model.specs.declared.TheConstants.{BUCKET_ROOM}
 use Rattle.vt_model.specs.Answer.{collides, replies}
@@ -32,7 +32,7 @@ use Rattle.vt_isect.specs.Layout.{InRange}
 use Rattle.vt_shard.specs.Shard.{ShardState, HasScore, bucket_at}
 use Rattle.vt_lookup.specs.declared.writing.Verdict.{Verdict}
 use Rattle.vt_lookup.specs.declared.writing.Verdict.TheVariants.{Held, New}
-use Rattle.vt_lookup.specs.Finding.{Parts, CountsFailure, Compares, Holds, JudgesWrite, LooksFor, MayEndLook, NoneRose, ReadsShard, Sought, parts_of, room_verdict, why_of_shard}
+use Rattle.vt_lookup.specs.Finding.{StoreParts, CountsFailure, Compares, HoldsBlock, JudgesWrite, LooksFor, MayEndLook, NoneRose, ReadsShard, Sought, parts_of, room_verdict, why_of_shard}
 use Rattle.vt_lookup.specs.Seeking.{compared, differs, IsOwn}
 use Rattle.vt_lookup.proofs.Fetching.{log_rests, shard_rests}
 use Rattle.vt_lookup.proofs.Seeks.{ComparesLump, looks_fails, shard_keeps_from}
@@ -61,12 +61,12 @@ module _ (score : List ℕ → List ℕ) (c : Setup) (h : History) (key : Key) (
       (judges_count (nat_le BUCKET_ROOM (crowd score (bucket_count c) h (bucket_of (bucket_count c) (score bytes)))) refl))
 
 -- a log's own setup says as much of its arenas
-pub opened_room : {D : Type 0} (c : Setup) (l : LogState D) (h : History) (n : ℕ) (fits : Bool) → c ≡ record (setup_of l) { sections = c.sections } → fits ≡ is_some (next_arena (setup_of l) h n)
+pub opened_room : {D : Type 0} (c : Setup) (l : LogState D) (h : History) (n : ℕ) (fits : Bool) → c ≡ record (setup_of_log l) { sections = c.sections } → fits ≡ is_some (next_arena (setup_of_log l) h n)
     → fits ≡ is_some (next_arena c h n)
 opened_room c l h n fits opened is = is ∙ sym (ap (λ (d : Setup). is_some (next_arena d h n)) opened)
 
 module _ {D : Type 0} (score : List ℕ → List ℕ) (disk : DiskOf D) where
-  room_counts : (b fits : Bool) (old new : Parts D) → NoneRose disk old new
+  room_counts : (b fits : Bool) (old new : StoreParts D) → NoneRose disk old new
       → MatchResult (let r : Result Verdict Why = if b then Err IndexFull else if fits then Ok New else Err ArenasFull in r) (λ _. NoneRose disk old new) (λ why. CountsFailure disk why old new)
   room_counts true fits old new it = it
   room_counts false true old new it = it
@@ -109,7 +109,7 @@ module _ {D : Type 0} (score : List ℕ → List ℕ) (disk : DiskOf D) where
   }
 
   -- none of the counts rose in the first
-  none_then : {T : Type 0} (r : Result T Why) (old mid new : Parts D) → NoneRose disk old mid
+  none_then : {T : Type 0} (r : Result T Why) (old mid new : StoreParts D) → NoneRose disk old mid
       → MatchResult r (λ _. NoneRose disk mid new) (λ why. CountsFailure disk why mid new) → MatchResult r (λ _. NoneRose disk old new) (λ why. CountsFailure disk why old new)
   none_then (Ok t) old mid new first it = (it.0 ∙ first.0, it.1 ∙ first.1)
   none_then (Err why) old mid new first it = why_then why it
@@ -131,7 +131,7 @@ module _ {D : Type 0} (score : List ℕ → List ℕ) (disk : DiskOf D) where
       why_then NoMemory own = (own.0 ∙ first.0, own.1 ∙ first.1)
 
   -- the log is read from once at most, and the shard too
-  pub then_looks : {T : Type 0} (clumps frames more : ℕ) (r : Result T Why) (old mid new : Parts D) → ReadsShard disk frames old.shard mid.shard → NoneRose disk old mid → mid.log.layout ≡ old.log.layout → OnlyReads score disk clumps old.log new.log
+  pub then_looks : {T : Type 0} (clumps frames more : ℕ) (r : Result T Why) (old mid new : StoreParts D) → ReadsShard disk frames old.shard mid.shard → NoneRose disk old mid → mid.log.layout ≡ old.log.layout → OnlyReadsLog score disk clumps old.log new.log
       → LooksFor score disk clumps more r mid new → LooksFor score disk clumps (frames + more) r old new
   then_looks clumps frames more r old mid new first none layout log last = record {
     log = log;
@@ -140,7 +140,7 @@ module _ {D : Type 0} (score : List ℕ → List ℕ) (disk : DiskOf D) where
     cause = λ some. last.cause (subst (λ (rs : List ArenaRegion). 0 < length rs) (sym layout) some);
   }
 
-  wider_log : (a b : ℕ) (l new : LogState D) → a ≤ b → OnlyReads score disk a l new → OnlyReads score disk b l new
+  wider_log : (a b : ℕ) (l new : LogState D) → a ≤ b → OnlyReadsLog score disk a l new → OnlyReadsLog score disk b l new
   wider_log a b l new le it = record { same = it.same; sound = it.sound; disks = it.disks; calls = λ tells. let most = it.calls tells in omega (arith, most, le) }
 
   wider_shard : (a b : ℕ) (s new : ShardState D) → a ≤ b → ReadsShard disk a s new → ReadsShard disk b s new
@@ -152,7 +152,7 @@ module _ {D : Type 0} (score : List ℕ → List ℕ) (disk : DiskOf D) where
     filed = it.filed;
   }
 
-  pub wider_looks : {T : Type 0} (a b m n : ℕ) (r : Result T Why) (old new : Parts D) → a ≤ m → b ≤ n → LooksFor score disk a b r old new → LooksFor score disk m n r old new
+  pub wider_looks : {T : Type 0} (a b m n : ℕ) (r : Result T Why) (old new : StoreParts D) → a ≤ m → b ≤ n → LooksFor score disk a b r old new → LooksFor score disk m n r old new
   wider_looks a b m n r old new log shard it = record {
     log = wider_log a m old.log new.log log it.log;
     shard = wider_shard b n old.shard new.shard shard it.shard;
@@ -230,7 +230,7 @@ module _ (score : List ℕ → List ℕ) (c : Setup) (h : History) (legal : IsLe
 
 -- ---- what follows on a look-up
 
-module _ {D : Type 0} (bytes : List ℕ) (room : Result Verdict Why → (old new : Parts D) → Type 0) (p : Parts D) where
+module _ {D : Type 0} (bytes : List ℕ) (room : Result Verdict Why → (old new : StoreParts D) → Type 0) (p : StoreParts D) where
   pub differs_err : (other : Sought) (why : Why) → (let r : Result Bool Why = Err why in r ≡ differs other bytes) → Compares other bytes room room (Err why) p p
   differs_err (Err first) why is = let same : why ≡ first = cc in (ap (λ (w : Why). Err w) same, refl)
   differs_err (Ok None) why is = absurd (cc)
@@ -249,28 +249,28 @@ module _ {D : Type 0} (bytes : List ℕ) (room : Result Verdict Why → (old new
   goes_by true is same other it = it
   goes_by false is same other it = absurd (cc)
 
-  pub differs_false : (other : Sought) (verdict : Result Verdict Why) (new : Parts D) → (let r : Result Bool Why = Ok false in r ≡ differs other bytes) → room verdict p new → Compares other bytes room room verdict p new
+  pub differs_false : (other : Sought) (verdict : Result Verdict Why) (new : StoreParts D) → (let r : Result Bool Why = Ok false in r ≡ differs other bytes) → room verdict p new → Compares other bytes room room verdict p new
   differs_false (Err first) verdict new is it = absurd (cc)
   differs_false (Ok None) verdict new is it = it
   differs_false (Ok (Some block)) verdict new is it = goes_by (bytes_eq block bytes) is (room verdict p new) ((verdict ≡ Err Collision) × (new ≡ p)) it
 
-  pub own_err : (own : Sought) (why : Why) → (let r : Result (Option Bool) Why = Err why in r ≡ compared own bytes) → Compares own bytes Holds room (Err why) p p
+  pub own_err : (own : Sought) (why : Why) → (let r : Result (Option Bool) Why = Err why in r ≡ compared own bytes) → Compares own bytes HoldsBlock room (Err why) p p
   own_err (Err first) why is = let same : why ≡ first = cc in (ap (λ (w : Why). Err w) same, refl)
   own_err (Ok None) why is = absurd (cc)
   own_err (Ok (Some block)) why is = absurd (cc)
 
-  held_by : (b same : Bool) → same ≡ b → (let v : Result Verdict Why = if same then Ok Held else Err Collision in MatchBool b (Holds v p p) ((v ≡ Err Collision) × (p ≡ p)))
+  held_by : (b same : Bool) → same ≡ b → (let v : Result Verdict Why = if same then Ok Held else Err Collision in MatchBool b (HoldsBlock v p p) ((v ≡ Err Collision) × (p ≡ p)))
   held_by true true is = (refl, refl)
   held_by true false is = absurd (cc)
   held_by false true is = absurd (cc)
   held_by false false is = (refl, refl)
 
-  pub own_some : (own : Sought) (same : Bool) → (let r : Result (Option Bool) Why = Ok (Some same) in r ≡ compared own bytes) → Compares own bytes Holds room (if same then Ok Held else Err Collision) p p
+  pub own_some : (own : Sought) (same : Bool) → (let r : Result (Option Bool) Why = Ok (Some same) in r ≡ compared own bytes) → Compares own bytes HoldsBlock room (if same then Ok Held else Err Collision) p p
   own_some (Err first) same is = absurd (cc)
   own_some (Ok None) same is = absurd (cc)
   own_some (Ok (Some block)) same is = let e : same ≡ bytes_eq block bytes = cc in held_by (bytes_eq block bytes) same e
 
-  pub own_none : (own : Sought) (verdict : Result Verdict Why) (new : Parts D) → (let r : Result (Option Bool) Why = Ok None in r ≡ compared own bytes) → room verdict p new → Compares own bytes Holds room verdict p new
+  pub own_none : (own : Sought) (verdict : Result Verdict Why) (new : StoreParts D) → (let r : Result (Option Bool) Why = Ok None in r ≡ compared own bytes) → room verdict p new → Compares own bytes HoldsBlock room verdict p new
   own_none (Err first) verdict new is it = absurd (cc)
   own_none (Ok None) verdict new is it = it
   own_none (Ok (Some block)) verdict new is it = absurd (cc)

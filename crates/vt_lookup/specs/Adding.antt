@@ -5,11 +5,11 @@ use Rattle.vt_base.specs.declared.place.Place.{Place}
 use Rattle.vt_clump.specs.declared.packed.Packed.{Packed}
 use Rattle.vt_log.specs.Answers.{TakesIn}
 use Rattle.vt_log.specs.Log.{front}
-use Rattle.vt_lookup.specs.Finding.{Parts}
+use Rattle.vt_lookup.specs.Finding.{StoreParts}
 
 -- This clump is added to the log's queue, and its entry to the shard, as a dirty one under the next
 -- number.
-pub record AddsPacked {D : Type 0} (packed : Packed) (old new : Parts D) : Type 0 where
+pub record AddsPacked {D : Type 0} (packed : Packed) (old new : StoreParts D) : Type 0 where
   pub place : Place
   pub info : Info
   pub log : TakesIn packed place old.log new.log

@@ -17,42 +17,42 @@ use Rattle.vt_model.specs.Answer.{Outcome, answer, refuses, replies}
 use Rattle.vt_model.specs.History.{History, HasScoreAt}
 use Rattle.vt_model.specs.Legal.{IsLegal}
 use Rattle.vt_model.specs.Places.{Setup}
-use Rattle.vt_arena.specs.declared.bad.ReadBad.{ReadBad}
-use Rattle.vt_arena.specs.declared.bad.ReadBad.TheVariants as read_bad
-use Rattle.vt_log.specs.Answers.{OnlyReads}
+use Rattle.vt_arena.specs.declared.error.ReadBad.{ReadBad}
+use Rattle.vt_arena.specs.declared.error.ReadBad.TheVariants as read_bad
+use Rattle.vt_log.specs.Answers.{OnlyReadsLog}
 use Rattle.vt_log.specs.Faults.{OneHasRisen}
-use Rattle.vt_log.specs.Log.{LogState, setup_of, has_next}
-use Rattle.vt_log.specs.Sound.{IsSound as IsSoundLog}
+use Rattle.vt_log.specs.Log.{LogState, setup_of_log, has_next}
+use Rattle.vt_log.specs.Sound.{IsSoundLog}
 use Rattle.vt_log.specs.Queue.{IsFirstAt}
 use Rattle.vt_log.specs.Reading.{AnswersRead}
-use Rattle.vt_isect.specs.declared.bad.ShardErr.{ShardErr}
-use Rattle.vt_lumps.specs.Lumps.{bytes_of, used, kept}
+use Rattle.vt_isect.specs.declared.error.ShardErr.{ShardErr}
+use Rattle.vt_lumps.specs.Lumps.{cached_bytes, used, with_lump}
 use Rattle.vt_shard.specs.Looking.{LooksUp, FindsOther, CountsCrowd}
 use Rattle.vt_shard.specs.Shard.{ShardState, bucket_at}
-use Rattle.vt_shard.specs.Sound.{IsSound as IsSoundShard}
+use Rattle.vt_shard.specs.Sound.{IsSoundShard}
 use Rattle.vt_lookup.specs.declared.writing.Verdict.{Verdict}
 use Rattle.vt_lookup.specs.declared.writing.Verdict.TheVariants.{Held, New}
-use Rattle.vt_isect.specs.declared.bad.ShardErr.TheVariants as shard_err
+use Rattle.vt_isect.specs.declared.error.ShardErr.TheVariants as shard_err
 
 -- the parts that have to do with a score: the log, and the shard of the score's bucket
-pub record Parts (D : Type 0) : Type 0 where
+pub record StoreParts (D : Type 0) : Type 0 where
   pub log : LogState D
   pub shard : ShardState D
 
-abbrev pub parts_of : {D : Type 0} → LogState D → ShardState D → Parts D
+abbrev pub parts_of : {D : Type 0} → LogState D → ShardState D → StoreParts D
 parts_of log shard = record { log = log; shard = shard }
 
 -- they are sound for a history of which so many blocks are durable
 pub record AreSound {D : Type 0} (score : List ℕ → List ℕ) (disk : DiskOf D) (c : Setup)
-    (p : Parts D) (h : History) (durable : ℕ) : Type 0 where
+    (p : StoreParts D) (h : History) (durable : ℕ) : Type 0 where
   pub log : IsSoundLog score disk p.log h
   pub shard : IsSoundShard score c disk p.shard h durable
-  pub opened : c ≡ record (setup_of p.log) { sections = c.sections }
+  pub opened : c ≡ record (setup_of_log p.log) { sections = c.sections }
   pub legal : IsLegal score c h
 
 -- where the filter says that a score is absent, no block has it
-abbrev pub IsRight : (List ℕ → List ℕ) → History → (s : List ℕ) → (may_have : Bool) → Type 0
-IsRight score h s may_have = may_have ≡ false → (i : ℕ) → ¬ HasScoreAt score h i s
+abbrev pub IsRightFilter : (List ℕ → List ℕ) → History → (s : List ℕ) → (may_have : Bool) → Type 0
+IsRightFilter score h s may_have = may_have ≡ false → (i : ℕ) → ¬ HasScoreAt score h i s
 
 -- a fault or want of memory, which may keep any look-up from its answer
 abbrev pub MayKeepFrom : Why → Type 0
@@ -64,11 +64,11 @@ IsVerdict outcome s Held = outcome ≡ replies (r_write s)
 IsVerdict outcome s New = IsSome outcome.added
 
 -- a new block is refused for one of these
-abbrev pub IsRefusal : Why → Type 0
-IsRefusal Collision = ⊤
-IsRefusal IndexFull = ⊤
-IsRefusal ArenasFull = ⊤
-IsRefusal why = ⊥
+abbrev pub IsWriteRefusal : Why → Type 0
+IsWriteRefusal Collision = ⊤
+IsWriteRefusal IndexFull = ⊤
+IsWriteRefusal ArenasFull = ⊤
+IsWriteRefusal why = ⊥
 
 -- the verdict is that of the model's answer, unless the store fails
 abbrev pub JudgesWrite : (List ℕ → List ℕ) → Setup → History → Key → (bytes : List ℕ)
@@ -76,9 +76,9 @@ abbrev pub JudgesWrite : (List ℕ → List ℕ) → Setup → History → Key �
 JudgesWrite score c h key bytes verdict =
     let outcome = answer score c h (write key.kind bytes) in
     MatchResult verdict (IsVerdict outcome key.score.0)
-    (λ why. MayKeepFrom why ⊎ (IsRefusal why × (outcome ≡ refuses why)))
+    (λ why. MayKeepFrom why ⊎ (IsWriteRefusal why × (outcome ≡ refuses why)))
 
-abbrev pub with_shard : {D : Type 0} → ShardState D → Parts D → Parts D
+abbrev pub with_shard : {D : Type 0} → ShardState D → StoreParts D → StoreParts D
 with_shard shard p = record p { shard = shard }
 
 -- a block that was looked for: there is one, or there is none, or it can't be told
@@ -98,19 +98,20 @@ pub record ReadsShard {D : Type 0} (disk : DiskOf D) (most : ℕ) (old new : Sha
     pub filed : new.filed ≡ old.filed
 
 -- no count of failed calls rose, of the log's devices and of the shard's
-abbrev pub NoneRose : {D : Type 0} → DiskOf D → (old new : Parts D) → Type 0
+abbrev pub NoneRose : {D : Type 0} → DiskOf D → (old new : StoreParts D) → Type 0
 NoneRose disk old new = (map disk.faults new.log.disks ≡ map disk.faults old.log.disks)
     × (disk.faults new.shard.section.disk ≡ disk.faults old.shard.section.disk)
 
 -- one of them rose
-abbrev pub OneRose : {D : Type 0} → DiskOf D → (old new : Parts D) → Type 0
-OneRose disk old new = (OneHasRisen (map disk.faults old.log.disks) (map disk.faults new.log.disks)
+abbrev pub OnePartRose : {D : Type 0} → DiskOf D → (old new : StoreParts D) → Type 0
+OnePartRose disk old new =
+    (OneHasRisen (map disk.faults old.log.disks) (map disk.faults new.log.disks)
     × (disk.faults new.shard.section.disk ≡ disk.faults old.shard.section.disk))
     ⊎ ((map disk.faults new.log.disks ≡ map disk.faults old.log.disks)
     × HasRisen (disk.faults old.shard.section.disk) (disk.faults new.shard.section.disk))
 
-abbrev pub CountsFailure : {D : Type 0} → DiskOf D → Why → (old new : Parts D) → Type 0
-CountsFailure disk DiskFault old new = OneRose disk old new
+abbrev pub CountsFailure : {D : Type 0} → DiskOf D → Why → (old new : StoreParts D) → Type 0
+CountsFailure disk DiskFault old new = OnePartRose disk old new
 CountsFailure disk why old new = NoneRose disk old new
 
 -- a write is refused, or the store fails: a device does, two values differ, or memory runs out
@@ -127,8 +128,8 @@ MayEndLook why = ⊥
 -- changes but what is in memory of blocks and clean entries. A disk fault is told exactly where one
 -- of their counts rose.
 pub record LooksFor {D T : Type 0} (score : List ℕ → List ℕ) (disk : DiskOf D)
-    (clumps frames : ℕ) (result : Result T Why) (old new : Parts D) : Type 0 where
-  pub log : OnlyReads score disk clumps old.log new.log
+    (clumps frames : ℕ) (result : Result T Why) (old new : StoreParts D) : Type 0 where
+  pub log : OnlyReadsLog score disk clumps old.log new.log
   pub shard : ReadsShard disk frames old.shard new.shard
   pub counts : MatchResult result (λ _. NoneRose disk old new)
       (λ why. CountsFailure disk why old new)
@@ -137,9 +138,10 @@ pub record LooksFor {D T : Type 0} (score : List ℕ → List ℕ) (disk : DiskO
 -- ---- reading a block of which there is an entry
 
 -- it is in memory, where it becomes the one that was used last; memory may be short for a copy
-pub record TakesLump {D : Type 0} (key : Key) (block : Sought) (old new : Parts D) : Type 0 where
+pub record TakesLump {D : Type 0} (key : Key) (block : Sought) (old new : StoreParts D)
+    : Type 0 where
   pub bytes : List ℕ
-  pub has : bytes_of key old.shard.lumps ≡ Some bytes
+  pub has : cached_bytes key old.shard.lumps ≡ Some bytes
   pub block_is : (block ≡ Ok (Some bytes)) ⊎ (block ≡ Err NoMemory)
   pub new_is : new ≡ with_shard (record old.shard { lumps = used key old.shard.lumps }) old
 
@@ -156,17 +158,17 @@ sought_in place (Err bad) = Err (why_of_read place bad)
 -- a block that the log gave is kept in memory from then on, unless memory is short
 abbrev pub MayKeep : {D : Type 0} → Key → Result (List ℕ) ReadBad → (old new : ShardState D) → Type 0
 MayKeep key (Ok bytes) old new =
-    (new ≡ record old { lumps = kept key bytes old.lumps }) ⊎ (new ≡ old)
+    (new ≡ record old { lumps = with_lump key bytes old.lumps }) ⊎ (new ≡ old)
 MayKeep key (Err bad) old new = new ≡ old
 
 -- it isn't in memory, and the log is asked for what stands at the entry's place; memory may be short
 -- for it
 pub record ReadsClump {D : Type 0} (score : List ℕ → List ℕ) (disk : DiskOf D) (entry : Entry)
-    (block : Sought) (old new : Parts D) : Type 0 where
-  pub absent : bytes_of entry.key old.shard.lumps ≡ None
+    (block : Sought) (old new : StoreParts D) : Type 0 where
+  pub absent : cached_bytes entry.key old.shard.lumps ≡ None
   pub answer : Result (List ℕ) ReadBad
   pub answers : AnswersRead score disk old.log entry.place entry.key answer
-  pub reads : OnlyReads score disk 2 old.log new.log
+  pub reads : OnlyReadsLog score disk 2 old.log new.log
   pub queued : (i : ℕ) → IsFirstAt old.log.queue.places entry.place i → new.log ≡ old.log
   pub keeps : MayKeep entry.key answer old.shard new.shard
   pub block_is : (block ≡ sought_in entry.place answer) ⊎ (block ≡ Err NoMemory)
@@ -178,7 +180,7 @@ why_of_shard (shard_err.Stopped call) = Stopped call
 
 -- the block of the entry that an index look-up gave, if it gave one
 abbrev pub ReadsFound : {D : Type 0} → (List ℕ → List ℕ) → DiskOf D
-    → Result (Option Entry) ShardErr → Sought → (old new : Parts D) → Type 0
+    → Result (Option Entry) ShardErr → Sought → (old new : StoreParts D) → Type 0
 ReadsFound score disk (Err bad) block old new = (block ≡ Err (why_of_shard bad)) × (new ≡ old)
 ReadsFound score disk (Ok None) block old new = (block ≡ Ok None) × (new ≡ old)
 ReadsFound score disk (Ok (Some entry)) block old new =
@@ -188,8 +190,8 @@ ReadsFound score disk (Ok (Some entry)) block old new =
 
 -- by its key: the index is asked where the block isn't in memory
 pub record AsksIndex {D : Type 0} (score : List ℕ → List ℕ) (disk : DiskOf D) (key : Key)
-    (block : Sought) (old new : Parts D) : Type 0 where
-  pub absent : bytes_of key old.shard.lumps ≡ None
+    (block : Sought) (old new : StoreParts D) : Type 0 where
+  pub absent : cached_bytes key old.shard.lumps ≡ None
   pub found : Result (Option Entry) ShardErr
   pub shard : ShardState D
   pub looks : LooksUp disk key found old.shard shard
@@ -197,14 +199,14 @@ pub record AsksIndex {D : Type 0} (score : List ℕ → List ℕ) (disk : DiskOf
 
 -- where the filter says that no block has the score, nothing is looked up
 abbrev pub SeeksBlock : {D : Type 0} → (List ℕ → List ℕ) → DiskOf D → (may_have : Bool) → Key
-    → Sought → (old new : Parts D) → Type 0
+    → Sought → (old new : StoreParts D) → Type 0
 SeeksBlock score disk false key block old new = (block ≡ Ok None) × (new ≡ old)
 SeeksBlock score disk true key block old new =
     TakesLump key block old new ⊎ AsksIndex score disk key block old new
 
 -- and by its score alone: one under any type stands for all
 abbrev pub SeeksOther : {D : Type 0} → (List ℕ → List ℕ) → DiskOf D → (may_have : Bool)
-    → (s : List ℕ) → Sought → (old new : Parts D) → Type 0
+    → (s : List ℕ) → Sought → (old new : StoreParts D) → Type 0
 SeeksOther score disk false s block old new = (block ≡ Ok None) × (new ≡ old)
 SeeksOther {D} score disk true s block old new =
     (found : Result (Option Entry) ShardErr) × (shard : ShardState D)
@@ -222,7 +224,7 @@ room_verdict (Ok crowd) room =
     else Err ArenasFull
 
 pub record TestsRoom {D : Type 0} (disk : DiskOf D) (s bytes : List ℕ)
-    (verdict : Result Verdict Why) (old new : Parts D) : Type 0 where
+    (verdict : Result Verdict Why) (old new : StoreParts D) : Type 0 where
   pub crowd : Result ℕ ShardErr
   pub counts : CountsCrowd disk (bucket_at old.shard s) crowd old.shard new.shard
   pub log : new.log ≡ old.log
@@ -231,8 +233,8 @@ pub record TestsRoom {D : Type 0} (disk : DiskOf D) (s bytes : List ℕ)
 -- A block that was found is compared with the one to be written: where it has other bytes, that is
 -- refused. Else, or where none was found, the tests go on so.
 abbrev pub Compares : {D : Type 0} → Sought → (bytes : List ℕ)
-    → (same none : Result Verdict Why → (old new : Parts D) → Type 0) → Result Verdict Why
-    → (old new : Parts D) → Type 0
+    → (same none : Result Verdict Why → (old new : StoreParts D) → Type 0) → Result Verdict Why
+    → (old new : StoreParts D) → Type 0
 Compares (Err why) bytes same none verdict old new = (verdict ≡ Err why) × (new ≡ old)
 Compares (Ok None) bytes same none verdict old new = none verdict old new
 Compares (Ok (Some block)) bytes same none verdict old new =
@@ -240,23 +242,24 @@ Compares (Ok (Some block)) bytes same none verdict old new =
     ((verdict ≡ Err Collision) × (new ≡ old))
 
 -- the block is held
-abbrev pub Holds : {D : Type 0} → Result Verdict Why → (old new : Parts D) → Type 0
-Holds verdict old new = (verdict ≡ Ok Held) × (new ≡ old)
+abbrev pub HoldsBlock : {D : Type 0} → Result Verdict Why → (old new : StoreParts D) → Type 0
+HoldsBlock verdict old new = (verdict ≡ Ok Held) × (new ≡ old)
 
 -- no block has the key, and another one of the score is looked for
 pub record TestsOther {D : Type 0} (score : List ℕ → List ℕ) (disk : DiskOf D) (may_have : Bool)
-    (s bytes : List ℕ) (verdict : Result Verdict Why) (old new : Parts D) : Type 0 where
+    (s bytes : List ℕ) (verdict : Result Verdict Why) (old new : StoreParts D) : Type 0 where
   pub other : Sought
-  pub mid : Parts D
+  pub mid : StoreParts D
   pub seeks : SeeksOther score disk may_have s other old mid
   pub compares : Compares other bytes (TestsRoom disk s bytes) (TestsRoom disk s bytes)
       verdict mid new
 
 -- the tests of a write, in the order of the model's answer
 pub record TestsWrite {D : Type 0} (score : List ℕ → List ℕ) (disk : DiskOf D) (may_have : Bool)
-    (key : Key) (bytes : List ℕ) (verdict : Result Verdict Why) (old new : Parts D) : Type 0 where
+    (key : Key) (bytes : List ℕ) (verdict : Result Verdict Why) (old new : StoreParts D)
+    : Type 0 where
   pub own : Sought
-  pub mid : Parts D
+  pub mid : StoreParts D
   pub seeks : SeeksBlock score disk may_have key own old mid
-  pub compares : Compares own bytes Holds
+  pub compares : Compares own bytes HoldsBlock
       (TestsOther score disk may_have key.score.0 bytes) verdict mid new

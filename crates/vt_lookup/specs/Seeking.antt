@@ -6,27 +6,27 @@ use Rattle.vt_base.specs.declared.key.Key.{Key}
 use Rattle.vt_base.specs.declared.place.Entry.{Entry}
 use Rattle.vt_base.specs.declared.why.Why.{Why}
 use Rattle.vt_disk.specs.Members.{DiskOf}
-use Rattle.vt_lumps.specs.Lumps.{bytes_of}
+use Rattle.vt_lumps.specs.Lumps.{cached_bytes}
 use Rattle.vt_model.specs.History.{History}
 use Rattle.vt_model.specs.Places.{Setup}
 use Rattle.vt_shard.specs.Search.{HasKeyOf}
 use Rattle.vt_shard.specs.Shard.{ShardState}
-use Rattle.vt_lookup.specs.Finding.{Parts, Sought, AreSound, SeeksBlock, SeeksOther, TakesLump, ReadsClump}
+use Rattle.vt_lookup.specs.Finding.{StoreParts, Sought, AreSound, SeeksBlock, SeeksOther, TakesLump, ReadsClump}
 
 -- the block of a key, where it was brought into memory
 abbrev pub fetched : {D U : Type 0} → Key → Result U Why → ShardState D → Sought
-fetched key (Ok done) shard = Ok (bytes_of key shard.lumps)
+fetched key (Ok done) shard = Ok (cached_bytes key shard.lumps)
 fetched key (Err why) shard = Err why
 
 -- the same where there may be none
 abbrev pub sought : {D : Type 0} → Key → Result Bool Why → ShardState D → Sought
-sought key (Ok true) shard = Ok (bytes_of key shard.lumps)
+sought key (Ok true) shard = Ok (cached_bytes key shard.lumps)
 sought key (Ok false) shard = Ok None
 sought key (Err why) shard = Err why
 
 -- the block of an entry is brought into memory
 abbrev pub Fetches : {D : Type 0} → (List ℕ → List ℕ) → DiskOf D → Entry → Sought
-    → (old new : Parts D) → Type 0
+    → (old new : StoreParts D) → Type 0
 Fetches score disk entry block old new =
     TakesLump entry.key block old new ⊎ ReadsClump score disk entry block old new
 
@@ -42,13 +42,13 @@ differs (Ok (Some block)) bytes = Ok (not (bytes_eq block bytes))
 differs (Err why) bytes = Err why
 
 pub record ComparesBlock {D : Type 0} (score : List ℕ → List ℕ) (disk : DiskOf D) (key : Key)
-    (bytes : List ℕ) (result : Result (Option Bool) Why) (old new : Parts D) : Type 0 where
+    (bytes : List ℕ) (result : Result (Option Bool) Why) (old new : StoreParts D) : Type 0 where
   pub own : Sought
   pub seeks : SeeksBlock score disk true key own old new
   pub result_is : result ≡ compared own bytes
 
 pub record ComparesOther {D : Type 0} (score : List ℕ → List ℕ) (disk : DiskOf D)
-    (s bytes : List ℕ) (result : Result Bool Why) (old new : Parts D) : Type 0 where
+    (s bytes : List ℕ) (result : Result Bool Why) (old new : StoreParts D) : Type 0 where
   pub other : Sought
   pub seeks : SeeksOther score disk true s other old new
   pub result_is : result ≡ differs other bytes
@@ -56,7 +56,8 @@ pub record ComparesOther {D : Type 0} (score : List ℕ → List ℕ) (disk : Di
 -- ---- on sound parts
 
 -- for each history for which the parts are sound they stay so
-abbrev pub StaySound : {D : Type 0} → (List ℕ → List ℕ) → DiskOf D → (old new : Parts D) → Type 0
+abbrev pub StaySound : {D : Type 0} → (List ℕ → List ℕ) → DiskOf D → (old new : StoreParts D)
+    → Type 0
 StaySound {D} score disk old new = (c : Setup) (h : History) (durable : ℕ) → IsTrue disk.tells
     → AreSound score disk c old h durable → AreSound score disk c new h durable
 

@@ -6,27 +6,26 @@
 ghost use Rattle.std.specs.Prelude.{◌≡◌, ◌≢◌, [], ℕ, List, IfErr, IsTrue, IsSome, MatchOption, MatchResult, OnOk, Ok, Some, None, true, false};
 ghost use Rattle.std.specs.Str.{bytes_eq};
 ghost use Rattle.vt_icache.specs.Index.{dirty_info};
-ghost use Rattle.vt_isect.specs.Agreement.{IsOfBlock};
-ghost use Rattle.vt_lumps.specs.Lumps.{bytes_of, kept};
+ghost use Rattle.vt_isect.specs.Agreement.{IsEntryOfBlock};
+ghost use Rattle.vt_lumps.specs.Lumps.{cached_bytes, with_lump};
 ghost use Rattle.vt_model.specs.Answer.{collides as collision};
 ghost use Rattle.vt_model.specs.History.{History, held};
 ghost use Rattle.vt_model.specs.Places.{Setup};
 ghost use Rattle.vt_shard.specs.Search.{HasKeyOf, IsLumpOf};
 ghost use Rattle.vt_shard.specs.Shard.{HasScore, HasRead, bucket_at};
-ghost use Rattle.vt_shard.specs.Sound.{IsSound as IsSoundShard};
-ghost use Rattle.vt_lookup.specs.Finding.{AreSound, IsRight, LooksFor, MayKeepFrom, SeeksBlock, parts_of, why_of_read};
+ghost use Rattle.vt_shard.specs.Sound.{IsSoundShard};
+ghost use Rattle.vt_lookup.specs.Finding.{AreSound, IsRightFilter, LooksFor, MayKeepFrom, SeeksBlock, parts_of, why_of_read};
 ghost use Rattle.vt_lookup.specs.Seeking.{ComparesBlock, ComparesOther, Fetches, IsOwn, StaySound, fetched, sought};
 ghost use Rattle.vt_lookup.specs.Finding.{why_of_shard};
 
 use std::alloc::{AllocError, Global};
 use std::sync::ledger::Ledger;
 use vt_arena::ReadBad;
-use vt_base::{Bytes, Entry, Key, Place, Score, Scorer, Site, Why};
+use vt_base::{Bytes, Entry, Key, Place, Score, Scorer, Site, Steps, Why};
 use vt_disk::Disk;
 use vt_isect::ShardErr;
 use vt_log::Log;
 use vt_shard::Shard;
-use vt_steps::Steps;
 
 /// The block of a key, by the filter's bits, which say whether it may be there, the shard and the
 /// log. It is kept in memory from then on.
@@ -43,7 +42,7 @@ pub fn find_block<D: Disk, S: Scorer, L: Ledger>(
     // On sound parts it is the block that is held, and they stay sound.
     ensures found { (c : Setup) (h : History) (durable : ℕ) → IsTrue D.tells
         → AreSound S.score_of D.Disk c (parts_of log.old shard.old) h durable
-        → IsRight S.score_of h key.now.score.0 may_have → key.now.score.0 ≢ S.score_of []
+        → IsRightFilter S.score_of h key.now.score.0 may_have → key.now.score.0 ≢ S.score_of []
         → MatchResult result
         (λ block. block ≡ held S.score_of h key.now.score.0 key.now.kind) MayKeepFrom }
     ensures sound { StaySound S.score_of D.Disk (parts_of log.old shard.old)
@@ -154,7 +153,7 @@ fn seek<D: Disk, S: Scorer, L: Ledger>(
     ensures seeks { SeeksBlock S.score_of D.Disk true key.now
         (sought key.now result shard.new) (parts_of log.old shard.old)
         (parts_of log.new shard.new) }
-    ensures there { result ≡ Ok true → IsSome (bytes_of key.now shard.new.lumps) }
+    ensures there { result ≡ Ok true → IsSome (cached_bytes key.now shard.new.lumps) }
     ensures looks { LooksFor S.score_of D.Disk 2 2 result (parts_of log.old shard.old)
         (parts_of log.new shard.new) }
     ensures absent { result ≡ Ok false → (log.new ≡ log.old)
@@ -184,15 +183,15 @@ fn fetch<D: Disk, S: Scorer, L: Ledger>(
 ) -> Result<(), Why>
     ensures right { (c : Setup) (h : History) (durable : ℕ) → IsTrue D.tells
         → AreSound S.score_of D.Disk c (parts_of log.old shard.old) h durable
-        → IsOfBlock S.score_of c h entry.now → IfErr result MayKeepFrom }
+        → IsEntryOfBlock S.score_of c h entry.now → IfErr result MayKeepFrom }
     ensures sound { (c : Setup) (h : History) (durable : ℕ) → IsTrue D.tells
         → AreSound S.score_of D.Disk c (parts_of log.old shard.old) h durable
-        → IsOfBlock S.score_of c h entry.now
+        → IsEntryOfBlock S.score_of c h entry.now
         → AreSound S.score_of D.Disk c (parts_of log.new shard.new) h durable }
     ensures fetches { Fetches S.score_of D.Disk entry.now
         (fetched entry.now.key result shard.new) (parts_of log.old shard.old)
         (parts_of log.new shard.new) }
-    ensures there { OnOk result (IsSome (bytes_of entry.now.key shard.new.lumps)) }
+    ensures there { OnOk result (IsSome (cached_bytes entry.now.key shard.new.lumps)) }
     ensures looks { LooksFor S.score_of D.Disk 2 0 result (parts_of log.old shard.old)
         (parts_of log.new shard.new) }
     ensures lumps { shard.new ≡ record shard.old { lumps = shard.new.lumps } }
@@ -209,7 +208,7 @@ fn fetch<D: Disk, S: Scorer, L: Ledger>(
 /// Keeps a block in memory.
 fn keep<D: Disk>(shard: &mut Shard<D>, key: Key, bytes: Bytes) -> Result<(), Why>
     ensures kept { MatchResult result
-        (λ _. shard.new ≡ record shard.old { lumps = kept key bytes shard.old.lumps })
+        (λ _. shard.new ≡ record shard.old { lumps = with_lump key bytes shard.old.lumps })
         (λ why. (why ≡ Why.NoMemory) × (shard.new ≡ shard.old)) }
     ensures sound { (score : List ℕ → List ℕ) (c : Setup) (h : History) (durable : ℕ)
         → IsSoundShard score c D.Disk shard.old h durable → IsLumpOf score h key bytes
@@ -224,8 +223,8 @@ fn keep<D: Disk>(shard: &mut Shard<D>, key: Key, bytes: Bytes) -> Result<(), Why
 
 /// Whether the block of a key that is in memory has these bytes.
 fn is_lump<D: Disk>(shard: &Shard<D>, key: &Key, block: &[u8]) -> bool
-    requires { IsSome (bytes_of key.now shard.now.lumps) }
-    ensures same { MatchOption (bytes_of key.now shard.now.lumps) ⊥
+    requires { IsSome (cached_bytes key.now shard.now.lumps) }
+    ensures same { MatchOption (cached_bytes key.now shard.now.lumps) ⊥
         (λ bytes. result ≡ bytes_eq bytes block.now) }
     ensures right { (score : List ℕ → List ℕ) (c : Setup) (h : History) (durable : ℕ)
         → IsSoundShard score c D.Disk shard.now h durable
@@ -239,8 +238,8 @@ fn is_lump<D: Disk>(shard: &Shard<D>, key: &Key, block: &[u8]) -> bool
 
 /// A copy of the block of a key that is in memory.
 fn copy_of_lump<D: Disk>(alloc: Global, shard: &Shard<D>, key: &Key) -> Result<Bytes, Why>
-    requires { IsSome (bytes_of key.now shard.now.lumps) }
-    ensures copy { MatchResult result (λ copy. bytes_of key.now shard.now.lumps ≡ Some copy)
+    requires { IsSome (cached_bytes key.now shard.now.lumps) }
+    ensures copy { MatchResult result (λ copy. cached_bytes key.now shard.now.lumps ≡ Some copy)
         (λ why. why ≡ Why.NoMemory) }
     ensures right { (score : List ℕ → List ℕ) (c : Setup) (h : History) (durable : ℕ)
         → IsSoundShard score c D.Disk shard.now h durable

@@ -13,21 +13,20 @@ ghost use Rattle.vt_model.specs.Places.{Setup};
 ghost use Rattle.vt_shard.specs.Shard.{HasScore, HasRead, bucket_at};
 ghost use Rattle.vt_shard.specs.declared.TheConstants.{ROOM};
 ghost use Rattle.vt_lookup.specs.Adding.{AddsPacked};
-ghost use Rattle.vt_lookup.specs.Finding.{AreSound, IsRight, JudgesWrite, LooksFor, TestsOther, TestsRoom, TestsWrite, parts_of, room_verdict};
+ghost use Rattle.vt_lookup.specs.Finding.{AreSound, IsRightFilter, JudgesWrite, LooksFor, TestsOther, TestsRoom, TestsWrite, parts_of, room_verdict};
 ghost use Rattle.vt_lookup.specs.Seeking.{StaySound};
 ghost use Rattle.vt_lookup.specs.declared.writing.Verdict.TheVariants.{Held, New};
 
 use crate::finding::{compare_block, other_collides, why_of_shard};
 use std::alloc::Global;
 use std::sync::ledger::Ledger;
-use vt_base::{Info, Key, Scorer, Why};
+use vt_base::{Info, Key, Scorer, Steps, Why};
 use vt_clump::Packed;
 use vt_disk::Disk;
 use vt_isect::ShardErr;
 use vt_log::Log;
 use vt_model::BUCKET_ROOM;
 use vt_shard::Shard;
-use vt_steps::Steps;
 
 /// What a write finds that isn't refused.
 #[derive(Clone, Copy, Debug, PartialEq, Eq)]
@@ -56,7 +55,7 @@ pub fn test_write<D: Disk, S: Scorer, L: Ledger>(
     // On sound parts the verdict is that of the model's answer, and they stay sound.
     ensures tests { (c : Setup) (h : History) (durable : ℕ) → IsTrue D.tells
         → AreSound S.score_of D.Disk c (parts_of log.old shard.old) h durable
-        → IsRight S.score_of h key.now.score.0 may_have
+        → IsRightFilter S.score_of h key.now.score.0 may_have
         → IsBlock (record { kind = key.now.kind; bytes = block.now })
         → key.now.score.0 ≡ S.score_of block.now → S.score_of block.now ≢ S.score_of []
         → JudgesWrite S.score_of c h key.now block.now result }

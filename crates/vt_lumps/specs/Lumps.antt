@@ -10,8 +10,8 @@ abbrev pub LumpsState : Type 0
 LumpsState = LruCache Key (List ℕ)
 
 -- the bytes of this key's block, if it is kept
-abbrev pub bytes_of : Key → LumpsState → Option (List ℕ)
-bytes_of key s = lookup (same_key key) s.entries
+abbrev pub cached_bytes : Key → LumpsState → Option (List ℕ)
+cached_bytes key s = lookup (same_key key) s.entries
 
 -- the block of this key was used: it goes first
 abbrev pub used : Key → LumpsState → LumpsState
@@ -19,8 +19,8 @@ used key s = lru_cache (promoted (same_key key) s.entries) s.cap
 
 -- this block is kept: it goes first, in place of what its key had or, where there is none and no
 -- room, of the last
-abbrev pub kept : Key → (bytes : List ℕ) → LumpsState → LumpsState
-kept key bytes s = lru_cache (put_entries same_key s key bytes) s.cap
+abbrev pub with_lump : Key → (bytes : List ℕ) → LumpsState → LumpsState
+with_lump key bytes s = lru_cache (put_entries same_key s key bytes) s.cap
 
 -- without the least recently used block
 abbrev pub without_last : LumpsState → LumpsState

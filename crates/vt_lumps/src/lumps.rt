@@ -2,7 +2,7 @@
 
 ghost use Rattle.std.specs.Prelude.{◌≡◌, ◌<◌, [], true, false, IsSome, IfOk, option_copied, is_some, slice_get};
 ghost use Rattle.lru.specs.LruCache.{lru_cache};
-ghost use Rattle.vt_lumps.specs.Lumps.{bytes_of, used, kept, without_last};
+ghost use Rattle.vt_lumps.specs.Lumps.{cached_bytes, used, with_lump, without_last};
 
 use lru::LruCache;
 use std::alloc::{AllocError, Global};
@@ -41,7 +41,7 @@ impl Lumps {
 
     /// Whether the block of a key is kept. It becomes the most recently used, and `get` gives it.
     pub fn touch(&mut self, key: &Key) -> bool
-        ensures kept { result ≡ is_some (bytes_of key.now self.old) }
+        ensures kept { result ≡ is_some (cached_bytes key.now self.old) }
         ensures used { self.new ≡ used key.now self.old }
     {
         self.cache.promote(key)
@@ -49,7 +49,7 @@ impl Lumps {
 
     /// The bytes of a key's block: None exactly where it isn't kept.
     pub fn get(&self, key: &Key) -> Option<&Bytes>
-        ensures { option_copied result ≡ bytes_of key.now self.now }
+        ensures { option_copied result ≡ cached_bytes key.now self.now }
     {
         self.cache.peek(key)
     }
@@ -58,9 +58,9 @@ impl Lumps {
     /// where there is no room. False is want of memory: it leaves the cache as it was, and never
     /// comes for a key whose block is kept.
     pub fn keep(&mut self, key: Key, bytes: Bytes) -> bool
-        ensures kept { result ≡ true → self.new ≡ kept key bytes self.old }
+        ensures kept { result ≡ true → self.new ≡ with_lump key bytes self.old }
         ensures dropped { result ≡ false → self.new ≡ self.old }
-        ensures succeeds { IsSome (bytes_of key self.old) → result ≡ true }
+        ensures succeeds { IsSome (cached_bytes key self.old) → result ≡ true }
     {
         self.cache.put(key, bytes).is_ok()
     }

@@ -6,7 +6,7 @@ use Rattle.std.proofs.lemmas.List.{ext_get_or, get_or_past}
 use Rattle.vt_base.specs.Bytes.{AreBytes}
 use Rattle.vt_disk.specs.Disk.{Touches, SameBut, ChangesAt, AreAmong, with_bytes}
 use Rattle.vt_disk.proofs.Bytes.{touches_cases, same_but_written, length-with_bytes, same_refl}
-use Rattle.vt_memdisk.specs.Cells.{is_pending, NonePending, IsCombination, Marks}
+use Rattle.vt_memdisk.specs.Cells.{is_pending, NonePending, IsCombination, MarksPending}
 
 -- the pending bytes of c, and the synced ones elsewhere
 pub restored : List ℕ → List Bool → List ℕ → List ℕ
@@ -50,7 +50,7 @@ restored_pending (s ∷ synced) (p ∷ pending) (x ∷ c) (suc i) same held =
     restored_pending synced pending c i (omega (arith, same)) held
 
 -- what isn't pending after a write wasn't before it
-pub free_before : (start n : ℕ) (old new : List Bool) → Marks start n old new → (i : ℕ)
+pub free_before : (start n : ℕ) (old new : List Bool) → MarksPending start n old new → (i : ℕ)
     → is_pending new i ≡ false → is_pending old i ≡ false
 free_before start n old new marks i free = ⊎_elim
     (λ here. ⊎_elim
@@ -61,7 +61,7 @@ free_before start n old new marks i free = ⊎_elim
     (touches_cases start n i)
 
 module _ (start n : ℕ) (synced : List ℕ) (old new : List Bool) (fits : AreBytes synced)
-    (lengths : length old ≡ length synced) (marks : Marks start n old new) where
+    (lengths : length old ≡ length synced) (marks : MarksPending start n old new) where
   pub before : (c : List ℕ) → IsCombination synced new c
       → IsCombination synced old (restored synced old c)
   before c is = record {

@@ -4,8 +4,8 @@ use Rattle.std.proofs.lemmas.Bool.{cases_lt}
 use Rattle.std.proofs.lemmas.List.{get_or-replicate, length-replicate}
 use Rattle.vt_disk.specs.Disk.{Touches, with_bytes}
 use Rattle.vt_disk.proofs.Bytes.{touches_written, touches_cases, length-with_bytes, with_bytes_below, with_bytes_within, with_bytes_above}
-use Rattle.vt_memdisk.specs.Cells.{is_pending, Marks}
-use Rattle.vt_memdisk.specs.Sectors.{IsIn}
+use Rattle.vt_memdisk.specs.Cells.{is_pending, MarksPending}
+use Rattle.vt_memdisk.specs.Sectors.{IsAmongFirst}
 
 touched_range : (start n i : ℕ) → Touches start n i → (start ≤ i) × (i < start + n)
 unfolding Touches
@@ -13,7 +13,7 @@ touched_range start n i here = here
 
 -- the range of a write is set pending
 pub marks_set : (start n : ℕ) (old new : List Bool) → start + n ≤ length old → new
-    ≡ with_bytes start (replicate n true) old → Marks start n old new
+    ≡ with_bytes start (replicate n true) old → MarksPending start n old new
 marks_set start n old new within is =
     let size : length (replicate n true) ≡ n = length-replicate n true in
     let fits : start + length (replicate n true) ≤ length old = omega arith in
@@ -36,9 +36,9 @@ marks_set start n old new within is =
 pub still_clean : (start n size count count' : ℕ) (old new : List Bool) (place place' : List ℕ)
     → length place ≡ size / 512 + 1
     → ((i : ℕ) → i < size → count ≤ get_or place (i / 512) 0 → is_pending old i ≡ false)
-    → Marks start n old new
-    → ((s : ℕ) → start / 512 ≤ s → s ≤ (start + n) / 512 → IsIn place' count' s)
-    → ((s : ℕ) → s < length place → IsIn place count s → IsIn place' count' s)
+    → MarksPending start n old new
+    → ((s : ℕ) → start / 512 ≤ s → s ≤ (start + n) / 512 → IsAmongFirst place' count' s)
+    → ((s : ℕ) → s < length place → IsAmongFirst place count s → IsAmongFirst place' count' s)
     → (i : ℕ) → i < size → count' ≤ get_or place' (i / 512) 0 → is_pending new i ≡ false
 still_clean start n size count count' old new place place' sectors clean marks added kept i inside
     above = ⊎_elim

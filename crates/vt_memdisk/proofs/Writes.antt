@@ -6,7 +6,7 @@ use Rattle.std.proofs.lemmas.Bool.{cases_lt, true≢false}
 use Rattle.std.proofs.lemmas.List.{get_or_past}
 use Rattle.vt_base.specs.Bytes.{AreBytes}
 use Rattle.vt_disk.specs.Disk.{Touches}
-use Rattle.vt_memdisk.specs.Cells.{is_pending, IsCombination, Marks}
+use Rattle.vt_memdisk.specs.Cells.{is_pending, IsCombination, MarksPending}
 use Rattle.vt_memdisk.specs.Writes.{Written, LeftBy, lost, torn, Pends, AreUnsynced}
 use Rattle.vt_memdisk.proofs.Combinations.{only_synced, restored, before, before_same, free_before}
 
@@ -31,7 +31,7 @@ image_left [] synced old new fits lengths pends c is =
     (c, subst (λ pending. IsCombination synced pending c) pends is, lost)
 image_left (w ∷ writes) synced old new fits lengths pends c is =
     let mid = pends.0 in
-    let marks : Marks w.start w.len old mid = pends.1 in
+    let marks : MarksPending w.start w.len old mid = pends.1 in
     let later = image_left writes synced mid new fits (marks.same_length ∙ lengths) pends.2 c is in
     let d : List ℕ = later.0 in (
       restored synced old d,
@@ -54,12 +54,12 @@ none_touched : (writes : List Written) (old new : List Bool) → Pends writes ol
     → (w : Written) → Contains writes w → ¬ Touches w.start w.len i
 none_touched [] old new pends i inside free w has here = omega (arith, has.1)
 none_touched (v ∷ writes) old new pends i inside free w (zero, below, is) here =
-    let marks : Marks v.start v.len old pends.0 = pends.1 in
+    let marks : MarksPending v.start v.len old pends.0 = pends.1 in
     true≢false (sym (marks.touched i inside
     (subst (λ u. Touches (Written.start u) (Written.len u) i) (sym is) here))
     ∙ free_first writes pends.0 new pends.2 i free)
 none_touched (v ∷ writes) old new pends i inside free w (suc k, below, is) here =
-    let marks : Marks v.start v.len old pends.0 = pends.1 in
+    let marks : MarksPending v.start v.len old pends.0 = pends.1 in
     none_touched writes pends.0 new pends.2 i (omega (arith, marks.same_length)) free w
     (k, omega arith, is) here
 

@@ -18,7 +18,7 @@ pub record IsCombination (synced : List ℕ) (pending : List Bool) (c : List ℕ
   pub settled : (i : ℕ) → is_pending pending i ≡ false → slice_index c i ≡ slice_index synced i
 
 -- after a write of n bytes from `start` on, what it touches is pending too
-pub record Marks (start n : ℕ) (old new : List Bool) : Type 0 where
+pub record MarksPending (start n : ℕ) (old new : List Bool) : Type 0 where
   pub same_length : length new ≡ length old
   pub touched : (i : ℕ) → i < length old → Touches start n i → is_pending new i ≡ true
   pub others : (i : ℕ) → ¬ Touches start n i → is_pending new i ≡ is_pending old i

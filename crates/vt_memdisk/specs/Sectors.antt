@@ -12,5 +12,5 @@ pub record AreInverse (order place : List ℕ) : Type 0 where
   pub number_at_place : (s : ℕ) → s < length order → slice_index order (slice_index place s) ≡ s
 
 -- the number stands at one of the first places
-abbrev pub IsIn : (place : List ℕ) → (count number : ℕ) → Type 0
-IsIn place count number = slice_index place number < count
+abbrev pub IsAmongFirst : (place : List ℕ) → (count number : ℕ) → Type 0
+IsAmongFirst place count number = slice_index place number < count

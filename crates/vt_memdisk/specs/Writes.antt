@@ -1,7 +1,7 @@
 -- What a crash makes of writes that were not synced.
 use Rattle.std.specs.Prelude.{◌≡◌, ℕ, Bool, List, [], ◌∷◌, Contains, length}
 use Rattle.vt_disk.specs.Disk.{Touches, SameBut}
-use Rattle.vt_memdisk.specs.Cells.{NonePending, Marks}
+use Rattle.vt_memdisk.specs.Cells.{NonePending, MarksPending}
 
 -- a write of `len` bytes from `start` on
 pub record Written : Type 0 where
@@ -19,7 +19,8 @@ pub data LeftBy (writes : List Written) (file : List ℕ) : List ℕ → Type 0 
 -- what the writes, one after the other, make pending
 abbrev pub Pends : List Written → (old new : List Bool) → Type 0
 Pends [] old new = new ≡ old
-Pends (w ∷ writes) old new = (mid : List Bool) × Marks w.start w.len old mid × Pends writes mid new
+Pends (w ∷ writes) old new =
+    (mid : List Bool) × MarksPending w.start w.len old mid × Pends writes mid new
 
 -- these are the writes since the last sync, which left nothing pending
 abbrev pub AreUnsynced : List Written → (synced : List ℕ) (pending : List Bool) → Type 0

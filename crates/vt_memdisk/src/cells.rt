@@ -4,7 +4,7 @@ ghost use Rattle.std.specs.Prelude.{◌≡◌, ◌+◌, ◌-◌, ◌*◌, ◌/�
 ghost use Rattle.vt_base.specs.Bytes.{AreBytes};
 ghost use Rattle.vt_disk.specs.declared.TheConstants.{SECTOR_LEN};
 ghost use Rattle.vt_disk.specs.Disk.{part, with_bytes};
-ghost use Rattle.vt_memdisk.specs.Cells.{is_pending, NonePending, Marks, byte_after, chosen};
+ghost use Rattle.vt_memdisk.specs.Cells.{is_pending, NonePending, MarksPending, byte_after, chosen};
 ghost use Rattle.vt_memdisk.specs.Crashes.{IsLeftBy};
 
 use crate::choices::choose;
@@ -78,7 +78,7 @@ impl Cells {
     /// Makes pending what a write touches.
     pub fn mark(&mut self, start: usize, n: usize)
         requires { start + n ≤ length self.old.content.items }
-        ensures marks { Marks start n self.old.pending.items self.new.pending.items }
+        ensures marks { MarksPending start n self.old.pending.items self.new.pending.items }
         ensures content { self.new.content ≡ self.old.content }
         ensures synced { self.new.synced ≡ self.old.synced }
     {
@@ -92,7 +92,7 @@ impl Cells {
         requires { start + length chunk.now ≤ length self.old.content.items }
         ensures content { self.new.content.items
             ≡ with_bytes start chunk.now self.old.content.items }
-        ensures marks { Marks start (length chunk.now)
+        ensures marks { MarksPending start (length chunk.now)
             self.old.pending.items self.new.pending.items }
         ensures synced { self.new.synced ≡ self.old.synced }
     {

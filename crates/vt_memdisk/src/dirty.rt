@@ -1,7 +1,7 @@
 //! The sectors that a sync has to settle.
 
 ghost use Rattle.std.specs.Prelude.{◌≡◌, ◌≢◌, ◌⊎◌, ◌+◌, ◌-◌, ◌<◌, ◌≤◌, ◌==◌, ℕ, length, slice_index, IfOk};
-ghost use Rattle.vt_memdisk.specs.Sectors.{AreInverse, IsIn};
+ghost use Rattle.vt_memdisk.specs.Sectors.{AreInverse, IsAmongFirst};
 
 use std::alloc::{AllocError, Global};
 
@@ -47,13 +47,13 @@ impl Dirty {
     fn add(&mut self, sector: usize)
         requires { sector < length self.old.place.items }
         ensures sectors { length self.new.place.items ≡ length self.old.place.items }
-        ensures added { IsIn self.new.place.items self.new.count sector }
+        ensures added { IsAmongFirst self.new.place.items self.new.count sector }
         ensures kept { (s : ℕ) → s < length self.old.place.items
-            → IsIn self.old.place.items self.old.count s
-            → IsIn self.new.place.items self.new.count s }
+            → IsAmongFirst self.old.place.items self.old.count s
+            → IsAmongFirst self.new.place.items self.new.count s }
         ensures others { (s : ℕ) → s < length self.old.place.items → s ≢ sector
-            → IsIn self.new.place.items self.new.count s
-            → IsIn self.old.place.items self.old.count s }
+            → IsAmongFirst self.new.place.items self.new.count s
+            → IsAmongFirst self.old.place.items self.old.count s }
     {
         let from = self.place[sector];
         if from < self.count {
@@ -70,13 +70,13 @@ impl Dirty {
         requires { last < length self.old.place.items }
         ensures sectors { length self.new.place.items ≡ length self.old.place.items }
         ensures added { (s : ℕ) → first ≤ s → s ≤ last
-            → IsIn self.new.place.items self.new.count s }
+            → IsAmongFirst self.new.place.items self.new.count s }
         ensures kept { (s : ℕ) → s < length self.old.place.items
-            → IsIn self.old.place.items self.old.count s
-            → IsIn self.new.place.items self.new.count s }
+            → IsAmongFirst self.old.place.items self.old.count s
+            → IsAmongFirst self.new.place.items self.new.count s }
         ensures others { (s : ℕ) → s < length self.old.place.items → (s < first) ⊎ (last < s)
-            → IsIn self.new.place.items self.new.count s
-            → IsIn self.old.place.items self.old.count s }
+            → IsAmongFirst self.new.place.items self.new.count s
+            → IsAmongFirst self.old.place.items self.old.count s }
     {
         for sector in first..last + 1 {
             self.add(sector);

@@ -144,7 +144,7 @@ impl<P: Plan> Disk for MemDisk<P> {
     ghost use Rattle.std.proofs.Common.{sym, ◌∙◌};
     ghost use Rattle.vt_disk.specs.Disk.{Touches, SameBut, part, with_bytes, AreAmong, ChangesAt, Only, IsOneMore};
     ghost use Rattle.vt_base.specs.Faults.{HasCause};
-    ghost use Rattle.vt_memdisk.specs.Cells.{IsCombination, NonePending, Marks};
+    ghost use Rattle.vt_memdisk.specs.Cells.{IsCombination, NonePending, MarksPending};
     ghost use Rattle.vt_memdisk.specs.Memory.{memory_bytes, memory_synced, memory_pending, memory_plan};
 
     ghost tells = { true };
@@ -202,7 +202,7 @@ impl<P: Plan> Disk for MemDisk<P> {
         ensures written { OnOk result
             (memory_bytes self.new ≡ with_bytes start chunk.now (memory_bytes self.old)) }
         ensures failed { OnErr result (memory_bytes self.new ≡ memory_bytes self.old) }
-        ensures pending { Marks start (length chunk.now)
+        ensures pending { MarksPending start (length chunk.now)
             (memory_pending self.old) (memory_pending self.new) }
         ensures synced { memory_synced self.new ≡ memory_synced self.old }
         ensures fails { IsErr result

@@ -18,6 +18,6 @@ answer_of score s m = answer score s.setup s.history m
 
 -- The result of a call stands for this reply: its value for the message that carries it, an error
 -- for the refusal.
-abbrev pub Replies : {X : Type 0} → (X → RMessage) → Result X Why → RMessage → Type 0
-Replies message (Ok x) reply = reply ≡ message x
-Replies message (Err why) reply = reply ≡ r_refused why
+abbrev pub StandsForReply : {X : Type 0} → (X → RMessage) → Result X Why → RMessage → Type 0
+StandsForReply message (Ok x) reply = reply ≡ message x
+StandsForReply message (Err why) reply = reply ≡ r_refused why

@@ -6,9 +6,9 @@ use Rattle.vt_base.specs.Protocol.{r_write}
 use Rattle.vt_model.specs.declared.plain.Verdict.{Verdict}
 use Rattle.vt_model.specs.Answer.{Outcome, refuses}
 
-abbrev pub outcome_of : ℕ → List ℕ → Result Verdict Why → Outcome
-outcome_of kind bytes (Err why) = refuses why
-outcome_of kind bytes (Ok v) = record {
+abbrev pub verdict_outcome : ℕ → List ℕ → Result Verdict Why → Outcome
+verdict_outcome kind bytes (Err why) = refuses why
+verdict_outcome kind bytes (Ok v) = record {
   reply = r_write v.score.0;
   added = option_map
       (λ arena. record { block = record { kind = kind; bytes = bytes }; arena = arena }) v.arena;

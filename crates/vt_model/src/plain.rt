@@ -6,8 +6,8 @@ ghost use Rattle.vt_base.specs.Protocol.{read, write, r_read, r_write};
 ghost use Rattle.vt_model.specs.History.{IsBlock, held};
 ghost use Rattle.vt_model.specs.Places.{next_arena, fits, lengths_in, current_arena, crowd, bucket_of, bucket_count};
 ghost use Rattle.vt_model.specs.Answer.{answer_to_write, with_added, collides};
-ghost use Rattle.vt_model.specs.Plain.{Replies, answer_of};
-ghost use Rattle.vt_model.specs.Verdict.{outcome_of};
+ghost use Rattle.vt_model.specs.Plain.{StandsForReply, answer_of};
+ghost use Rattle.vt_model.specs.Verdict.{verdict_outcome};
 
 use crate::BUCKET_ROOM;
 use crate::layout::{Layout, bucket_of, room_after};
@@ -64,7 +64,8 @@ impl<S: Scorer> PlainStore<S> {
     pub fn write(&mut self, alloc: Global, kind: u8, bytes: &[u8]) -> Result<Score, Why>
         // Nothing but want of memory takes the place of the answer.
         ensures answered { let outcome = answer_of S.score_of self.old (write kind bytes.now) in
-            (result ≡ Err Why.NoMemory) ⊎ Replies (λ score. r_write score.0) result outcome.reply }
+            (result ≡ Err Why.NoMemory)
+            ⊎ StandsForReply (λ score. r_write score.0) result outcome.reply }
         ensures known { let outcome = answer_of S.score_of self.old (write kind bytes.now) in
             OnOk result (self.new.history ≡ with_added self.old.history outcome.added) }
         ensures err { OnErr result (self.new.history ≡ self.old.history) }
@@ -93,7 +94,7 @@ impl<S: Scorer> PlainStore<S> {
     /// is wanted.
     pub fn read(&self, score: &Score, kind: u8, count: u32) -> Result<&[u8], Why>
         ensures answered { let outcome = answer_of S.score_of self.now (read score.now.0 kind count) in
-            Replies (λ bytes. r_read bytes.now) result outcome.reply }
+            StandsForReply (λ bytes. r_read bytes.now) result outcome.reply }
         ensures memory { result ≢ Err Why.NoMemory }
     {
         let kind = Kind::from_wire(kind).ok_or(Why::BadType)?;
@@ -112,7 +113,7 @@ impl<S: Scorer> PlainStore<S> {
     /// What becomes of a write of a block type.
     fn judge(&self, kind: Kind, bytes: &[u8]) -> Result<Verdict, Why>
         ensures answer { answer_to_write S.score_of self.now.setup self.now.history kind bytes.now
-            ≡ outcome_of kind bytes.now result }
+            ≡ verdict_outcome kind bytes.now result }
         ensures scored { IfOk result (λ v. v.score.0 ≡ S.score_of bytes.now) }
         ensures memory { result ≢ Err Why.NoMemory }
     {

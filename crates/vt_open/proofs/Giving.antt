@@ -3,8 +3,8 @@ use Rattle.std.proofs.Common.{◌≡◌, ◌≢◌, ◌+◌, ◌<◌, ℕ, zero,
 use Rattle.std.specs.Prelude.{slice_get}
 use Rattle.std.proofs.lemmas.List.{append-nil}
 use Rattle.vt_conf.specs.declared.conf.PartFile.{PartFile}
-use Rattle.vt_parts.specs.Parts.{lent, there}
-use Rattle.vt_open.specs.Taking.{AreGiven}
+use Rattle.vt_partitions.specs.Parts.{lent, there}
+use Rattle.vt_open.specs.Taking.{AreHandedBack}
 use Rattle.vt_open.proofs.Taken.{Stands, given_more, given_none, given_one}
 
 pub no_items : {X : Type 0} (xs : List X) → length xs ≡ 0 → xs ≡ []
@@ -23,7 +23,7 @@ pub record IsGivenTo {D X : Type 0} (told : Type 0) (disk_of : X → D) (files :
   pub all_are : all ≡ waiting ++ behind
   pub files_are : files ≡ front ++ files_behind
   pub many : length waiting ≡ length front
-  pub given : AreGiven told files_behind old new (map disk_of behind)
+  pub given : AreHandedBack told files_behind old new (map disk_of behind)
 
 module _ {D X : Type 0} (told : Type 0) (disk_of : X → D) (files : List PartFile) (all : List X) where
   pub given_start : (s : Stands D) → length all ≡ length files → IsGivenTo told disk_of files all all s s
@@ -78,14 +78,14 @@ module _ {D X : Type 0} (told : Type 0) (disk_of : X → D) (files : List PartFi
         given = given_more told (f ∷ []) it.files_behind old mid new (disk_of x ∷ []) (map disk_of it.behind) it.given (given_one told f mid new (disk_of x) back others);
       }
 
-  pub given_all : (waiting : List X) (old new : Stands D) → waiting ≡ [] → IsGivenTo told disk_of files all waiting old new → AreGiven told files old new (map disk_of all)
+  pub given_all : (waiting : List X) (old new : Stands D) → waiting ≡ [] → IsGivenTo told disk_of files all waiting old new → AreHandedBack told files old new (map disk_of all)
   given_all waiting old new none it =
       let m = it.many in
       let zero_front : length it.front ≡ 0 = sym m ∙ ap length none in
       let front : it.front ≡ [] = no_items it.front zero_front in
       let files_same : it.files_behind ≡ files = sym (it.files_are ∙ ap (λ (l : List PartFile). l ++ it.files_behind) front) in
       let all_same : it.behind ≡ all = sym (it.all_are ∙ ap (λ (l : List X). l ++ it.behind) none) in
-      subst (λ (l : List PartFile). AreGiven told l old new (map disk_of all)) files_same (subst (λ (l : List X). AreGiven told it.files_behind old new (map disk_of l)) all_same it.given)
+      subst (λ (l : List PartFile). AreHandedBack told l old new (map disk_of all)) files_same (subst (λ (l : List X). AreHandedBack told it.files_behind old new (map disk_of l)) all_same it.given)
 
   -- there is a file for the last one
   pub given_bound : (waiting rest : List X) (x : X) (old new : Stands D) → waiting ≡ rest ++ x ∷ [] → IsGivenTo told disk_of files all waiting old new → length rest < length files

@@ -9,13 +9,13 @@ use Rattle.vt_conf.specs.declared.conf.PartFile.{PartFile}
 use Rattle.vt_recover.specs.Refusals.{CountsRefusal}
 use Rattle.vt_disk.specs.Calls.{OnlyReads}
 use Rattle.vt_disk.specs.Members.{DiskOf}
-use Rattle.vt_part.specs.declared.bad.PartBad.{PartBad}
-use Rattle.vt_part.specs.declared.bad.PartBad.TheVariants.{Fault, TooSmall, NotFormatted, Torn, DuplicateName, NoMemory}
-use Rattle.vt_part.specs.Faults.{RefusesMount, NamesItsCause, is_fault}
+use Rattle.vt_part.specs.declared.error.PartBad.{PartBad}
+use Rattle.vt_part.specs.declared.error.PartBad.TheVariants.{Fault, TooSmall, NotFormatted, Torn, DuplicateName, NoMemory}
+use Rattle.vt_part.specs.Faults.{RefusesPartMount, NamesPartCause, is_part_fault}
 use Rattle.vt_part.specs.Table.{head_of}
-use Rattle.vt_parts.specs.Parts.{Standing, HandsOut, StaysThere, lent, nothing, there}
-use Rattle.vt_told.specs.Told.{of_part}
-use Rattle.vt_open.specs.declared.bad.OpenBad.TheVariants.{Missing, Refused}
+use Rattle.vt_partitions.specs.Parts.{Standing, HandsOut, StaysThere, lent, nothing, there}
+use Rattle.vt_mount_errors.specs.MountErrors.{of_part}
+use Rattle.vt_open.specs.declared.error.OpenError.TheVariants.{Missing, Refused}
 use Rattle.vt_open.specs.Taking.{AreTaken, HasTable, RefusesTaking}
 use Rattle.vt_open.proofs.Held.{held_reads, hold_none, hold_one, risen_one}
 use Rattle.vt_open.proofs.Taken.{Stands, back_here, back_none, back_still, given_one, taken_one}
@@ -33,7 +33,7 @@ handed_is disk (there old) d it = ⊎_elim
     it
 
 -- a fault of a table is the store's
-fault_told : (n : ℕ) (why : PartBad) (old new : ℕ) → MatchBool (is_fault why) (HasRisen old new) (new ≡ old) → CountsRefusal (of_part n why) (old ∷ []) (new ∷ [])
+fault_told : (n : ℕ) (why : PartBad) (old new : ℕ) → MatchBool (is_part_fault why) (HasRisen old new) (new ≡ old) → CountsRefusal (of_part n why) (old ∷ []) (new ∷ [])
 fault_told n Fault old new it = risen_one old new it
 fault_told n (TooSmall len need) old new it = ap (λ (k : ℕ). k ∷ []) it
 fault_told n NotFormatted old new it = ap (λ (k : ℕ). k ∷ []) it
@@ -57,8 +57,8 @@ module _ {D : Type 0} (disk : DiskOf D) (told : Type 0) (f : PartFile) (n : ℕ)
   }
 
   pub one_refused : (old mid new : Stands D) (f0 f1 f2 : ℕ) (d e : D) (why : PartBad) → AreTaken told (f ∷ []) old mid (d ∷ []) → (told → mid f.name ≡ lent → new f.name ≡ there e)
-      → (told → (m : List ℕ) → m ≢ f.name → new m ≡ mid m) → f1 ≡ f0 → f2 ≡ f1 → OnlyReads disk 1 d e → MatchBool (is_fault why) (HasRisen (disk.faults d) (disk.faults e)) (disk.faults e ≡ disk.faults d)
-      → NamesItsCause (disk.size d) why → (IsTrue disk.tells → RefusesMount (disk.size d) (head_of (disk.bytes d)) why)
+      → (told → (m : List ℕ) → m ≢ f.name → new m ≡ mid m) → f1 ≡ f0 → f2 ≡ f1 → OnlyReads disk 1 d e → MatchBool (is_part_fault why) (HasRisen (disk.faults d) (disk.faults e)) (disk.faults e ≡ disk.faults d)
+      → NamesPartCause (disk.size d) why → (IsTrue disk.tells → RefusesPartMount (disk.size d) (head_of (disk.bytes d)) why)
       → RefusesTaking disk told n 1 (f ∷ []) old new f0 f2 (Refused (of_part n why))
   one_refused old mid new f0 f1 f2 d e why taken back others same01 same12 reads counts names refuses = record {
     handed = d ∷ [];

@@ -12,17 +12,17 @@ use Rattle.vt_disk.specs.declared.TheConstants.{BLOCK_LEN}
 use Rattle.vt_log.specs.Answers.{HoldTheSame}
 use Rattle.vt_model.specs.History.{History}
 use Rattle.vt_model.specs.Places.{Setup}
-use Rattle.vt_part.specs.Faults.{first_bad}
+use Rattle.vt_part.specs.Faults.{first_bad_part}
 use Rattle.vt_part.specs.Laws.{PassesPartitions}
 use Rattle.vt_part.specs.Table.{Table, IsPartition, head_of}
-use Rattle.vt_part.specs.declared.bad.PartBad.TheVariants as part_bad
-use Rattle.vt_parts.specs.Parts.{Standing, StaysThere, there}
-use Rattle.vt_told.specs.Told.{of_part}
-use Rattle.vt_core.specs.Files.{PerDevice, Files, AreImages, all_of}
+use Rattle.vt_part.specs.declared.error.PartBad.TheVariants as part_bad
+use Rattle.vt_partitions.specs.Parts.{Standing, StaysThere, there}
+use Rattle.vt_mount_errors.specs.MountErrors.{of_part}
+use Rattle.vt_core.specs.Files.{PerDevice, DeviceFiles, AreImages, all_of}
 use Rattle.vt_core.specs.Mounting.{EachStands, LeavesStanding}
 use Rattle.vt_core.specs.Stands.{ArePartitions}
-use Rattle.vt_open.specs.declared.bad.OpenBad.{OpenBad}
-use Rattle.vt_open.specs.declared.bad.OpenBad.TheVariants.{Missing, Refused}
+use Rattle.vt_open.specs.declared.error.OpenError.{OpenError}
+use Rattle.vt_open.specs.declared.error.OpenError.TheVariants.{Missing, Refused}
 use Rattle.vt_open.specs.Names.{AreUnder, StandUnder, files_of, names_of}
 use Rattle.vt_open.specs.Opening.{IsFaultOrMemory}
 use Rattle.vt_open.specs.Taking.{AreBack, RefusesTaking, TableIsRefused}
@@ -68,7 +68,7 @@ module _ {D : Type 0} (disk : DiskOf D) where
   leaves_held : (score : List ℕ → List ℕ) (tables : List Table) (old new : PerDevice D) → HoldTheSame disk old.partitions new.partitions → HoldTheSame disk old.sections new.sections
       → HoldTheSame disk old.filter new.filter → LeavesStanding score disk tables old new
   leaves_held score tables old new partitions sections filter =
-      let before : (files : Files) → AreImages disk new files → AreImages disk old files = λ files images. record {
+      let before : (files : DeviceFiles) → AreImages disk new files → AreImages disk old files = λ files images. record {
         partitions = images_among disk old.partitions new.partitions files.partitions partitions images.partitions;
         sections = images_among disk old.sections new.sections files.sections sections images.sections;
         filter = images_among disk old.filter new.filter files.filter filter images.filter;
@@ -142,10 +142,10 @@ module _ {D : Type 0} (disk : DiskOf D) where
         let table = beside tables (map disk.bytes devices.partitions) it.i (disk.bytes it.device) are_tables.many file_at in
         let is : IsPartition table.0 (disk.bytes it.device) = are_tables.each it.i table.0 (disk.bytes it.device) table.1 file_at in
         let size : length (disk.bytes it.device) ≡ disk.size it.device = (fit it.device (disk.bytes it.device) (read it.device)).0 in
-        let none : first_bad (disk.size it.device) (head_of (disk.bytes it.device)) ≡ None =
-        subst (λ (n : ℕ). first_bad n (head_of (disk.bytes it.device)) ≡ None) size (passes table.0 (disk.bytes it.device) is) in
+        let none : first_bad_part (disk.size it.device) (head_of (disk.bytes it.device)) ≡ None =
+        subst (λ (n : ℕ). first_bad_part n (head_of (disk.bytes it.device)) ≡ None) size (passes table.0 (disk.bytes it.device) is) in
         ⊎_elim
-        (λ (some : first_bad (disk.size it.device) (head_of (disk.bytes it.device)) ≡ Some it.why). let wrong : None ≡ Some it.why = sym none ∙ some in absurd (cc))
+        (λ (some : first_bad_part (disk.size it.device) (head_of (disk.bytes it.device)) ≡ Some it.why). let wrong : None ≡ Some it.why = sym none ∙ some in absurd (cc))
         (λ (fault : (BLOCK_LEN ≤ disk.size it.device) × (it.why ≡ part_bad.Fault)). inl (it.bad_is ∙ ap (of_part (0 + it.i)) fault.1))
         (it.refuses tells)
       where
@@ -154,7 +154,7 @@ module _ {D : Type 0} (disk : DiskOf D) where
         map_at (y ∷ xs) zero x at = let e : y ≡ x = cc in ap (λ (z : D). Some (disk.bytes z)) e
         map_at (y ∷ xs) (suc i) x at = map_at xs i x at
 
-    pub taking_fails : (f f' : ℕ) (bad : OpenBad) → RefusesTaking disk told 0 (length conf.arenas.items) (all_of (files_of conf)) old new f f' bad → IsFaultOrMemory bad
+    pub taking_fails : (f f' : ℕ) (bad : OpenError) → RefusesTaking disk told 0 (length conf.arenas.items) (all_of (files_of conf)) old new f f' bad → IsFaultOrMemory bad
     taking_fails f f' (Missing part) it = tt
     taking_fails f f' (Refused bad) it = ⊎_elim
         (λ (none : bad ≡ NoMemory). inr none)

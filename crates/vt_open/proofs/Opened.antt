@@ -16,18 +16,18 @@ use Rattle.vt_log.specs.Logs.{arena_count}
 use Rattle.vt_model.specs.History.{History}
 use Rattle.vt_model.specs.Places.{Setup}
 use Rattle.vt_part.specs.Parts.{disk_of, table_of, tables_of}
-use Rattle.vt_part.specs.Table.{Table, IsPartition, end_of}
+use Rattle.vt_part.specs.Table.{Table, IsPartition, arenas_end}
 use Rattle.vt_part.specs.declared.part.Part.{Part}
 use Rattle.vt_recover.specs.declared.devices.Devices.{Devices}
 use Rattle.vt_core.specs.Core.{CoreState, devices_of}
 use Rattle.vt_core.specs.Files.{PerDevice, all_of}
-use Rattle.vt_core.specs.Mounting.{IsLogOf, KeepsLimits, LeavesStanding, Mounts, devices_in, tables_in}
+use Rattle.vt_core.specs.Mounting.{IsLogOf, KeepsLimits, LeavesStanding, MountsStore, devices_in, tables_in}
 use Rattle.vt_recover.specs.Refusals.{CountsRefusal}
-use Rattle.vt_core.specs.Refusals.{Refuses}
+use Rattle.vt_core.specs.Refusals.{RefusesToMount}
 use Rattle.vt_core.specs.Stands.{ArePartitions}
 use Rattle.vt_open.specs.Names.{AreUnder, HaveOneShape, files_of}
-use Rattle.vt_open.specs.Opening.{AreRead, FindsNoStore, Opens, sizes_of}
-use Rattle.vt_open.specs.Taking.{AreGiven, IsMounted}
+use Rattle.vt_open.specs.Opening.{AreTablesRead, FindsNoStore, Opens, sizes_of}
+use Rattle.vt_open.specs.Taking.{AreHandedBack, IsMountedPart}
 use Rattle.vt_open.specs.TakingAll.{AreAllTaken}
 use Rattle.vt_open.proofs.Held.{held_many}
 use Rattle.vt_open.proofs.Lists.{zip_length}
@@ -39,16 +39,16 @@ use Rattle.vt_open.proofs.TakingAll.{mounted_faults}
 module _ {D : Type 0} (disk : DiskOf D) where
   -- ---- what mounting a store asks of its partitions
 
-  pub rooms : (handed : List D) (arenas : List (Part D)) → AllZip (IsMounted disk) handed arenas → All (λ (part : Part D). end_of (table_of part) ≤ disk.size (disk_of part)) arenas
-  rooms handed arenas it = All-from_recursion (λ (part : Part D). end_of (table_of part) ≤ disk.size (disk_of part)) arenas (each handed arenas it)
+  pub rooms : (handed : List D) (arenas : List (Part D)) → AllZip (IsMountedPart disk) handed arenas → All (λ (part : Part D). arenas_end (table_of part) ≤ disk.size (disk_of part)) arenas
+  rooms handed arenas it = All-from_recursion (λ (part : Part D). arenas_end (table_of part) ≤ disk.size (disk_of part)) arenas (each handed arenas it)
     where
-      each : (handed : List D) (arenas : List (Part D)) → AllZip (IsMounted disk) handed arenas → AllByRecursion (λ (part : Part D). end_of (table_of part) ≤ disk.size (disk_of part)) arenas
+      each : (handed : List D) (arenas : List (Part D)) → AllZip (IsMountedPart disk) handed arenas → AllByRecursion (λ (part : Part D). arenas_end (table_of part) ≤ disk.size (disk_of part)) arenas
       each [] [] it = tt
       each [] (p ∷ arenas) it = absurd it
       each (d ∷ handed) [] it = absurd it
       each (d ∷ handed) (p ∷ arenas) it = (it.0.room, each handed arenas it.1)
 
-  pub some_arena : (handed : List D) (arenas : List (Part D)) → AllZip (IsMounted disk) handed arenas → 0 < length handed → 0 < arena_count (tables_of arenas)
+  pub some_arena : (handed : List D) (arenas : List (Part D)) → AllZip (IsMountedPart disk) handed arenas → 0 < length handed → 0 < arena_count (tables_of arenas)
   some_arena [] arenas it some = absurd (omega (arith, some))
   some_arena (d ∷ handed) [] it some = absurd it
   some_arena (d ∷ handed) (p ∷ arenas) it some =
@@ -56,13 +56,13 @@ module _ {D : Type 0} (disk : DiskOf D) where
       let all : arena_count (tables_of (p ∷ arenas)) ≡ (table_of p).count + arena_count (tables_of arenas) = sum_by-cons (λ (t : Table). t.count) (table_of p) (tables_of arenas) in
       omega (arith, first, all)
 
-  are_partitions : (handed : List D) (arenas : List (Part D)) → AllZip (IsMounted disk) handed arenas → IsTrue disk.tells → ArePartitions (tables_of arenas) (map disk.bytes handed)
+  are_partitions : (handed : List D) (arenas : List (Part D)) → AllZip (IsMountedPart disk) handed arenas → IsTrue disk.tells → ArePartitions (tables_of arenas) (map disk.bytes handed)
   are_partitions handed arenas it tells = record {
-    many = length-map handed disk.bytes ∙ sym (zip_length (IsMounted disk) handed arenas it) ∙ sym (length-map arenas (λ part. table_of part));
+    many = length-map handed disk.bytes ∙ sym (zip_length (IsMountedPart disk) handed arenas it) ∙ sym (length-map arenas (λ part. table_of part));
     each = λ i t file at is. each handed arenas it i t file at is;
   }
     where
-      each : (handed : List D) (arenas : List (Part D)) → AllZip (IsMounted disk) handed arenas → (i : ℕ) (t : Table) (file : List ℕ) → slice_get (tables_of arenas) i ≡ Some t
+      each : (handed : List D) (arenas : List (Part D)) → AllZip (IsMountedPart disk) handed arenas → (i : ℕ) (t : Table) (file : List ℕ) → slice_get (tables_of arenas) i ≡ Some t
           → slice_get (map disk.bytes handed) i ≡ Some file → IsPartition t file
       each [] [] it i t file at is = absurd (cc)
       each [] (p ∷ arenas) it i t file at is = absurd it
@@ -77,14 +77,14 @@ module _ {D : Type 0} (disk : DiskOf D) where
     abbrev here : PerDevice D
     here = devices_in devices
 
-    pub tables_are_read : AreRead disk all.handed here
+    pub tables_are_read : AreTablesRead disk all.handed here
     tables_are_read = record {
       partitions = parts all.handed.partitions devices.parts.items all.mounted;
       sections = sym all.sections;
       filter = sym all.filter;
     }
       where
-        parts : (handed : List D) (arenas : List (Part D)) → AllZip (IsMounted disk) handed arenas → AllZip (OnlyReads disk 1) handed (disks_of arenas)
+        parts : (handed : List D) (arenas : List (Part D)) → AllZip (IsMountedPart disk) handed arenas → AllZip (OnlyReads disk 1) handed (disks_of arenas)
         parts [] [] it = tt
         parts [] (p ∷ arenas) it = absurd it
         parts (d ∷ handed) [] it = absurd it
@@ -92,12 +92,12 @@ module _ {D : Type 0} (disk : DiskOf D) where
 
     -- as many as there are files
     pub many_arenas : length devices.parts.items ≡ length conf.arenas.items
-    many_arenas = let shape = all.shape in zip_length (IsMounted disk) all.handed.partitions devices.parts.items all.mounted ∙ shape.partitions
+    many_arenas = let shape = all.shape in zip_length (IsMountedPart disk) all.handed.partitions devices.parts.items all.mounted ∙ shape.partitions
 
     pub many_sections : length devices.sections.items ≡ length conf.sections.items
     many_sections = let shape = all.shape in ap length (sym all.sections) ∙ shape.sections
 
-    pub all_rooms : All (λ (part : Part D). end_of (table_of part) ≤ disk.size (disk_of part)) devices.parts.items
+    pub all_rooms : All (λ (part : Part D). arenas_end (table_of part) ≤ disk.size (disk_of part)) devices.parts.items
     all_rooms = rooms all.handed.partitions devices.parts.items all.mounted
 
     pub arenas_some : 0 < length conf.arenas.items → 0 < arena_count (tables_in devices)
@@ -127,7 +127,7 @@ module _ {D : Type 0} (disk : DiskOf D) where
           filter = ap length (sym all.filter) ∙ shape.filter;
         }
 
-    pub opens : (score : List ℕ → List ℕ) (sessions : ℕ) (k : CoreState D) → Mounts score disk (tables_in devices) here (sizes_of conf) sessions k
+    pub opens : (score : List ℕ → List ℕ) (sessions : ℕ) (k : CoreState D) → MountsStore score disk (tables_in devices) here (sizes_of conf) sessions k
         → (IsTrue disk.tells → LeavesStanding score disk (tables_in devices) here (devices_of k)) → Opens score disk told conf sessions old mid k
     opens score sessions k mounts standing =
         let fresh = mounts.fresh in
@@ -147,7 +147,7 @@ module _ {D : Type 0} (disk : DiskOf D) where
 
     -- ---- a refusal
 
-    pub shape_back_ : (score : List ℕ → List ℕ) (back : Devices D) (bad : MountBad) → Refuses score disk (tables_in devices) here bad back → HaveOneShape (devices_in back) (files_of conf)
+    pub shape_back_ : (score : List ℕ → List ℕ) (back : Devices D) (bad : MountBad) → RefusesToMount score disk (tables_in devices) here bad back → HaveOneShape (devices_in back) (files_of conf)
     shape_back_ score back bad refuses =
         let there = devices_in back in
         let shape = shape_here in
@@ -167,8 +167,8 @@ module _ {D : Type 0} (disk : DiskOf D) where
         ) in
         record { partitions = p ∙ shape.partitions; sections = s ∙ shape.sections; filter = f ∙ shape.filter }
 
-    module _ (score : List ℕ → List ℕ) (new : Stands D) (back : Devices D) (bad : MountBad) (refuses : Refuses score disk (tables_in devices) here bad back)
-        (given : AreGiven told (all_of (files_of conf)) mid new (all_of (devices_in back))) where
+    module _ (score : List ℕ → List ℕ) (new : Stands D) (back : Devices D) (bad : MountBad) (refuses : RefusesToMount score disk (tables_in devices) here bad back)
+        (given : AreHandedBack told (all_of (files_of conf)) mid new (all_of (devices_in back))) where
       pub stand_back : told → AreUnder new conf (devices_in back)
       stand_back t = record { shape = shape_back_ score back bad refuses; under = given.stand t (all.taken.out t) (all.taken.apart t) }
 

@@ -1,7 +1,7 @@
 -- What is left of devices whose tables were read is left of the devices as they were handed out.
 use Rattle.std.proofs.Common.{◌≡◌, ℕ, List, map, sym, ◌∙◌, ap, subst}
 use Rattle.std.specs.Prelude.{slice_get}
-use Rattle.vt_core.specs.Files.{PerDevice, Files}
+use Rattle.vt_core.specs.Files.{PerDevice, DeviceFiles}
 use Rattle.vt_core.specs.Mounting.{AllStandFor, EachStands, IsLogOf, IsSetupOf, LeavesStanding}
 use Rattle.vt_core.specs.Stands.{ArePartitions}
 use Rattle.vt_disk.specs.Members.{DiskOf}
@@ -10,15 +10,15 @@ use Rattle.vt_model.specs.History.{History}
 use Rattle.vt_model.specs.Places.{Setup}
 use Rattle.vt_part.specs.Laws.{IsUnambiguous}
 use Rattle.vt_part.specs.Table.{Table}
-use Rattle.vt_open.specs.Opening.{AreRead}
+use Rattle.vt_open.specs.Opening.{AreTablesRead}
 use Rattle.vt_open.proofs.Held.{held_twice}
 use Rattle.vt_open.proofs.Recalled.{all_read, all_read_on, log_read, read_holds, same_tables, setup_read, stands_read, tables_are}
 
-abbrev read_files : {D : Type 0} → DiskOf D → PerDevice D → Files
+abbrev read_files : {D : Type 0} → DiskOf D → PerDevice D → DeviceFiles
 read_files disk p = record { partitions = map disk.bytes p.partitions; sections = map disk.bytes p.sections; filter = map disk.bytes p.filter }
 
 module _ {D : Type 0} (disk : DiskOf D) (one : IsUnambiguous) (read : (d : D) → disk.images d (disk.bytes d)) (score : List ℕ → List ℕ)
-    (handed mounted : PerDevice D) (was : AreRead disk handed mounted) (own tables : List Table) (are : ArePartitions own (map disk.bytes handed.partitions)) where
+    (handed mounted : PerDevice D) (was : AreTablesRead disk handed mounted) (own tables : List Table) (are : ArePartitions own (map disk.bytes handed.partitions)) where
   -- the log of the devices as they were handed out is theirs
   pub log_on : (c : Setup) (h g : History) (base : ℕ) → IsLogOf score disk tables handed c h g base → IsLogOf score disk own mounted c h g base × (tables ≡ own)
   log_on c h g base log =

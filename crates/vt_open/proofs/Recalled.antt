@@ -9,16 +9,16 @@ use Rattle.vt_disk.specs.Members.{DiskOf}
 use Rattle.vt_isect.specs.Layout.{buckets_in}
 use Rattle.vt_log.specs.Answers.{HoldTheSame}
 use Rattle.vt_log.specs.Logs.{IsLog}
-use Rattle.vt_log.specs.Sound.{AreImages as AreImagesOf}
+use Rattle.vt_log.specs.Sound.{AreImagesOf}
 use Rattle.vt_model.specs.History.{History}
 use Rattle.vt_model.specs.Places.{Setup}
 use Rattle.vt_part.specs.Laws.{IsUnambiguous}
 use Rattle.vt_part.specs.Layout.{layout_of}
 use Rattle.vt_part.specs.Table.{Table}
-use Rattle.vt_core.specs.Files.{PerDevice, Files, AreImages}
+use Rattle.vt_core.specs.Files.{PerDevice, DeviceFiles, AreImages}
 use Rattle.vt_core.specs.Mounting.{AllStandFor, EachStands, IsLogOf, IsSetupOf}
 use Rattle.vt_core.specs.Stands.{ArePartitions}
-use Rattle.vt_open.specs.Opening.{AreRead}
+use Rattle.vt_open.specs.Opening.{AreTablesRead}
 use Rattle.vt_open.proofs.Held.{IsHeld, held_many, held_reads, hold_zip, zip_implies}
 
 pub at_map : {X Y : Type 0} (f : X → Y) (xs : List X) (i : ℕ) (x : X) → slice_get xs i ≡ Some x → slice_get (map f xs) i ≡ Some (f x)
@@ -83,12 +83,12 @@ module _ {D : Type 0} (disk : DiskOf D) where
       → EachStands score disk c a least devices h → ArePartitions b (map disk.bytes devices.partitions) → a ≡ b
   tables_are one read score c a b least devices h each those = same_tables one a b (map disk.bytes devices.partitions) (tables_read read score c a least devices h each) those
 
-  module _ (handed mounted : PerDevice D) (read : AreRead disk handed mounted) where
+  module _ (handed mounted : PerDevice D) (read : AreTablesRead disk handed mounted) where
     pub read_holds : HoldTheSame disk handed.partitions mounted.partitions
     read_holds = hold_zip disk handed.partitions mounted.partitions
         (zip_implies (OnlyReads disk 1) (IsHeld disk) handed.partitions mounted.partitions (λ x y it. held_reads disk 1 x y it) read.partitions)
 
-    images_before : (files : Files) → AreImages disk mounted files → AreImages disk handed files
+    images_before : (files : DeviceFiles) → AreImages disk mounted files → AreImages disk handed files
     images_before files images = record {
       partitions = images_among handed.partitions mounted.partitions files.partitions read_holds images.partitions;
       sections = subst (λ (l : List D). AreImagesOf disk l files.sections) read.sections images.sections;

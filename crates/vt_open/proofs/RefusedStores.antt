@@ -7,19 +7,19 @@ use Rattle.vt_base.specs.declared.mount.MountBad.TheVariants.{NoMemory}
 use Rattle.vt_conf.specs.declared.conf.Conf.{Conf}
 use Rattle.vt_core.specs.Files.{PerDevice, all_of}
 use Rattle.vt_core.specs.Mounting.{IsLogOf, KeepsLimits, LeavesStanding}
-use Rattle.vt_core.specs.Refusals.{IsRefused}
+use Rattle.vt_core.specs.Refusals.{IsRefusedMount}
 use Rattle.vt_disk.specs.Members.{DiskOf}
 use Rattle.vt_isect.specs.Layout.{buckets_in}
 use Rattle.vt_model.specs.History.{History}
 use Rattle.vt_model.specs.Places.{Setup}
-use Rattle.vt_part.specs.Faults.{NamesItsCause}
+use Rattle.vt_part.specs.Faults.{NamesPartCause}
 use Rattle.vt_part.specs.Laws.{IsUnambiguous, PassesPartitions}
 use Rattle.vt_part.specs.Layout.{layout_of}
 use Rattle.vt_part.specs.Table.{Table}
-use Rattle.vt_part.specs.declared.bad.PartBad.{PartBad}
-use Rattle.vt_told.specs.Told.{NamesTwo, of_part}
-use Rattle.vt_open.specs.declared.bad.OpenBad.{OpenBad}
-use Rattle.vt_open.specs.declared.bad.OpenBad.TheVariants.{Missing, Refused}
+use Rattle.vt_part.specs.declared.error.PartBad.{PartBad}
+use Rattle.vt_mount_errors.specs.MountErrors.{NamesTwo, of_part}
+use Rattle.vt_open.specs.declared.error.OpenError.{OpenError}
+use Rattle.vt_open.specs.declared.error.OpenError.TheVariants.{Missing, Refused}
 use Rattle.vt_open.specs.Names.{AreUnder, files_of}
 use Rattle.vt_open.specs.Opening.{FindsNoStore, IsFaultOrMemory, NamesCause, RefusesStore}
 use Rattle.vt_open.specs.Taking.{RefusesTaking}
@@ -30,22 +30,22 @@ use Rattle.vt_open.proofs.Taken.{Stands}
 
 -- what the laws say that are called
 abbrev pub PartNamesTwo : Type 0
-PartNamesTwo = (part size : ℕ) (why : PartBad) → NamesItsCause size why → NamesTwo (of_part part why)
+PartNamesTwo = (part size : ℕ) (why : PartBad) → NamesPartCause size why → NamesTwo (of_part part why)
 
 abbrev pub StoreNamesTwo : {D : Type 0} → DiskOf D → Type 0
-StoreNamesTwo {D} disk = (score : List ℕ → List ℕ) (tables : List Table) (devices : PerDevice D) (c : Setup) (bad : MountBad) → IsRefused score disk tables devices c bad → NamesTwo bad
+StoreNamesTwo {D} disk = (score : List ℕ → List ℕ) (tables : List Table) (devices : PerDevice D) (c : Setup) (bad : MountBad) → IsRefusedMount score disk tables devices c bad → NamesTwo bad
 
 module _ {D : Type 0} (disk : DiskOf D) (score : List ℕ → List ℕ) (told : Type 0) (conf : Conf) (old new : Stands D) (f f' : ℕ) where
   -- ---- two values are told
 
-  taking_two : PartNamesTwo → (bad : OpenBad) → RefusesTaking disk told 0 (length conf.arenas.items) (all_of (files_of conf)) old new f f' bad → NamesCause bad
+  taking_two : PartNamesTwo → (bad : OpenError) → RefusesTaking disk told 0 (length conf.arenas.items) (all_of (files_of conf)) old new f f' bad → NamesCause bad
   taking_two part (Missing number) it = tt
   taking_two part (Refused bad) it = ⊎_elim
       (λ (none : bad ≡ NoMemory). subst NamesTwo (sym none) tt)
       (λ table. subst NamesTwo (sym table.bad_is) (part (0 + table.i) (disk.size table.device) table.why table.names))
       it.cause.2
 
-  pub refused_two : PartNamesTwo → StoreNamesTwo disk → (bad : OpenBad) → RefusesStore score disk told conf old new f f' bad → NamesCause bad
+  pub refused_two : PartNamesTwo → StoreNamesTwo disk → (bad : OpenError) → RefusesStore score disk told conf old new f f' bad → NamesCause bad
   refused_two part store bad it = ⊎_elim
       (λ taking. taking_two part bad taking)
       (λ finds.
@@ -60,7 +60,7 @@ module _ {D : Type 0} (disk : DiskOf D) (score : List ℕ → List ℕ) (told : 
 
   -- ---- on partitions that stand for prefixes
 
-  module _ (t : told) (tells : IsTrue disk.tells) (read : (d : D) → disk.images d (disk.bytes d)) (bad : OpenBad) (it : RefusesStore score disk told conf old new f f' bad)
+  module _ (t : told) (tells : IsTrue disk.tells) (read : (d : D) → disk.images d (disk.bytes d)) (bad : OpenError) (it : RefusesStore score disk told conf old new f f' bad)
       (tables : List Table) (devices : PerDevice D) (under : AreUnder old conf devices) where
     mine : (why : MountBad) (none : FindsNoStore score disk told conf old new why) → devices ≡ none.handed
     mine why none = one_list old conf devices none.handed under (none.stood t)

@@ -11,10 +11,10 @@ use Rattle.vt_conf.specs.declared.conf.PartFile.{PartFile}
 use Rattle.vt_recover.specs.Refusals.{CountsRefusal}
 use Rattle.vt_disk.specs.Members.{DiskOf}
 use Rattle.vt_log.specs.Answers.{HoldTheSame}
-use Rattle.vt_told.specs.Told.{of_part}
-use Rattle.vt_open.specs.declared.bad.OpenBad.{OpenBad}
-use Rattle.vt_open.specs.declared.bad.OpenBad.TheVariants.{Missing, Refused}
-use Rattle.vt_open.specs.Taking.{AreGiven, AreTaken, HasTable, IsTakingCause, RefusesTaking, TableIsRefused}
+use Rattle.vt_mount_errors.specs.MountErrors.{of_part}
+use Rattle.vt_open.specs.declared.error.OpenError.{OpenError}
+use Rattle.vt_open.specs.declared.error.OpenError.TheVariants.{Missing, Refused}
+use Rattle.vt_open.specs.Taking.{AreHandedBack, AreTaken, HasTable, IsTakingCause, RefusesTaking, TableIsRefused}
 use Rattle.vt_open.proofs.Held.{counts_less, hold_more}
 use Rattle.vt_open.proofs.Taken.{Stands, back_behind, back_more}
 
@@ -40,7 +40,7 @@ get_past {X = X} (x ∷ xs) ys i =
 
 module _ {D : Type 0} (disk : DiskOf D) (told : Type 0) where
   -- files that weren't asked for stand behind these
-  pub refuses_more : (first arenas : ℕ) (files more : List PartFile) (old new : Stands D) (f f' : ℕ) (bad : OpenBad) → RefusesTaking disk told first arenas files old new f f' bad
+  pub refuses_more : (first arenas : ℕ) (files more : List PartFile) (old new : Stands D) (f f' : ℕ) (bad : OpenError) → RefusesTaking disk told first arenas files old new f f' bad
       → RefusesTaking disk told first arenas (files ++ more) old new f f' bad
   refuses_more first arenas files more old new f f' bad it = record {
     handed = it.handed;
@@ -50,13 +50,13 @@ module _ {D : Type 0} (disk : DiskOf D) (told : Type 0) where
     cause = cause_more bad it.cause;
   }
     where
-      cause_more : (bad : OpenBad) → IsTakingCause disk first arenas (length files) f f' it.handed it.back bad → IsTakingCause disk first arenas (length (files ++ more)) f f' it.handed it.back bad
+      cause_more : (bad : OpenError) → IsTakingCause disk first arenas (length files) f f' it.handed it.back bad → IsTakingCause disk first arenas (length (files ++ more)) f f' it.handed it.back bad
       cause_more (Missing part) (at, few, rose, same, tables) = (at, omega (arith, few, length-append files more), rose, same, tables)
       cause_more (Refused why) cause = cause
 
   -- Some files' partitions were handed out before, of which the first n1 are of arenas: all of them,
   -- or none that come behind are. They are back too.
-  module _ (first n1 n2 : ℕ) (a b : List PartFile) (old mid late new : Stands D) (ds es : List D) (f0 f1 f2 f3 : ℕ) (taken : AreTaken told a old mid ds) (given : AreGiven told a late new es)
+  module _ (first n1 n2 : ℕ) (a b : List PartFile) (old mid late new : Stands D) (ds es : List D) (f0 f1 f2 f3 : ℕ) (taken : AreTaken told a old mid ds) (given : AreHandedBack told a late new es)
       (held : HoldTheSame disk ds es) (counts : map disk.faults es ≡ map disk.faults ds) (few : n1 ≤ length a) (tables : All (HasTable disk) (take n1 ds)) (all : (n1 ≡ length a) ⊎ (n2 ≡ 0))
       (same01 : f1 ≡ f0) (same23 : f3 ≡ f2) where
     long : length ds ≡ length a
@@ -104,7 +104,7 @@ module _ {D : Type 0} (disk : DiskOf D) (told : Type 0) where
           refuses = it.refuses;
         }
 
-    cause_behind : (bad : OpenBad) (hs bs : List D) → IsTakingCause disk (first + length a) n2 (length b) f1 f2 hs bs bad → IsTakingCause disk first (n1 + n2) (length (a ++ b)) f0 f3 (ds ++ hs) (es ++ bs) bad
+    cause_behind : (bad : OpenError) (hs bs : List D) → IsTakingCause disk (first + length a) n2 (length b) f1 f2 hs bs bad → IsTakingCause disk first (n1 + n2) (length (a ++ b)) f0 f3 (ds ++ hs) (es ++ bs) bad
     cause_behind (Missing part) hs bs (at, less, rose, same, more) = (
       omega (arith, at, long, length-append ds hs),
       omega (arith, less, long, length-append ds hs, length-append a b),
@@ -118,7 +118,7 @@ module _ {D : Type 0} (disk : DiskOf D) (told : Type 0) where
       ⊎_elim (λ (none : bad ≡ NoMemory). inl none) (λ (table : TableIsRefused disk (first + length a) n2 hs bad). inr (table_more hs bad table)) why,
     )
 
-    pub refuses_behind : (bad : OpenBad) → RefusesTaking disk told (first + length a) n2 b mid late f1 f2 bad → RefusesTaking disk told first (n1 + n2) (a ++ b) old new f0 f3 bad
+    pub refuses_behind : (bad : OpenError) → RefusesTaking disk told (first + length a) n2 b mid late f1 f2 bad → RefusesTaking disk told first (n1 + n2) (a ++ b) old new f0 f3 bad
     refuses_behind bad it = record {
       handed = ds ++ it.handed;
       back = es ++ it.back;

@@ -8,7 +8,7 @@ use Rattle.vt_conf.specs.declared.conf.Conf.{Conf}
 use Rattle.vt_conf.specs.declared.conf.PartFile.{PartFile}
 use Rattle.vt_bloom.specs.Bloom.{BloomState}
 use Rattle.vt_disk.specs.Members.{DiskOf}
-use Rattle.vt_parts.specs.Parts.{there}
+use Rattle.vt_partitions.specs.Parts.{there}
 use Rattle.vt_core.specs.Core.{CoreState, devices_of, each_of}
 use Rattle.vt_core.specs.Files.{PerDevice, all_of}
 use Rattle.vt_core.specs.Steps.{Runs}

@@ -8,9 +8,9 @@ use Rattle.std.proofs.lemmas.List.Elements.{Contains-append_cases, Contains-appe
 use Rattle.std.proofs.lemmas.Slice.Eq.{bytes_eq-Decides}
 use Rattle.vt_conf.specs.declared.conf.PartFile.{PartFile}
 use Rattle.vt_disk.specs.Members.{DiskOf}
-use Rattle.vt_parts.specs.Parts.{Standing, StaysThere, nothing, lent, there}
+use Rattle.vt_partitions.specs.Parts.{Standing, StaysThere, nothing, lent, there}
 use Rattle.vt_open.specs.Names.{StandUnder, names_of}
-use Rattle.vt_open.specs.Taking.{AreBack, AreGiven, AreTaken}
+use Rattle.vt_open.specs.Taking.{AreBack, AreHandedBack, AreTaken}
 use Rattle.vt_open.proofs.Lists.{has_cases, has_first, has_later, has_none, pairs_append, pairs_cross, pairs_left, pairs_none, pairs_one, pairs_right, zip_append}
 
 abbrev pub Stands : Type 0 → Type 0
@@ -141,11 +141,11 @@ module _ {D : Type 0} where
 
   -- ---- handed back
 
-  pub given_none : (told : Type 0) (s : Stands D) → AreGiven told [] s s []
+  pub given_none : (told : Type 0) (s : Stands D) → AreHandedBack told [] s s []
   given_none told s = record { many = refl; stand = λ t out apart. tt; others = λ t n no. refl }
 
   pub given_one : (told : Type 0) (f : PartFile) (old new : Stands D) (d : D) → (told → old f.name ≡ lent → new f.name ≡ there d) → (told → (n : List ℕ) → n ≢ f.name → new n ≡ old n)
-      → AreGiven told (f ∷ []) old new (d ∷ [])
+      → AreHandedBack told (f ∷ []) old new (d ∷ [])
   given_one told f old new d back others = record {
     many = refl;
     stand = λ t out apart. (back t (out f.name (has_first f.name [])), tt);
@@ -153,8 +153,8 @@ module _ {D : Type 0} where
   }
 
   -- those of the files behind come first
-  pub given_more : (told : Type 0) (a b : List PartFile) (old mid new : Stands D) (ds es : List D) → AreGiven told b old mid es → AreGiven told a mid new ds
-      → AreGiven told (a ++ b) old new (ds ++ es)
+  pub given_more : (told : Type 0) (a b : List PartFile) (old mid new : Stands D) (ds es : List D) → AreHandedBack told b old mid es → AreHandedBack told a mid new ds
+      → AreHandedBack told (a ++ b) old new (ds ++ es)
   given_more told a b old mid new ds es one two = record {
     many = let m : length es ≡ length b = one.many in let n : length ds ≡ length a = two.many in
         omega (arith, m, n, length-append ds es, length-append a b);
@@ -170,7 +170,7 @@ module _ {D : Type 0} where
 
   -- ---- handed out and back
 
-  pub back_here : (disk : DiskOf D) (told : Type 0) (files : List PartFile) (old mid new : Stands D) (ds es : List D) → AreTaken told files old mid ds → AreGiven told files mid new es
+  pub back_here : (disk : DiskOf D) (told : Type 0) (files : List PartFile) (old mid new : Stands D) (ds es : List D) → AreTaken told files old mid ds → AreHandedBack told files mid new es
       → AreBack disk told files old new ds es
   back_here disk told files old mid new ds es taken given = record {
     front = files;
@@ -228,7 +228,7 @@ module _ {D : Type 0} where
 
   -- some were handed out, then others behind them, which are back; and then the first ones are too
   pub back_behind : (disk : DiskOf D) (told : Type 0) (a b : List PartFile) (old mid late new : Stands D) (ds es hs bs : List D) → AreTaken told a old mid ds → AreBack disk told b mid late hs bs
-      → AreGiven told a late new es → AreBack disk told (a ++ b) old new (ds ++ hs) (es ++ bs)
+      → AreHandedBack told a late new es → AreBack disk told (a ++ b) old new (ds ++ hs) (es ++ bs)
   back_behind disk told a b old mid late new ds es hs bs taken back given =
       let cross : told → (x y : List ℕ) → Contains (names_of a) x → Contains (names_of back.front) y → x ≢ y =
       λ t x y has also same.

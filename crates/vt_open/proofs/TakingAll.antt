@@ -15,10 +15,10 @@ use Rattle.vt_part.specs.declared.part.Part.{Part}
 use Rattle.vt_part.specs.Parts.{disk_of, table_of}
 use Rattle.vt_recover.specs.declared.devices.Devices.{Devices}
 use Rattle.vt_core.specs.Files.{all_of}
-use Rattle.vt_open.specs.declared.bad.OpenBad.{OpenBad}
-use Rattle.vt_open.specs.declared.bad.OpenBad.TheVariants.{Missing, Refused}
+use Rattle.vt_open.specs.declared.error.OpenError.{OpenError}
+use Rattle.vt_open.specs.declared.error.OpenError.TheVariants.{Missing, Refused}
 use Rattle.vt_open.specs.Names.{files_of}
-use Rattle.vt_open.specs.Taking.{AreGiven, AreTaken, AreTakenArenas, HasTable, IsMounted, IsTakingCause, RefusesTaking, TableIsRefused}
+use Rattle.vt_open.specs.Taking.{AreHandedBack, AreTaken, AreTakenArenas, HasTable, IsMountedPart, IsTakingCause, RefusesTaking, TableIsRefused}
 use Rattle.vt_open.specs.TakingAll.{AreAllTaken}
 use Rattle.vt_open.proofs.Held.{IsHeld, held_reads, hold_zip}
 use Rattle.vt_open.proofs.Lists.{zip_append, zip_length}
@@ -52,16 +52,16 @@ within_of (g ∷ files) (suc n) f at = let rest = within_of files n f at in omeg
 module _ {D : Type 0} (disk : DiskOf D) where
   -- ---- tables that were read
 
-  pub mounted_held : (handed : List D) (arenas : List (Part D)) → AllZip (IsMounted disk) handed arenas → HoldTheSame disk handed (disks_of arenas)
+  pub mounted_held : (handed : List D) (arenas : List (Part D)) → AllZip (IsMountedPart disk) handed arenas → HoldTheSame disk handed (disks_of arenas)
   mounted_held handed arenas it = hold_zip disk handed (disks_of arenas) (each handed arenas it)
     where
-      each : (handed : List D) (arenas : List (Part D)) → AllZip (IsMounted disk) handed arenas → AllZip (IsHeld disk) handed (disks_of arenas)
+      each : (handed : List D) (arenas : List (Part D)) → AllZip (IsMountedPart disk) handed arenas → AllZip (IsHeld disk) handed (disks_of arenas)
       each [] [] it = tt
       each [] (p ∷ arenas) it = absurd it
       each (d ∷ handed) [] it = absurd it
       each (d ∷ handed) (p ∷ arenas) it = (held_reads disk 1 d (disk_of p) it.0.reads, each handed arenas it.1)
 
-  pub mounted_faults : (handed : List D) (arenas : List (Part D)) → AllZip (IsMounted disk) handed arenas → map disk.faults (disks_of arenas) ≡ map disk.faults handed
+  pub mounted_faults : (handed : List D) (arenas : List (Part D)) → AllZip (IsMountedPart disk) handed arenas → map disk.faults (disks_of arenas) ≡ map disk.faults handed
   mounted_faults [] [] it = refl
   mounted_faults [] (p ∷ arenas) it = absurd it
   mounted_faults (d ∷ handed) [] it = absurd it
@@ -70,17 +70,17 @@ module _ {D : Type 0} (disk : DiskOf D) where
       let rest = mounted_faults handed arenas it.1 in
       cc
 
-  pub mounted_tables : (handed : List D) (arenas : List (Part D)) → AllZip (IsMounted disk) handed arenas → All (HasTable disk) handed
+  pub mounted_tables : (handed : List D) (arenas : List (Part D)) → AllZip (IsMountedPart disk) handed arenas → All (HasTable disk) handed
   mounted_tables handed arenas it = All-from_recursion (HasTable disk) handed (each handed arenas it)
     where
-      each : (handed : List D) (arenas : List (Part D)) → AllZip (IsMounted disk) handed arenas → AllByRecursion (HasTable disk) handed
+      each : (handed : List D) (arenas : List (Part D)) → AllZip (IsMountedPart disk) handed arenas → AllByRecursion (HasTable disk) handed
       each [] arenas it = tt
       each (d ∷ handed) [] it = absurd it
       each (d ∷ handed) (p ∷ arenas) it = ((λ tells. (table_of p, it.0.partition tells)), each handed arenas it.1)
 
   module _ (told : Type 0) where
     -- more of them may be of arenas, where none is handed out behind them
-    refuses_wide : (first n m : ℕ) (files : List PartFile) (old new : Stands D) (f f' : ℕ) (bad : OpenBad) → n ≤ m → length files ≤ n → RefusesTaking disk told first n files old new f f' bad
+    refuses_wide : (first n m : ℕ) (files : List PartFile) (old new : Stands D) (f f' : ℕ) (bad : OpenError) → n ≤ m → length files ≤ n → RefusesTaking disk told first n files old new f f' bad
         → RefusesTaking disk told first m files old new f f' bad
     refuses_wide first n m files old new f f' bad le all it = record {
       handed = it.handed;
@@ -90,7 +90,7 @@ module _ {D : Type 0} (disk : DiskOf D) where
       cause = wide bad it.cause;
     }
       where
-        wide : (bad : OpenBad) → IsTakingCause disk first n (length files) f f' it.handed it.back bad → IsTakingCause disk first m (length files) f f' it.handed it.back bad
+        wide : (bad : OpenError) → IsTakingCause disk first n (length files) f f' it.handed it.back bad → IsTakingCause disk first m (length files) f f' it.handed it.back bad
         wide (Missing part) (at, few, rose, same, tables) =
             let here : take n it.handed ≡ it.handed = take_all n it.handed (omega (arith, few, all)) in
             let there : take m it.handed ≡ it.handed = take_all m it.handed (omega (arith, few, all, le)) in
@@ -127,18 +127,18 @@ module _ {D : Type 0} (disk : DiskOf D) where
       handed = one.handed ++ two.handed;
       taken = subst (λ (l : List PartFile). AreTaken told l old new (one.handed ++ two.handed)) (sym (take_next files n f at))
           (taken_more told (take n files) (f ∷ []) old mid new one.handed two.handed one.taken two.taken);
-      mounted = zip_append (IsMounted disk) one.handed two.handed arenas (p ∷ []) one.mounted two.mounted;
+      mounted = zip_append (IsMountedPart disk) one.handed two.handed arenas (p ∷ []) one.mounted two.mounted;
     }
 
     pub many_taken : (files : List PartFile) (old new : Stands D) (arenas : List (Part D)) → AreTakenArenas disk told files old new arenas → length arenas ≡ length files
-    many_taken files old new arenas it = let m = it.taken.many in zip_length (IsMounted disk) it.handed arenas it.mounted ∙ m
+    many_taken files old new arenas it = let m = it.taken.many in zip_length (IsMountedPart disk) it.handed arenas it.mounted ∙ m
 
     pub arenas_start : (files : List PartFile) (s : Stands D) → AreTakenArenas disk told (take 0 files) s s []
     arenas_start files s = record { handed = []; taken = taken_none told s; mounted = tt }
 
     -- the next one isn't handed out, and those before it are back
-    pub next_refused : (first : ℕ) (files : List PartFile) (n : ℕ) (f : PartFile) (old mid late new : Stands D) (ds : List D) (f0 f1 f2 f3 : ℕ) (bad : OpenBad) → slice_get files n ≡ Some f
-        → AreTaken told (take n files) old mid ds → RefusesTaking disk told (first + n) 0 (f ∷ []) mid late f1 f2 bad → AreGiven told (take n files) late new ds → f1 ≡ f0 → f3 ≡ f2
+    pub next_refused : (first : ℕ) (files : List PartFile) (n : ℕ) (f : PartFile) (old mid late new : Stands D) (ds : List D) (f0 f1 f2 f3 : ℕ) (bad : OpenError) → slice_get files n ≡ Some f
+        → AreTaken told (take n files) old mid ds → RefusesTaking disk told (first + n) 0 (f ∷ []) mid late f1 f2 bad → AreHandedBack told (take n files) late new ds → f1 ≡ f0 → f3 ≡ f2
         → RefusesTaking disk told first 0 files old new f0 f3 bad
     next_refused first files n f old mid late new ds f0 f1 f2 f3 bad at taken refused given same01 same23 =
         let long = take_long files n f at in
@@ -156,8 +156,8 @@ module _ {D : Type 0} (disk : DiskOf D) where
         still : (ds : List D) → HoldTheSame disk ds ds
         still ds = hold_zip disk ds ds (each ds)
 
-    pub next_refused_arena : (files : List PartFile) (n : ℕ) (f : PartFile) (old mid late new : Stands D) (arenas : List (Part D)) (f0 f1 f2 f3 : ℕ) (bad : OpenBad) → slice_get files n ≡ Some f
-        → AreTakenArenas disk told (take n files) old mid arenas → RefusesTaking disk told n 1 (f ∷ []) mid late f1 f2 bad → AreGiven told (take n files) late new (disks_of arenas) → f1 ≡ f0 → f3 ≡ f2
+    pub next_refused_arena : (files : List PartFile) (n : ℕ) (f : PartFile) (old mid late new : Stands D) (arenas : List (Part D)) (f0 f1 f2 f3 : ℕ) (bad : OpenError) → slice_get files n ≡ Some f
+        → AreTakenArenas disk told (take n files) old mid arenas → RefusesTaking disk told n 1 (f ∷ []) mid late f1 f2 bad → AreHandedBack told (take n files) late new (disks_of arenas) → f1 ≡ f0 → f3 ≡ f2
         → RefusesTaking disk told 0 (length files) files old new f0 f3 bad
     next_refused_arena files n f old mid late new arenas f0 f1 f2 f3 bad at taken refused given same01 same23 =
         let long = take_long files n f at in
@@ -188,14 +188,14 @@ module _ {D : Type 0} (disk : DiskOf D) where
       fs = option_to_list conf.filter
 
       -- arenas' partitions weren't all handed out
-      pub arenas_refused : (old new : Stands D) (f f' : ℕ) (bad : OpenBad) → RefusesTaking disk told 0 (length as_) as_ old new f f' bad
+      pub arenas_refused : (old new : Stands D) (f f' : ℕ) (bad : OpenError) → RefusesTaking disk told 0 (length as_) as_ old new f f' bad
           → RefusesTaking disk told 0 (length as_) (all_of (files_of conf)) old new f f' bad
       arenas_refused old new f f' bad it =
           refuses_more disk told 0 (length as_) (as_ ++ ss) fs old new f f' bad (refuses_more disk told 0 (length as_) as_ ss old new f f' bad it)
 
       -- what comes behind them isn't
-      behind_arenas : (more : List PartFile) (old mid late new : Stands D) (arenas : List (Part D)) (f0 f1 f2 f3 : ℕ) (bad : OpenBad) → AreTakenArenas disk told as_ old mid arenas
-          → RefusesTaking disk told (length as_) 0 more mid late f1 f2 bad → AreGiven told as_ late new (disks_of arenas) → f1 ≡ f0 → f3 ≡ f2
+      behind_arenas : (more : List PartFile) (old mid late new : Stands D) (arenas : List (Part D)) (f0 f1 f2 f3 : ℕ) (bad : OpenError) → AreTakenArenas disk told as_ old mid arenas
+          → RefusesTaking disk told (length as_) 0 more mid late f1 f2 bad → AreHandedBack told as_ late new (disks_of arenas) → f1 ≡ f0 → f3 ≡ f2
           → RefusesTaking disk told 0 (length as_) (as_ ++ more) old new f0 f3 bad
       behind_arenas more old mid late new arenas f0 f1 f2 f3 bad taken refused given same01 same23 =
           let m = taken.taken.many in
@@ -206,14 +206,14 @@ module _ {D : Type 0} (disk : DiskOf D) where
           (mounted_held taken.handed arenas taken.mounted) (mounted_faults taken.handed arenas taken.mounted) (omega arith) tables (inl refl) same01 same23 bad here in
           subst (λ (k : ℕ). RefusesTaking disk told 0 k (as_ ++ more) old new f0 f3 bad) (omega arith) all
 
-      pub sections_refused : (old mid late new : Stands D) (arenas : List (Part D)) (f0 f1 f2 f3 : ℕ) (bad : OpenBad) → AreTakenArenas disk told as_ old mid arenas
-          → RefusesTaking disk told (length as_) 0 ss mid late f1 f2 bad → AreGiven told as_ late new (disks_of arenas) → f1 ≡ f0 → f3 ≡ f2
+      pub sections_refused : (old mid late new : Stands D) (arenas : List (Part D)) (f0 f1 f2 f3 : ℕ) (bad : OpenError) → AreTakenArenas disk told as_ old mid arenas
+          → RefusesTaking disk told (length as_) 0 ss mid late f1 f2 bad → AreHandedBack told as_ late new (disks_of arenas) → f1 ≡ f0 → f3 ≡ f2
           → RefusesTaking disk told 0 (length as_) (all_of (files_of conf)) old new f0 f3 bad
       sections_refused old mid late new arenas f0 f1 f2 f3 bad taken refused given same01 same23 =
           refuses_more disk told 0 (length as_) (as_ ++ ss) fs old new f0 f3 bad (behind_arenas ss old mid late new arenas f0 f1 f2 f3 bad taken refused given same01 same23)
 
-      pub filter_refused : (old mid1 mid2 late1 late2 new : Stands D) (arenas : List (Part D)) (sections : List D) (f0 f1 f2 f3 f4 f5 : ℕ) (bad : OpenBad) → AreTakenArenas disk told as_ old mid1 arenas
-          → AreTaken told ss mid1 mid2 sections → RefusesTaking disk told (length as_ + length ss) 0 fs mid2 late1 f2 f3 bad → AreGiven told ss late1 late2 sections → AreGiven told as_ late2 new (disks_of arenas)
+      pub filter_refused : (old mid1 mid2 late1 late2 new : Stands D) (arenas : List (Part D)) (sections : List D) (f0 f1 f2 f3 f4 f5 : ℕ) (bad : OpenError) → AreTakenArenas disk told as_ old mid1 arenas
+          → AreTaken told ss mid1 mid2 sections → RefusesTaking disk told (length as_ + length ss) 0 fs mid2 late1 f2 f3 bad → AreHandedBack told ss late1 late2 sections → AreHandedBack told as_ late2 new (disks_of arenas)
           → f1 ≡ f0 → f2 ≡ f1 → f4 ≡ f3 → f5 ≡ f4
           → RefusesTaking disk told 0 (length as_) (all_of (files_of conf)) old new f0 f5 bad
       filter_refused old mid1 mid2 late1 late2 new arenas sections f0 f1 f2 f3 f4 f5 bad taken more refused given also s01 s12 s34 s45 =

@@ -5,7 +5,7 @@ use Rattle.std.specs.Option.{option_to_list}
 use Rattle.vt_conf.specs.declared.conf.Conf.{Conf}
 use Rattle.vt_conf.specs.declared.conf.PartFile.{PartFile}
 use Rattle.vt_core.specs.Files.{PerDevice, all_of}
-use Rattle.vt_parts.specs.Parts.{Standing, there}
+use Rattle.vt_partitions.specs.Parts.{Standing, there}
 
 -- A configuration's files, each of which has one of a store's devices.
 abbrev pub files_of : Conf → PerDevice PartFile

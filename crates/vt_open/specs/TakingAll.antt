@@ -7,8 +7,8 @@ use Rattle.vt_recover.specs.declared.devices.Devices.{Devices}
 use Rattle.vt_core.specs.Files.{PerDevice, all_of}
 use Rattle.vt_disk.specs.Members.{DiskOf}
 use Rattle.vt_open.specs.Names.{HaveOneShape, files_of}
-use Rattle.vt_open.specs.Taking.{AreTaken, IsMounted}
-use Rattle.vt_parts.specs.Parts.{Standing}
+use Rattle.vt_open.specs.Taking.{AreTaken, IsMountedPart}
+use Rattle.vt_partitions.specs.Parts.{Standing}
 
 -- they were handed out, and the tables of those of arenas were read
 pub record AreAllTaken {D : Type 0} (disk : DiskOf D) (told : Type 0) (conf : Conf)
@@ -16,6 +16,6 @@ pub record AreAllTaken {D : Type 0} (disk : DiskOf D) (told : Type 0) (conf : Co
   pub handed : PerDevice D
   pub shape : HaveOneShape handed (files_of conf)
   pub taken : AreTaken told (all_of (files_of conf)) old new (all_of handed)
-  pub mounted : AllZip (IsMounted disk) handed.partitions devices.parts.items
+  pub mounted : AllZip (IsMountedPart disk) handed.partitions devices.parts.items
   pub sections : handed.sections ≡ devices.sections.items
   pub filter : handed.filter ≡ option_to_list devices.filter

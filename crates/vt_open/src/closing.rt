@@ -7,20 +7,21 @@ ghost use Rattle.vt_core.specs.Files.{all_of};
 ghost use Rattle.vt_core.specs.Mounting.{devices_in};
 ghost use Rattle.vt_log.specs.Log.{disks_of};
 ghost use Rattle.vt_open.specs.Names.{HaveOneShape, files_of};
-ghost use Rattle.vt_open.specs.Taking.{AreGiven};
+ghost use Rattle.vt_open.specs.Taking.{AreHandedBack};
 
 use vt_base::Scorer;
 use vt_conf::{Conf, PartFile};
 use vt_core::Core;
 use vt_part::Part;
-use vt_parts::Parts;
+use vt_partitions::Parts;
 use vt_recover::Devices;
 
 /// Hands back the partitions of an opened store, each under the name of its file. It makes no
 /// device call and takes no memory: what is queued or dirty isn't on the partitions.
 pub fn close_store<P: Parts, S: Scorer + Drop>(parts: &mut P, conf: &Conf, core: Core<P::Disk, S>)
     requires { HaveOneShape (devices_of core) (files_of conf.now) }
-    ensures given { AreGiven (IsTrue P.tells) (all_of (files_of conf.now)) (P.standing parts.old)
+    ensures given { AreHandedBack (IsTrue P.tells) (all_of (files_of conf.now))
+        (P.standing parts.old)
         (P.standing parts.new) (all_of (devices_of core)) }
     ensures faults { P.faults parts.new ≡ P.faults parts.old }
 {
@@ -30,7 +31,8 @@ pub fn close_store<P: Parts, S: Scorer + Drop>(parts: &mut P, conf: &Conf, core:
 /// Hands back the partitions of all files that a configuration names, as taking them gave them out.
 pub fn give_all<P: Parts>(parts: &mut P, conf: &Conf, devices: Devices<P::Disk>)
     requires { HaveOneShape (devices_in devices) (files_of conf.now) }
-    ensures given { AreGiven (IsTrue P.tells) (all_of (files_of conf.now)) (P.standing parts.old)
+    ensures given { AreHandedBack (IsTrue P.tells) (all_of (files_of conf.now))
+        (P.standing parts.old)
         (P.standing parts.new) (all_of (devices_in devices)) }
     ensures faults { P.faults parts.new ≡ P.faults parts.old }
 {
@@ -51,7 +53,7 @@ pub(crate) fn give_arenas<P: Parts>(
     mut arenas: Vec<Part<P::Disk>>,
 )
     requires { length arenas.items ≡ length files.now }
-    ensures given { AreGiven (IsTrue P.tells) files.now (P.standing parts.old)
+    ensures given { AreHandedBack (IsTrue P.tells) files.now (P.standing parts.old)
         (P.standing parts.new) (disks_of arenas.items) }
     ensures faults { P.faults parts.new ≡ P.faults parts.old }
 {
@@ -63,7 +65,7 @@ pub(crate) fn give_arenas<P: Parts>(
 /// Hands back partitions of index sections.
 pub(crate) fn give_sections<P: Parts>(parts: &mut P, files: &[PartFile], mut disks: Vec<P::Disk>)
     requires { length disks.items ≡ length files.now }
-    ensures given { AreGiven (IsTrue P.tells) files.now (P.standing parts.old)
+    ensures given { AreHandedBack (IsTrue P.tells) files.now (P.standing parts.old)
         (P.standing parts.new) disks.items }
     ensures faults { P.faults parts.new ≡ P.faults parts.old }
 {
@@ -75,7 +77,7 @@ pub(crate) fn give_sections<P: Parts>(parts: &mut P, files: &[PartFile], mut dis
 /// Hands back the partition of the filter, if there is one.
 fn give_filter<P: Parts>(parts: &mut P, file: &Option<PartFile>, disk: Option<P::Disk>)
     requires { length (option_to_list disk) ≡ length (option_to_list file.now) }
-    ensures given { AreGiven (IsTrue P.tells) (option_to_list file.now) (P.standing parts.old)
+    ensures given { AreHandedBack (IsTrue P.tells) (option_to_list file.now) (P.standing parts.old)
         (P.standing parts.new) (option_to_list disk) }
     ensures faults { P.faults parts.new ≡ P.faults parts.old }
 {

@@ -14,11 +14,11 @@ ghost use Rattle.vt_core.specs.declared.event.Out.{Out};
 ghost use Rattle.vt_model.specs.History.{History};
 ghost use Rattle.vt_model.specs.Places.{Setup};
 ghost use Rattle.vt_open.specs.Names.{AreUnder, HaveOneShape, files_of};
-ghost use Rattle.vt_open.specs.declared.bad.OpenBad.{OpenBad};
+ghost use Rattle.vt_open.specs.declared.error.OpenError.{OpenError};
 ghost use Rattle.vt_open.specs.Opening.{IsFaultOrMemory, NamesCause, Opens, RefusesStore};
-ghost use Rattle.vt_open.specs.Taking.{AreGiven};
+ghost use Rattle.vt_open.specs.Taking.{AreHandedBack};
 ghost use Rattle.vt_part.specs.Table.{Table};
-ghost use Rattle.vt_parts.specs.Parts.{Standing, there};
+ghost use Rattle.vt_partitions.specs.Parts.{Standing, there};
 
 use vt_conf::laws::configurations_name_few_files;
 use vt_disk::Disk;
@@ -71,24 +71,24 @@ pub fn opened_stores_recall<D: Disk>()
 /// or memory ran out; and whatever call failed, a crash then loses nothing more.
 pub fn refused_stores_stand<D: Disk>()
     ensures differs { (score : List ℕ → List ℕ) (tells : Bool) (conf : Conf)
-        (old new : List ℕ → Standing D) (before after : ℕ) (bad : OpenBad)
+        (old new : List ℕ → Standing D) (before after : ℕ) (bad : OpenError)
         → RefusesStore score D.Disk (IsTrue tells) conf old new before after bad
         → NamesCause bad }
     ensures found { (score : List ℕ → List ℕ) (tells : Bool) (conf : Conf)
-        (old new : List ℕ → Standing D) (before after : ℕ) (bad : OpenBad) (tables : List Table)
+        (old new : List ℕ → Standing D) (before after : ℕ) (bad : OpenError) (tables : List Table)
         (devices : PerDevice D) (c : Setup) (h g : History) (base : ℕ) → IsTrue tells
         → IsTrue D.tells → RefusesStore score D.Disk (IsTrue tells) conf old new before after bad
         → AreUnder old conf devices → IsLogOf score D.Disk tables devices c h g base
         → KeepsLimits tables c → IsFaultOrMemory bad }
     ensures standing { (score : List ℕ → List ℕ) (tells : Bool) (conf : Conf)
-        (old new : List ℕ → Standing D) (before after : ℕ) (bad : OpenBad) (tables : List Table)
+        (old new : List ℕ → Standing D) (before after : ℕ) (bad : OpenError) (tables : List Table)
         (devices back : PerDevice D) → IsTrue tells → IsTrue D.tells
         → RefusesStore score D.Disk (IsTrue tells) conf old new before after bad
         → AreUnder old conf devices → AreUnder new conf back
         → LeavesStanding score D.Disk tables devices back }
 {
     partitions_are_told_apart();
-    vt_told::refusals_name_two();
+    vt_mount_errors::refusals_name_two();
     vt_core::refusals_name_two::<D>();
 }
 
@@ -107,6 +107,6 @@ pub fn shapes_are_kept<D: Disk>()
         (before during after : List ℕ → Standing D) (opened k : CoreState D) → IsTrue tells
         → Opens score D.Disk (IsTrue tells) conf sessions before during opened
         → HaveOneShape (devices_of k) (files_of conf)
-        → AreGiven (IsTrue tells) (all_of (files_of conf)) during after (all_of (devices_of k))
+        → AreHandedBack (IsTrue tells) (all_of (files_of conf)) during after (all_of (devices_of k))
         → AreUnder after conf (devices_of k) }
 {}

@@ -2,15 +2,15 @@
 // Tests: crates/vt_store_tests/src/opening.rt.
 #![tactic(auto)]
 
-mod bad;
 mod closing;
+mod error;
 mod files;
 mod laws;
 mod opening;
 mod taking;
 
-pub use bad::OpenBad;
 pub use closing::{close_store, give_all};
+pub use error::OpenError;
 pub use files::file_of;
 pub use laws::{
     configurations_can_be_opened, devices_have_names, opened_stores_recall, refused_stores_stand,

@@ -9,15 +9,15 @@ ghost use Rattle.vt_open.specs.Names.{AreUnder};
 ghost use Rattle.vt_open.specs.Opening.{IsFaultOrMemory, NamesCause, Opens, RefusesStore};
 ghost use Rattle.vt_part.specs.Table.{Table};
 
-use crate::bad::OpenBad;
 use crate::closing::give_all;
+use crate::error::OpenError;
 use crate::laws::refused_stores_stand;
 use crate::taking::take_all;
 use std::alloc::Global;
 use vt_base::Scorer;
-use vt_conf::{Conf, block_room, entry_room};
+use vt_conf::{Conf, cached_blocks, entry_room};
 use vt_core::Core;
-use vt_parts::Parts;
+use vt_partitions::Parts;
 use vt_shard::Sizes;
 
 /// Opens the store that a configuration names: hands out the partitions of its files, those of
@@ -33,7 +33,7 @@ pub fn open_store<P: Parts, S: Scorer + Drop>(
     conf: &Conf,
     sessions: u32,
     scorer: S,
-) -> Result<Core<P::Disk, S>, OpenBad>
+) -> Result<Core<P::Disk, S>, OpenError>
     requires few { length conf.now.arenas.items + length conf.now.sections.items + 1 < 2 ^ 32 }
     requires some_arenas { 0 < length conf.now.arenas.items }
     requires some_section { 0 < length conf.now.sections.items }
@@ -65,14 +65,14 @@ pub fn open_store<P: Parts, S: Scorer + Drop>(
     let devices = take_all(alloc, parts, conf)?;
     let sections = conf.sections.len() as u32;
     let sizes = Sizes {
-        lumps: block_room(conf.mem, sections),
+        lumps: cached_blocks(conf.mem, sections),
         clean: entry_room(conf.icmem, sections),
     };
     match Core::mount(alloc, devices, sizes, sessions, scorer) {
         Ok(core) => Ok(core),
         Err((bad, devices)) => {
             give_all(parts, conf, devices);
-            Err(OpenBad::Refused(bad))
+            Err(OpenError::Refused(bad))
         }
     }
 }

@@ -7,15 +7,15 @@ ghost use Rattle.vt_open.specs.Names.{files_of};
 ghost use Rattle.vt_open.specs.Taking.{AreTaken, AreTakenArenas, RefusesTaking};
 ghost use Rattle.vt_open.specs.TakingAll.{AreAllTaken};
 
-use crate::bad::OpenBad;
 use crate::closing::{give_arenas, give_sections};
+use crate::error::OpenError;
 use std::alloc::Global;
 use vt_base::{Failed, MountBad};
 use vt_conf::{Conf, PartFile};
+use vt_mount_errors::of_part;
 use vt_part::Part;
-use vt_parts::Parts;
+use vt_partitions::Parts;
 use vt_recover::Devices;
-use vt_told::of_part;
 
 /// Hands out the partitions of all files that a configuration names, in order, and reads the tables
 /// of those of arenas. A refusal hands back what was handed out.
@@ -23,7 +23,7 @@ pub fn take_all<P: Parts>(
     alloc: Global,
     parts: &mut P,
     conf: &Conf,
-) -> Result<Devices<P::Disk>, OpenBad>
+) -> Result<Devices<P::Disk>, OpenError>
     requires { length conf.now.arenas.items + length conf.now.sections.items + 1 < 2 ^ 32 }
     ensures taken { IfOk result (AreAllTaken P.Disk.Disk (IsTrue P.tells) conf.now
         (P.standing parts.old) (P.standing parts.new)) }
@@ -61,7 +61,7 @@ fn take_arenas<P: Parts>(
     alloc: Global,
     parts: &mut P,
     files: &[PartFile],
-) -> Result<Vec<Part<P::Disk>>, OpenBad>
+) -> Result<Vec<Part<P::Disk>>, OpenError>
     requires { length files.now < 2 ^ 32 }
     ensures taken { IfOk result (λ arenas. AreTakenArenas P.Disk.Disk (IsTrue P.tells) files.now
         (P.standing parts.old) (P.standing parts.new) arenas.items) }
@@ -71,7 +71,7 @@ fn take_arenas<P: Parts>(
     ensures faults { OnOk result (P.faults parts.new ≡ P.faults parts.old) }
 {
     let Ok(mut arenas) = Vec::with_capacity(alloc, files.len()) else {
-        return Err(OpenBad::Refused(MountBad::NoMemory));
+        return Err(OpenError::Refused(MountBad::NoMemory));
     };
     for (number, file) in files.iter().enumerate() {
         match take_part(alloc, parts, file, number as u32) {
@@ -91,7 +91,7 @@ fn take_part<P: Parts>(
     parts: &mut P,
     file: &PartFile,
     number: u32,
-) -> Result<Part<P::Disk>, OpenBad>
+) -> Result<Part<P::Disk>, OpenError>
     ensures taken { IfOk result (λ part. AreTakenArenas P.Disk.Disk (IsTrue P.tells)
         (file.now ∷ []) (P.standing parts.old) (P.standing parts.new) (part ∷ [])) }
     ensures refused { IfErr result (RefusesTaking P.Disk.Disk (IsTrue P.tells) number 1
@@ -100,13 +100,13 @@ fn take_part<P: Parts>(
     ensures faults { OnOk result (P.faults parts.new ≡ P.faults parts.old) }
 {
     let Ok(disk) = parts.part(alloc, &file.name, None) else {
-        return Err(OpenBad::Missing { part: number });
+        return Err(OpenError::Missing { part: number });
     };
     match vt_part::mount(disk) {
         Ok(part) => Ok(part),
         Err((bad, disk)) => {
             parts.done(&file.name, disk);
-            Err(OpenBad::Refused(of_part(number, bad)))
+            Err(OpenError::Refused(of_part(number, bad)))
         }
     }
 }
@@ -117,7 +117,7 @@ fn take_sections<P: Parts>(
     parts: &mut P,
     files: &[PartFile],
     first: u32,
-) -> Result<Vec<P::Disk>, OpenBad>
+) -> Result<Vec<P::Disk>, OpenError>
     requires { first + length files.now < 2 ^ 32 }
     ensures taken { IfOk result (λ disks. AreTaken (IsTrue P.tells) files.now
         (P.standing parts.old) (P.standing parts.new) disks.items) }
@@ -126,7 +126,7 @@ fn take_sections<P: Parts>(
     ensures faults { OnOk result (P.faults parts.new ≡ P.faults parts.old) }
 {
     let Ok(mut disks) = Vec::with_capacity(alloc, files.len()) else {
-        return Err(OpenBad::Refused(MountBad::NoMemory));
+        return Err(OpenError::Refused(MountBad::NoMemory));
     };
     for (number, file) in files.iter().enumerate() {
         match take_disk(alloc, parts, file, first + number as u32) {
@@ -146,7 +146,7 @@ fn take_filter<P: Parts>(
     parts: &mut P,
     file: &Option<PartFile>,
     number: u32,
-) -> Result<Option<P::Disk>, OpenBad>
+) -> Result<Option<P::Disk>, OpenError>
     ensures taken { IfOk result (λ disk. AreTaken (IsTrue P.tells) (option_to_list file.now)
         (P.standing parts.old) (P.standing parts.new) (option_to_list disk)) }
     ensures refused { IfErr result (RefusesTaking P.Disk.Disk (IsTrue P.tells) number 0
@@ -167,7 +167,7 @@ fn take_disk<P: Parts>(
     parts: &mut P,
     file: &PartFile,
     number: u32,
-) -> Result<P::Disk, OpenBad>
+) -> Result<P::Disk, OpenError>
     ensures taken { IfOk result (λ disk. AreTaken (IsTrue P.tells) (file.now ∷ [])
         (P.standing parts.old) (P.standing parts.new) (disk ∷ [])) }
     ensures refused { IfErr result (RefusesTaking P.Disk.Disk (IsTrue P.tells) number 0
@@ -177,6 +177,6 @@ fn take_disk<P: Parts>(
 {
     match parts.part(alloc, &file.name, None) {
         Ok(disk) => Ok(disk),
-        Err(Failed) => Err(OpenBad::Missing { part: number }),
+        Err(Failed) => Err(OpenError::Missing { part: number }),
     }
 }

@@ -1,4 +1,10 @@
 pub mod Files
+pub mod FolderItems
+pub mod FolderMemory
+pub mod FolderMemoryLaws
+pub mod FolderPlaces
+pub mod FolderStanding
 pub mod Held
 pub mod Memory
+pub mod NamedFolders
 pub mod Streams

@@ -12,8 +12,8 @@ use Rattle.std.proofs.lemmas.List.Kept.{AllPairs-cons}
 use Rattle.vt_disk.specs.Disk.{IsAligned}
 use Rattle.vt_disk.proofs.Bytes.{aligned_sum, aligned_product}
 use Rattle.vt_part.specs.declared.layout.ArenaRegion.{ArenaRegion}
-use Rattle.vt_part.specs.Laws.{ArenasFollow, ArenasAreAligned, IsArena, IsBefore, LayoutsHaveArenas, LayoutsListArenas, LayoutsHaveLengths, LayoutsAreInOrder}
-use Rattle.vt_part.specs.Layout.{arena_of, arenas_of}
+use Rattle.vt_part.specs.Laws.{ArenasFollow, ArenasAreAligned, IsArenaOfTable, IsBefore, LayoutsHaveArenas, LayoutsListArenas, LayoutsHaveLengths, LayoutsAreInOrder}
+use Rattle.vt_part.specs.Layout.{arena_of, arenas_of_table}
 use Rattle.vt_part.specs.Table.{Table, IsArenaSize}
 
 aligned_size : (n : ℕ) → IsArenaSize n → IsAligned n
@@ -45,13 +45,13 @@ IsArenaFrom q tables e = (q ≤ e.part) × ((t : Table) × (slice_get tables (e.
     × (e.number < t.count) × (e ≡ arena_of e.part t e.number))
 
 abbrev numbered_arenas : ℕ × Table → List ArenaRegion
-numbered_arenas numbered = arenas_of numbered.0 numbered.1
+numbered_arenas numbered = arenas_of_table numbered.0 numbered.1
 
 arenas_from : (q : ℕ) (tables : List Table)
     → All (IsArenaFrom q tables) (flat_map numbered_arenas (enumerate_from q tables))
 arenas_from q [] = All-nil (IsArenaFrom q [])
 arenas_from q (t ∷ tables) =
-    All-append (IsArenaFrom q (t ∷ tables)) (arenas_of q t) _
+    All-append (IsArenaFrom q (t ∷ tables)) (arenas_of_table q t) _
     (All-map (IsArenaFrom q (t ∷ tables)) (arena_of q t) (range_with_len 0 t.count)
     (All-weaker (λ k. (0 ≤ k) × (k < 0 + t.count)) (λ k. IsArenaFrom q (t ∷ tables)
     (arena_of q t k))
@@ -81,7 +81,7 @@ arenas_from q (t ∷ tables) =
 
 pub layouts_have_arenas : LayoutsHaveArenas
 layouts_have_arenas tables =
-    All-weaker (IsArenaFrom 0 tables) (IsArena tables)
+    All-weaker (IsArenaFrom 0 tables) (IsArenaOfTable tables)
     (λ e is. (is.1.0, rw sub-zero at is.1.1, is.1.2, is.1.3)) _ (arenas_from 0 tables)
 
 -- the arenas of a partition, before those of later ones
@@ -119,7 +119,7 @@ listed_from q (s ∷ tables) zero number t found within =
     let same : s ≡ t = cc in
     let here : ArenaRegion = arena_of (q + 0) t number in
     let short : number < s.count = subst (λ (u : Table). number < u.count) (sym same) within in
-    Contains-append_left (arenas_of q s) (flat_map numbered_arenas (enumerate_from (q + 1) tables))
+    Contains-append_left (arenas_of_table q s) (flat_map numbered_arenas (enumerate_from (q + 1) tables))
     here (
       number,
       omega (
@@ -132,7 +132,7 @@ listed_from q (s ∷ tables) zero number t found within =
           ∙ (λ j. arena_of (sym (add-zero q) j) (same j) number),
     )
 listed_from q (s ∷ tables) (suc i) number t found within =
-    Contains-append_right (arenas_of q s) (flat_map numbered_arenas (enumerate_from (q + 1) tables))
+    Contains-append_right (arenas_of_table q s) (flat_map numbered_arenas (enumerate_from (q + 1) tables))
     (arena_of (q + suc i) t number)
     (subst (λ (k : ℕ). Contains (flat_map numbered_arenas (enumerate_from (q + 1) tables))
     (arena_of k t number)) (omega arith) (listed_from (q + 1) tables i number t found within))
@@ -146,7 +146,7 @@ lengths_from : (q : ℕ) (tables : List Table)
     → length (flat_map numbered_arenas (enumerate_from q tables)) ≡ sum_by (λ t. t.count) tables
 lengths_from q [] = refl
 lengths_from q (t ∷ tables) =
-    length-append (arenas_of q t) (flat_map numbered_arenas (enumerate_from (q + 1) tables))
+    length-append (arenas_of_table q t) (flat_map numbered_arenas (enumerate_from (q + 1) tables))
     ∙ (λ j. (length-map (range_with_len 0 t.count) (arena_of q t)
     ∙ length-range_with_len 0 t.count) j + lengths_from (q + 1) tables j)
     ∙ sym (sum_by-cons (λ (u : Table). u.count) t tables)

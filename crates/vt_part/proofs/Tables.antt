@@ -11,12 +11,12 @@ use Rattle.byteorder.specs.Numbers.{big_number-reads_back, big_from-lt}
 use Rattle.vt_base.specs.Bytes.{AreBytes}
 use Rattle.vt_disk.specs.Disk.{SameBut}
 use Rattle.vt_disk.proofs.Bytes.{part_same}
-use Rattle.vt_fields.specs.Fields.{drop-field, drop-number}
-use Rattle.vt_part.specs.declared.bad.PartBad.{PartBad}
-use Rattle.vt_part.specs.declared.bad.PartBad.TheVariants.{Fault}
-use Rattle.vt_part.specs.Faults.{version_in, arena_size_in, count_in, end_in, first_bad, RefusesMount}
-use Rattle.vt_fields.specs.Filled.{filled}
-use Rattle.vt_part.specs.Table.{Table, IsTable, IsArenaSize, IsPartition, is_arena_size, spelled, head_of, end_of}
+use Rattle.vt_base.specs.Fields.{drop-field, drop-number}
+use Rattle.vt_part.specs.declared.error.PartBad.{PartBad}
+use Rattle.vt_part.specs.declared.error.PartBad.TheVariants.{Fault}
+use Rattle.vt_part.specs.Faults.{version_in, arena_size_in, count_in, end_in, first_bad_part, RefusesPartMount}
+use Rattle.vt_base.specs.Filled.{filled}
+use Rattle.vt_part.specs.Table.{Table, IsTable, IsArenaSize, IsPartition, is_arena_size, table_bytes, head_of, arenas_end}
 use Rattle.vt_part.proofs.Names.{length-filled, name_unique, Named, named}
 
 -- what the tests want
@@ -28,7 +28,7 @@ pub record Passes (len : ℕ) (head : List ℕ) : Type 0 where
   pub some : 0 < count_in head
   pub room : end_in head ≤ len
 
-pub passing : (len : ℕ) (head : List ℕ) → Passes len head → first_bad len head ≡ None
+pub passing : (len : ℕ) (head : List ℕ) → Passes len head → first_bad_part len head ≡ None
 passing len head pass =
     let is_long : nat_lt len 8192 ≡ false = let h = pass.long in grind (arith, nat_tests) in
     let is_size : is_arena_size (arena_size_in head) ≡ true = pass.size in
@@ -43,7 +43,7 @@ none_then : (b : Bool) (bad : PartBad) (later : Option PartBad) → cond b (Some
 none_then true bad later none = absurd (cc)
 none_then false bad later none = (refl, none)
 
-pub passed : (len : ℕ) (head : List ℕ) → first_bad len head ≡ None → Passes len head
+pub passed : (len : ℕ) (head : List ℕ) → first_bad_part len head ≡ None → Passes len head
 passed len head none =
     let long = none_then (nat_lt len 8192) _ _ none in
     let magic = none_then (not (bytes_eq (take 4 head) (codes "VPRT"))) _ _ long.1 in
@@ -71,26 +71,26 @@ module _ (t : Table) (is : IsTable t) where
   abbrev sizes : List ℕ
   sizes = big_bytes 8 t.arena_size ++ big_bytes 4 t.count
 
-  at_70 : drop 70 (spelled t) ≡ sizes
-  at_70 = sym (drop-drop 64 6 (spelled t))
+  at_70 : drop 70 (table_bytes t) ≡ sizes
+  at_70 = sym (drop-drop 64 6 (table_bytes t))
       ∙ drop_at (filled 64 t.name) sizes 64 (length-filled 64 t.name is.name_len)
 
-  at_78 : drop 78 (spelled t) ≡ big_bytes 4 t.count
-  at_78 = sym (drop-drop 8 70 (spelled t)) ∙ ap (λ (l : List ℕ). drop 8 l) at_70
+  at_78 : drop 78 (table_bytes t) ≡ big_bytes 4 t.count
+  at_78 = sym (drop-drop 8 70 (table_bytes t)) ∙ ap (λ (l : List ℕ). drop 8 l) at_70
 
-  field_read : take 64 (drop 6 (spelled t)) ≡ filled 64 t.name
+  field_read : take 64 (drop 6 (table_bytes t)) ≡ filled 64 t.name
   field_read = take_at (filled 64 t.name) sizes 64 (length-filled 64 t.name is.name_len)
 
-  size_read : arena_size_in (spelled t) ≡ t.arena_size
+  size_read : arena_size_in (table_bytes t) ≡ t.arena_size
   size_read = ap (λ (l : List ℕ). big_number 8 l) at_70
       ∙ big_number-reads_back 8 t.arena_size (big_bytes 4 t.count) (omega
       (arith, size_most t.arena_size is.arena_size))
 
-  count_read : count_in (spelled t) ≡ t.count
+  count_read : count_in (table_bytes t) ≡ t.count
   count_read = ap (λ (l : List ℕ). big_number 4 l) (at_78 ∙ sym (append-nil (big_bytes 4 t.count)))
       ∙ big_number-reads_back 4 t.count [] is.count
 
-  pub table_passes : (len : ℕ) → end_of t ≤ len → Passes len (spelled t)
+  pub table_passes : (len : ℕ) → arenas_end t ≤ len → Passes len (table_bytes t)
   table_passes len room = record {
     long = omega arith;
     magic = refl;
@@ -101,7 +101,7 @@ module _ (t : Table) (is : IsTable t) where
   }
 
 -- bytes spell one table
-pub table_unique : (s t : Table) → IsTable s → IsTable t → spelled s ≡ spelled t → s ≡ t
+pub table_unique : (s t : Table) → IsTable s → IsTable t → table_bytes s ≡ table_bytes t → s ≡ t
 table_unique s t s_is t_is same =
     let names : s.name ≡ t.name =
     name_unique 64 s.name t.name s_is.name_len t_is.name_len s_is.name_end t_is.name_end
@@ -118,9 +118,9 @@ partition_unique s t file one other = table_unique s t one.table other.table (sy
     ∙ other.spelling)
 
 pub partition_passes : (t : Table) (file : List ℕ) → IsPartition t file
-    → first_bad (length file) (head_of file) ≡ None
+    → first_bad_part (length file) (head_of file) ≡ None
 partition_passes t file is =
-    rw is.spelling (passing (length file) (spelled t) (table_passes t is.table
+    rw is.spelling (passing (length file) (table_bytes t) (table_passes t is.table
     (length file) is.room))
 
 -- what lies behind the block may change
@@ -136,11 +136,11 @@ partition_stays t old new same is = record {
 -- only a fault keeps a partition from being mounted
 pub refused_by_fault : (t : Table) (file : List ℕ) (size : ℕ) (bad : PartBad)
     → length file ≡ size → IsPartition t file
-    → RefusesMount size (head_of file) bad → bad ≡ Fault
+    → RefusesPartMount size (head_of file) bad → bad ≡ Fault
 refused_by_fault t file size bad whole is (inl first) =
     absurd (cc (
       partition_passes t file is,
-      ap (λ (n : ℕ). first_bad n
+      ap (λ (n : ℕ). first_bad_part n
           (head_of file)) whole,
       first,
     ))
@@ -152,7 +152,7 @@ module _ (head : List ℕ) (whole : length head ≡ 82) (are : AreBytes head) (m
     (version : version_in head ≡ 1) where
   pub head_spells : (t : Table) → take 64 (drop 6 head) ≡ filled 64 t.name
       → arena_size_in head ≡ t.arena_size
-      → count_in head ≡ t.count → head ≡ spelled t
+      → count_in head ≡ t.count → head ≡ table_bytes t
   head_spells t name arena_size count =
       let none : drop 82 head ≡ [] = drop_all 82 head (omega arith) in
       let from_78 : drop 78 head ≡ big_bytes 4 t.count =
@@ -180,7 +180,7 @@ bytes_behind n xs are i = subst (λ b. b < 256) (sym (get_or-drop n xs i 0)) (ar
 
 -- bytes in which no test fails are a partition
 pub passing_partition : (file : List ℕ) → AreBytes file
-    → first_bad (length file) (head_of file) ≡ None
+    → first_bad_part (length file) (head_of file) ≡ None
     → (t : Table) × IsPartition t file
 passing_partition file are none =
     let head : List ℕ = head_of file in

@@ -3,10 +3,10 @@ use Rattle.std.specs.Prelude.{◌≡◌, ◌≢◌, ◌==◌, ◌⊎◌, ℕ, �
 use Rattle.std.specs.Str.{bytes_eq}
 use Rattle.byteorder.specs.Endian.{big_number}
 use Rattle.vt_disk.specs.declared.TheConstants.{BLOCK_LEN, LEAST_ARENA}
-use Rattle.vt_part.specs.declared.bad.Field.{Field}
-use Rattle.vt_part.specs.declared.bad.Field.TheVariants.{Version, ArenaSize, Count}
-use Rattle.vt_part.specs.declared.bad.PartBad.{PartBad}
-use Rattle.vt_part.specs.declared.bad.PartBad.TheVariants.{Fault, TooSmall, NotFormatted, Torn, DuplicateName, NoMemory}
+use Rattle.vt_part.specs.declared.error.Field.{Field}
+use Rattle.vt_part.specs.declared.error.Field.TheVariants.{Version, ArenaSize, Count}
+use Rattle.vt_part.specs.declared.error.PartBad.{PartBad}
+use Rattle.vt_part.specs.declared.error.PartBad.TheVariants.{Fault, TooSmall, NotFormatted, Torn, DuplicateName, NoMemory}
 use Rattle.vt_part.specs.Table.{is_arena_size, IsArenaSize, start_by}
 
 -- What the fields say, by their places.
@@ -24,8 +24,8 @@ abbrev pub end_in : List ℕ → ℕ
 end_in head = start_by (arena_size_in head) (count_in head)
 
 -- the first test of a table's fields that fails, on a disk of this length
-abbrev pub first_bad : (len : ℕ) → (head : List ℕ) → Option PartBad
-first_bad len head =
+abbrev pub first_bad_part : (len : ℕ) → (head : List ℕ) → Option PartBad
+first_bad_part len head =
     if nat_lt len BLOCK_LEN then Some (TooSmall len BLOCK_LEN)
     else if not (bytes_eq (take 4 head) (codes "VPRT")) then Some NotFormatted
     else if not (version_in head == 1) then Some (Torn Version (version_in head) 1)
@@ -37,12 +37,13 @@ first_bad len head =
 
 -- mounting is refused by the first test that fails or, where the disk has a block 0, since the read
 -- of it fails
-abbrev pub RefusesMount : (len : ℕ) → (head : List ℕ) → PartBad → Type 0
-RefusesMount len head bad = (first_bad len head ≡ Some bad) ⊎ ((BLOCK_LEN ≤ len) × (bad ≡ Fault))
+abbrev pub RefusesPartMount : (len : ℕ) → (head : List ℕ) → PartBad → Type 0
+RefusesPartMount len head bad =
+    (first_bad_part len head ≡ Some bad) ⊎ ((BLOCK_LEN ≤ len) × (bad ≡ Fault))
 
 -- formatting is refused where an arena has no room or, where it has, since a call of the disk fails
-abbrev pub RefusesFormat : (len arena_size : ℕ) → PartBad → Type 0
-RefusesFormat len arena_size bad =
+abbrev pub RefusesPartFormat : (len arena_size : ℕ) → PartBad → Type 0
+RefusesPartFormat len arena_size bad =
     ((len < BLOCK_LEN + arena_size) × (bad ≡ TooSmall len (BLOCK_LEN + arena_size)))
     ⊎ ((BLOCK_LEN + arena_size ≤ len) × (bad ≡ Fault))
 
@@ -59,21 +60,21 @@ IsEnd place = (arena_size : ℕ) × (count : ℕ) × IsArenaSize arena_size × (
 
 -- What is known of a refusal to mount a disk of this size, even where the disk doesn't tell what it
 -- holds: the values that the refusal names make it one.
-abbrev pub NamesItsCause : (size : ℕ) → PartBad → Type 0
-NamesItsCause size (TooSmall len need) =
+abbrev pub NamesPartCause : (size : ℕ) → PartBad → Type 0
+NamesPartCause size (TooSmall len need) =
     (len ≡ size) × (size < need) × (size < BLOCK_LEN → need ≡ BLOCK_LEN)
     × (BLOCK_LEN ≤ size → IsEnd need)
-NamesItsCause size Fault = BLOCK_LEN ≤ size
-NamesItsCause size NotFormatted = BLOCK_LEN ≤ size
-NamesItsCause size (Torn field found want) = (BLOCK_LEN ≤ size) × Differs field found want
-NamesItsCause size (DuplicateName first second) = ⊥
-NamesItsCause size NoMemory = ⊥
+NamesPartCause size Fault = BLOCK_LEN ≤ size
+NamesPartCause size NotFormatted = BLOCK_LEN ≤ size
+NamesPartCause size (Torn field found want) = (BLOCK_LEN ≤ size) × Differs field found want
+NamesPartCause size (DuplicateName first second) = ⊥
+NamesPartCause size NoMemory = ⊥
 
 -- the refusal tells of a fault of the disk in this call
-abbrev pub is_fault : PartBad → Bool
-is_fault Fault = true
-is_fault (TooSmall len need) = false
-is_fault NotFormatted = false
-is_fault (Torn field found want) = false
-is_fault (DuplicateName first second) = false
-is_fault NoMemory = false
+abbrev pub is_part_fault : PartBad → Bool
+is_part_fault Fault = true
+is_part_fault (TooSmall len need) = false
+is_part_fault NotFormatted = false
+is_part_fault (Torn field found want) = false
+is_part_fault (DuplicateName first second) = false
+is_part_fault NoMemory = false

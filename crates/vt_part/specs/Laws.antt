@@ -4,9 +4,9 @@ use Rattle.vt_base.specs.Bytes.{AreBytes}
 use Rattle.vt_disk.specs.declared.TheConstants.{BLOCK_LEN}
 use Rattle.vt_disk.specs.Disk.{IsAligned, SameBut}
 use Rattle.vt_part.specs.declared.layout.ArenaRegion.{ArenaRegion}
-use Rattle.vt_part.specs.Faults.{first_bad}
+use Rattle.vt_part.specs.Faults.{first_bad_part}
 use Rattle.vt_part.specs.Layout.{arena_of, layout_of}
-use Rattle.vt_part.specs.Table.{Table, IsTable, IsPartition, head_of, start_of, end_of}
+use Rattle.vt_part.specs.Table.{Table, IsTable, IsPartition, head_of, start_of, arenas_end}
 
 -- no bytes are two partitions
 abbrev pub IsUnambiguous : Type 0
@@ -15,12 +15,12 @@ IsUnambiguous = (s t : Table) (file : List ℕ) → IsPartition s file → IsPar
 -- no test fails on a partition
 abbrev pub PassesPartitions : Type 0
 PassesPartitions = (t : Table) (file : List ℕ) → IsPartition t file
-    → first_bad (length file) (head_of file) ≡ None
+    → first_bad_part (length file) (head_of file) ≡ None
 
 -- and on other bytes one does
 abbrev pub PassesPartitionsOnly : Type 0
 PassesPartitionsOnly = (file : List ℕ) → AreBytes file
-    → first_bad (length file) (head_of file) ≡ None → (t : Table) × IsPartition t file
+    → first_bad_part (length file) (head_of file) ≡ None → (t : Table) × IsPartition t file
 
 -- what is done behind the block leaves a partition what it is
 abbrev pub PartitionsStay : Type 0
@@ -33,15 +33,15 @@ ArenasFollow = (t : Table) (i j : ℕ) → i < j → start_of t i + t.arena_size
 
 abbrev pub ArenasAreInside : Type 0
 ArenasAreInside = (t : Table) (i : ℕ) → i < t.count
-    → (BLOCK_LEN ≤ start_of t i) × (start_of t i + t.arena_size ≤ end_of t)
+    → (BLOCK_LEN ≤ start_of t i) × (start_of t i + t.arena_size ≤ arenas_end t)
 
 abbrev pub ArenasAreAligned : Type 0
 ArenasAreAligned = (t : Table) (i : ℕ) → IsTable t
     → IsAligned (start_of t i) × IsAligned t.arena_size
 
 -- this is the region of an arena of these partitions
-abbrev pub IsArena : (tables : List Table) → ArenaRegion → Type 0
-IsArena tables arena = (t : Table) × (slice_get tables arena.part ≡ Some t)
+abbrev pub IsArenaOfTable : (tables : List Table) → ArenaRegion → Type 0
+IsArenaOfTable tables arena = (t : Table) × (slice_get tables arena.part ≡ Some t)
     × (arena.number < t.count) × (arena ≡ arena_of arena.part t arena.number)
 
 -- an arena of an earlier partition, or a region that ends before the other one begins
@@ -50,7 +50,7 @@ IsBefore a b = (a.part < b.part)
     ⊎ ((a.part ≡ b.part) × (a.region.start + a.region.len ≤ b.region.start))
 
 abbrev pub LayoutsHaveArenas : Type 0
-LayoutsHaveArenas = (tables : List Table) → All (IsArena tables) (layout_of tables)
+LayoutsHaveArenas = (tables : List Table) → All (IsArenaOfTable tables) (layout_of tables)
 
 -- each arena of each partition is listed, and so many are
 abbrev pub LayoutsListArenas : Type 0

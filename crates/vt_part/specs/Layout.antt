@@ -2,26 +2,27 @@
 use Rattle.std.specs.Prelude.{◌≡◌, ℕ, ◌<◌, ◌≤◌, List, [], map, flat_map, length, slice_index_or}
 use Rattle.std.specs.List.{range_with_len, enumerate_from}
 use Rattle.vt_disk.specs.declared.region.Region.{Region}
-use Rattle.vt_part.specs.declared.bad.PartBad.{PartBad}
-use Rattle.vt_part.specs.declared.bad.PartBad.TheVariants.{Fault, TooSmall, NotFormatted, Torn, DuplicateName, NoMemory}
+use Rattle.vt_part.specs.declared.error.PartBad.{PartBad}
+use Rattle.vt_part.specs.declared.error.PartBad.TheVariants.{Fault, TooSmall, NotFormatted, Torn, DuplicateName, NoMemory}
 use Rattle.vt_part.specs.declared.layout.ArenaRegion.{ArenaRegion}
 use Rattle.vt_part.specs.Table.{Table, start_of}
 
 -- where an arena of a table stands, by its number
-abbrev pub region_of : Table → (number : ℕ) → Region
-region_of t number = record { start = start_of t number; len = t.arena_size }
+abbrev pub arena_region : Table → (number : ℕ) → Region
+arena_region t number = record { start = start_of t number; len = t.arena_size }
 
 -- an arena of the partition with this number, by its own number
 abbrev pub arena_of : (part : ℕ) → Table → (number : ℕ) → ArenaRegion
-arena_of part t number = record { part = part; number = number; region = region_of t number }
+arena_of part t number = record { part = part; number = number; region = arena_region t number }
 
 -- all of them, in order
-abbrev pub arenas_of : (part : ℕ) → Table → List ArenaRegion
-arenas_of part t = map (arena_of part t) (range_with_len 0 t.count)
+abbrev pub arenas_of_table : (part : ℕ) → Table → List ArenaRegion
+arenas_of_table part t = map (arena_of part t) (range_with_len 0 t.count)
 
 -- and those of all partitions, in order
 abbrev pub layout_of : List Table → List ArenaRegion
-layout_of tables = flat_map (λ numbered. arenas_of numbered.0 numbered.1) (enumerate_from 0 tables)
+layout_of tables =
+    flat_map (λ numbered. arenas_of_table numbered.0 numbered.1) (enumerate_from 0 tables)
 
 -- the name of the partition with this number
 abbrev pub name_at : (names : List (List ℕ)) → ℕ → List ℕ

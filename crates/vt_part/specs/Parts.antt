@@ -1,6 +1,6 @@
 -- Partitions in memory.
 use Rattle.std.specs.Prelude.{ℕ, List, take, map, Result, Ok, Err}
-use Rattle.vt_part.specs.declared.bad.PartBad.{PartBad}
+use Rattle.vt_part.specs.declared.error.PartBad.{PartBad}
 use Rattle.vt_part.specs.declared.head.Head.{Head}
 use Rattle.vt_part.specs.declared.part.Part.{Part}
 use Rattle.vt_part.specs.Table.{Table}

@@ -7,7 +7,7 @@ use Rattle.std.specs.Prelude.{◌≡◌, ◌≢◌, ◌==◌, ℕ, ◌+◌, ◌-
 use Rattle.std.specs.Char.{is_ascii_alphanumeric}
 use Rattle.byteorder.specs.Endian.{big_bytes}
 use Rattle.vt_disk.specs.declared.TheConstants.{BLOCK_LEN, NAME_LEN, LEAST_ARENA, MOST_ARENA}
-use Rattle.vt_fields.specs.Filled.{filled}
+use Rattle.vt_base.specs.Filled.{filled}
 use Rattle.vt_part.specs.declared.TheConstants.{TABLE_LEN}
 
 -- what the table says: the partition's name, the size of its arenas, and how many there are
@@ -21,7 +21,7 @@ abbrev pub is_name_byte : ℕ → Bool
 is_name_byte b = is_ascii_alphanumeric b || b == 46 || b == 45 || b == 95
 
 -- the names that a partition is given
-pub record IsName (name : List ℕ) : Type 0 where
+pub record IsPartName (name : List ℕ) : Type 0 where
   pub some : 0 < length name
   pub most : length name ≤ NAME_LEN
   pub each : All (λ b. IsTrue (is_name_byte b)) name
@@ -46,8 +46,8 @@ pub record IsTable (t : Table) : Type 0 where
   pub count : t.count < 2 ^ 32
 
 -- the table's bytes
-abbrev pub spelled : Table → List ℕ
-spelled t = codes "VPRT" ++ (big_bytes 2 1 ++ (filled NAME_LEN t.name
+abbrev pub table_bytes : Table → List ℕ
+table_bytes t = codes "VPRT" ++ (big_bytes 2 1 ++ (filled NAME_LEN t.name
     ++ (big_bytes 8 t.arena_size ++ big_bytes 4 t.count)))
 
 -- the bytes of a disk that the table stands in
@@ -55,8 +55,8 @@ abbrev pub head_of : (file : List ℕ) → List ℕ
 head_of file = take TABLE_LEN file
 
 -- the block as it is written
-abbrev pub block_of : Table → List ℕ
-block_of t = filled BLOCK_LEN (spelled t)
+abbrev pub table_block : Table → List ℕ
+table_block t = filled BLOCK_LEN (table_bytes t)
 
 -- where an arena begins, by its number from 0 on, among arenas of this size
 abbrev pub start_by : (arena_size number : ℕ) → ℕ
@@ -66,14 +66,14 @@ start_by arena_size number = BLOCK_LEN + number * arena_size
 abbrev pub start_of : Table → (number : ℕ) → ℕ
 start_of t number = start_by t.arena_size number
 
-abbrev pub end_of : Table → ℕ
-end_of t = start_of t t.count
+abbrev pub arenas_end : Table → ℕ
+arenas_end t = start_of t t.count
 
 -- the disk's bytes are a partition with this table
 pub record IsPartition (t : Table) (file : List ℕ) : Type 0 where
   pub table : IsTable t
-  pub spelling : head_of file ≡ spelled t
-  pub room : end_of t ≤ length file
+  pub spelling : head_of file ≡ table_bytes t
+  pub room : arenas_end t ≤ length file
 
 -- How many arenas of this size a disk of this length has room for. The count's field has four
 -- bytes, so that the end of a disk of more than 128 TiB may be left unused.

@@ -5,19 +5,19 @@ ghost use Rattle.byteorder.specs.Endian.{big_bytes};
 ghost use Rattle.vt_base.specs.Faults.{CountsFault};
 ghost use Rattle.vt_disk.specs.Calls.{WritesAt, MadeCalls, IsSynced};
 ghost use Rattle.vt_disk.specs.Disk.{Touches, with_bytes};
-ghost use Rattle.vt_part.specs.Faults.{RefusesFormat, is_fault};
-ghost use Rattle.vt_part.specs.Table.{IsName, IsArenaSize, IsPartition, block_of, count_for, table_for};
+ghost use Rattle.vt_part.specs.Faults.{RefusesPartFormat, is_part_fault};
+ghost use Rattle.vt_part.specs.Table.{IsPartName, IsArenaSize, IsPartition, table_block, count_for, table_for};
 
 use crate::TABLE_LEN;
-use crate::bad::PartBad;
+use crate::error::PartBad;
 use vt_base::Text;
+use vt_base::fields::{filled, put, put_u16, put_u32, put_u64};
 use vt_disk::{BLOCK_LEN, Disk, LEAST_ARENA, MOST_ARENA, NAME_LEN};
-use vt_fields::{filled, put, put_u16, put_u32, put_u64};
 
 /// Whether a partition may be given this name. It has 1 to 64 bytes, each a letter or a digit of
 /// ASCII, a dot, a dash or an underscore.
 pub fn is_name(name: &[u8]) -> bool
-    ensures { IsTrue result ↔ IsName name.now }
+    ensures { IsTrue result ↔ IsPartName name.now }
 {
     !name.is_empty()
         && name.len() <= NAME_LEN
@@ -34,12 +34,12 @@ pub fn is_arena_size(size: u64) -> bool
 /// Makes the disk a partition of as many arenas as it has room for: writes block 0 and syncs it.
 /// Gives the count of arenas, which are still to be formatted.
 pub fn format<D: Disk>(disk: &mut D, name: &Text, arena_size: u64) -> Result<u32, PartBad>
-    requires name { IsName name.now }
+    requires name { IsPartName name.now }
     requires arena_size { IsArenaSize arena_size }
 
     ensures count { IfOk result (λ n. n ≡ count_for (D.size disk.old) arena_size) }
     ensures written { OnOk result (IsTrue D.tells → D.bytes disk.new ≡ with_bytes 0
-        (block_of (table_for name.now (D.size disk.old) arena_size)) (D.bytes disk.old)) }
+        (table_block (table_for name.now (D.size disk.old) arena_size)) (D.bytes disk.old)) }
 
     // Whatever a crash leaves from then on, it leaves the partition.
     ensures partition { OnOk result (IsTrue D.tells → (c : List ℕ) → D.images disk.new c
@@ -47,7 +47,7 @@ pub fn format<D: Disk>(disk: &mut D, name: &Text, arena_size: u64) -> Result<u32
     ensures settled { OnOk result (IsSynced D.Disk disk.new) }
 
     ensures room { OnOk result (BLOCK_LEN + arena_size ≤ D.size disk.old) }
-    ensures refused { IfErr result (RefusesFormat (D.size disk.old) arena_size) }
+    ensures refused { IfErr result (RefusesPartFormat (D.size disk.old) arena_size) }
     ensures untouched { D.size disk.old < BLOCK_LEN + arena_size → disk.new ≡ disk.old }
 
     // Nothing behind the block changes, and nothing is done behind a call that fails: that is the
@@ -57,8 +57,8 @@ pub fn format<D: Disk>(disk: &mut D, name: &Text, arena_size: u64) -> Result<u32
     ensures failed { result ≡ Err PartBad.Fault → MadeCalls D.Disk 1 disk.old disk.new
         ⊎ (MadeCalls D.Disk 2 disk.old disk.new
         × (IsTrue D.tells → D.bytes disk.new ≡ with_bytes 0
-        (block_of (table_for name.now (D.size disk.old) arena_size)) (D.bytes disk.old))) }
-    ensures cause { CountsFault is_fault result (D.faults disk.old) (D.faults disk.new) }
+        (table_block (table_for name.now (D.size disk.old) arena_size)) (D.bytes disk.old))) }
+    ensures cause { CountsFault is_part_fault result (D.faults disk.old) (D.faults disk.new) }
 {
     let len = disk.len();
     let need = BLOCK_LEN as u64 + arena_size;
@@ -75,7 +75,7 @@ pub fn format<D: Disk>(disk: &mut D, name: &Text, arena_size: u64) -> Result<u32
 fn encode(name: &[u8], arena_size: u64, count: u32) -> [u8; BLOCK_LEN]
     requires { length name.now ≤ NAME_LEN }
     ensures { result
-        ≡ block_of (record { name = name.now; arena_size = arena_size; count = count }) }
+        ≡ table_block (record { name = name.now; arena_size = arena_size; count = count }) }
 {
     let head = encode_head(&filled(name), arena_size, count);
     filled(&head)

@@ -2,15 +2,15 @@
 
 ghost use Rattle.std.specs.Prelude.{◌≡◌, ◌<◌, ◌≤◌, None, Some, MatchResult, IfOk, IfErr, length, take};
 ghost use Rattle.vt_disk.specs.declared.TheConstants.{NAME_LEN};
-ghost use Rattle.vt_fields.specs.Filled.{filled};
-ghost use Rattle.vt_part.specs.Table.{end_of, spelled, HasNoFill, IsTable};
-ghost use Rattle.vt_part.specs.Faults.{first_bad, NamesItsCause};
+ghost use Rattle.vt_base.specs.Filled.{filled};
+ghost use Rattle.vt_part.specs.Table.{arenas_end, table_bytes, HasNoFill, IsTable};
+ghost use Rattle.vt_part.specs.Faults.{first_bad_part, NamesPartCause};
 
 use crate::TABLE_LEN;
-use crate::bad::{Field, PartBad};
+use crate::error::{Field, PartBad};
 use crate::formatting::is_arena_size;
+use vt_base::fields::{u16_at, u32_at, u64_at};
 use vt_disk::{BLOCK_LEN, LEAST_ARENA, NAME_LEN};
-use vt_fields::{u16_at, u32_at, u64_at};
 
 /// The table of a partition's arenas.
 #[derive(Drop)]
@@ -34,12 +34,12 @@ impl Head {
     /// The table that these bytes spell, on a disk of this length.
     pub fn decode(head: &[u8; TABLE_LEN], len: u64) -> Result<Head, PartBad>
         requires { BLOCK_LEN ≤ len }
-        ensures spelling { IfOk result (λ it. head.now ≡ spelled (table_in it)) }
+        ensures spelling { IfOk result (λ it. head.now ≡ table_bytes (table_in it)) }
         ensures table { IfOk result (λ it. IsTable (table_in it)) }
-        ensures room { IfOk result (λ it. end_of (table_in it) ≤ len) }
-        ensures refused { MatchResult result (λ _. first_bad len head.now ≡ None)
-            (λ bad. first_bad len head.now ≡ Some bad) }
-        ensures differs { IfErr result (NamesItsCause len) }
+        ensures room { IfOk result (λ it. arenas_end (table_in it) ≤ len) }
+        ensures refused { MatchResult result (λ _. first_bad_part len head.now ≡ None)
+            (λ bad. first_bad_part len head.now ≡ Some bad) }
+        ensures differs { IfErr result (NamesPartCause len) }
     {
         if head[..4] != b"VPRT"[..] {
             return Err(PartBad::NotFormatted);

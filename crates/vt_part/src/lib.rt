@@ -3,7 +3,7 @@
 // Tests: crates/vt_disk_tests/src/part.rt.
 #![tactic(auto)]
 
-mod bad;
+mod error;
 mod formatting;
 mod head;
 mod laws;
@@ -12,7 +12,7 @@ mod listing;
 mod mounting;
 mod part;
 
-pub use bad::{Field, PartBad};
+pub use error::{Field, PartBad};
 pub use formatting::{format, is_arena_size, is_name};
 pub use laws::{
     arenas_are_apart, layouts_are_in_order, partitions_are_told_apart, partitions_stay_on_disks,

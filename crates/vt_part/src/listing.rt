@@ -1,10 +1,10 @@
 //! The arenas of a list of partitions.
 
 ghost use Rattle.std.specs.Prelude.{◌≡◌, ◌^◌, ◌<◌, ◌≤◌, ◌++◌, ℕ, length, IfOk, IfErr, OnOk, IfSome, IfNone};
-ghost use Rattle.vt_part.specs.Layout.{arenas_of, layout_of, AreNamesakes, AreFirstNamesakes, AreDistinct, RefusesList};
+ghost use Rattle.vt_part.specs.Layout.{arenas_of_table, layout_of, AreNamesakes, AreFirstNamesakes, AreDistinct, RefusesList};
 ghost use Rattle.vt_part.specs.Parts.{table_of, tables_of, names_of};
 
-use crate::bad::PartBad;
+use crate::error::PartBad;
 use crate::layout::{ArenaRegion, Layout};
 use crate::part::Part;
 use std::alloc::Global;
@@ -60,7 +60,7 @@ fn namesake<D>(parts: &[Part<D>], first: usize) -> Option<usize>
 /// Puts the regions of a partition's arenas behind those that are there.
 fn push_arenas<D>(arenas: &mut Vec<ArenaRegion>, number: u32, part: &Part<D>) -> Result<(), PartBad>
     ensures pushed { OnOk result
-        (arenas.new.items ≡ arenas.old.items ++ arenas_of number (table_of part.now)) }
+        (arenas.new.items ≡ arenas.old.items ++ arenas_of_table number (table_of part.now)) }
     ensures refused { IfErr result (λ bad. bad ≡ PartBad.NoMemory) }
 {
     for arena in 0..part.count() {

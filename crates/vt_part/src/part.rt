@@ -1,7 +1,7 @@
 //! A partition of arenas.
 
 ghost use Rattle.std.specs.Prelude.{◌≡◌, ◌<◌};
-ghost use Rattle.vt_part.specs.Layout.{region_of};
+ghost use Rattle.vt_part.specs.Layout.{arena_region};
 ghost use Rattle.vt_part.specs.Parts.{disk_of, table_of};
 ghost use Rattle.vt_part.specs.Table.{IsTable};
 
@@ -41,7 +41,7 @@ impl<D> Part<D> {
     /// The region of an arena on the disk. Arenas are counted from 0.
     pub fn region(&self, number: u32) -> Region
         requires { number < (table_of self.now).count }
-        ensures region { result ≡ region_of (table_of self.now) number }
+        ensures region { result ≡ arena_region (table_of self.now) number }
         ensures table { IsTable (table_of self.now) }
     {
         Region {

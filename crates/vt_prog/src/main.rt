@@ -3,14 +3,14 @@
 
 ghost use Rattle.std.specs.Prelude.{◌≡◌, drop};
 
-use run_base::{Failure, Outside};
+use run_base::{CommandError, Outside};
 use std::alloc::Global;
 use std::env;
 use std::io::{ErrorKind, IsTerminal, Stderr};
 use std::process::ExitCode;
 use std::rt::Env;
-use vt_answer::Streams;
 use vt_commands::{end, run};
+use vt_handler::Streams;
 use vt_host::{FileParts, StdClock, StdDialer, StdFiles, StdFolders, StdSink, StdSource};
 
 fn main(rt: HostRuntime) -> ExitCode {
@@ -44,11 +44,11 @@ fn terminal(rt: HostRuntime) -> Option<StdSink<Stderr>> {
 }
 
 /// The command line. One with a word that isn't UTF-8 is faulty.
-fn arguments(rt: &(impl Env + AllocGlobal)) -> Result<Vec<String>, Failure> {
+fn arguments(rt: &(impl Env + AllocGlobal)) -> Result<Vec<String>, CommandError> {
     match env::args(rt) {
-        Ok(args) => args.collect(rt.alloc()).map_err(|_| Failure::NoMemory),
-        Err(error) if error.kind() == ErrorKind::OutOfMemory => Err(Failure::NoMemory),
-        Err(_) => Err(Failure::BadWords),
+        Ok(args) => args.collect(rt.alloc()).map_err(|_| CommandError::NoMemory),
+        Err(error) if error.kind() == ErrorKind::OutOfMemory => Err(CommandError::NoMemory),
+        Err(_) => Err(CommandError::BadWords),
     }
 }
 

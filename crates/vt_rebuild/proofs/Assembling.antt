@@ -11,25 +11,25 @@ use Rattle.vt_isect.specs.declared.phase.Phase.TheVariants.{Rest, ChangeHead}
 use Rattle.vt_isect.specs.Agreement.{AgreesWith, KnownAgrees, LeavesAgreeing}
 use Rattle.vt_isect.specs.Layout.{IsSection}
 use Rattle.vt_isect.specs.Section.{SectionState}
-use Rattle.vt_isect.specs.Sound.{DiskHolds, Known, nothing_known}
+use Rattle.vt_isect.specs.Sound.{DiskHolds, KnownBuckets, nothing_known}
 use Rattle.vt_model.specs.History.{History}
 use Rattle.vt_model.specs.Places.{Setup, bucket_count, first_bucket}
-use Rattle.vt_rebuild.specs.declared.bad.RebuildBad.{RebuildBad}
-use Rattle.vt_rebuild.specs.declared.bad.RebuildBad.TheVariants.{Fault, IndexFull, NoMemory}
-use Rattle.vt_rebuild.specs.Building.{AreBegun, AreFinished, AreHalfBegun, AreHalfFinished, IsBegun, IsFinished, IsRefusedFor, IsStopped, IsToFinish, in_use}
+use Rattle.vt_rebuild.specs.declared.error.RebuildBad.{RebuildBad}
+use Rattle.vt_rebuild.specs.declared.error.RebuildBad.TheVariants.{Fault, IndexFull, NoMemory}
+use Rattle.vt_rebuild.specs.Building.{AreBegun, AreFinished, AreHalfBegun, AreHalfFinished, IsBuildBegun, IsFinished, IsRefusedFor, IsStoppedBuild, IsToFinish, in_use}
 use Rattle.vt_rebuild.specs.Walking.{FaultOrMemory}
 use Rattle.vt_rebuild.specs.Heads.{head_in}
-use Rattle.vt_rebuild.specs.Rebuilt.{AreHalfRebuilt, AreRebuilt, IsBeingBuilt, IsComing, IsOpened, IsRebuilt, IsUnwritten, MayBeInUse, counts_of}
+use Rattle.vt_rebuild.specs.Rebuilt.{AreHalfRebuilt, AreRebuilt, IsBeingBuilt, IsComing, IsOpened, IsRebuilt, IsUnwrittenSection, MayBeInUse, counts_of}
 use Rattle.vt_rebuild.proofs.Finishing.{same_then}
 use Rattle.vt_rebuild.proofs.InTurn.{by_place, some_at}
 
 -- what a crash leaves of a section of which all is known that agrees with the history
 abbrev pub ImagesAgree : {D : Type 0} → DiskOf D → Type 0
-ImagesAgree {D} disk = (score : List ℕ → List ℕ) (c : Setup) (h : History) (t : SectionState D) (known : Known)
+ImagesAgree {D} disk = (score : List ℕ → List ℕ) (c : Setup) (h : History) (t : SectionState D) (known : KnownBuckets)
     → DiskHolds disk t known → KnownAgrees score c h t known → (file : List ℕ) → disk.images t.disk file → LeavesAgreeing score c h t known file
 
 module _ {D : Type 0} (score : List ℕ → List ℕ) (disk : DiskOf D) (c : Setup) (h : History) (first : ℕ) (old mid new : SectionState D)
-    (tells : IsTrue disk.tells) (begun : IsBegun disk first (bucket_count c) old mid) (opened : DiskHolds disk old nothing_known) where
+    (tells : IsTrue disk.tells) (begun : IsBuildBegun disk first (bucket_count c) old mid) (opened : DiskHolds disk old nothing_known) where
   holds_mid : DiskHolds disk mid nothing_known
   holds_mid = begun.built.holds tells opened
 
@@ -64,7 +64,7 @@ module _ {D : Type 0} (score : List ℕ → List ℕ) (disk : DiskOf D) (c : Set
       }
 
   -- it is still being built, or all its entries are there
-  pub half_stopped : IsStopped score disk c h mid new → IsBeingBuilt disk first (bucket_count c) old new ⊎ IsComing score disk c h first old new
+  pub half_stopped : IsStoppedBuild score disk c h mid new → IsBeingBuilt disk first (bucket_count c) old new ⊎ IsComing score disk c h first old new
   half_stopped stop =
       let same = same_then disk old mid new begun.built.same stop.same in
       let head_is : new.head ≡ head_in 2 first old.buckets (bucket_count c) 0 = stop.head ∙ begun.built.head in
@@ -190,9 +190,9 @@ module _ {D : Type 0} (score : List ℕ → List ℕ) (disk : DiskOf D) (c : Set
   }
     where
       unwritten_here : (i : ℕ) (a d : SectionState D) → i ≡ stop.at → slice_get olds i ≡ Some a → slice_get news i ≡ Some d
-          → IsUnwritten disk (first_bucket (counts_of olds) i) (bucket_count c) a d
+          → IsUnwrittenSection disk (first_bucket (counts_of olds) i) (bucket_count c) a d
       unwritten_here i a d is at there =
-          subst (λ (k : ℕ). IsUnwritten disk (first_bucket (counts_of olds) k) (bucket_count c) a d) (sym is)
+          subst (λ (k : ℕ). IsUnwrittenSection disk (first_bucket (counts_of olds) k) (bucket_count c) a d) (sym is)
           (stop.here a d (ap (λ (k : ℕ). slice_get olds k) (sym is) ∙ at) (ap (λ (k : ℕ). slice_get news k) (sym is) ∙ there))
 
       none_before : ((i : ℕ) (t : SectionState D) → slice_get news i ≡ Some t → MayBeInUse t) → stop.at ≤ 0
@@ -254,7 +254,7 @@ sum_fits sum result first more most sum_is result_is fits few = omega (arith, su
 pub sum_more : (sum result first more next : ℕ) → sum ≡ first → result ≡ more → next ≡ first + more → sum + result ≡ next
 sum_more sum result first more next sum_is result_is next_is = omega (arith, sum_is, result_is, next_is)
 
-begun_to_finish : {D : Type 0} (disk : DiskOf D) (total first : ℕ) (a b : SectionState D) → IsBegun disk first total a b → first + a.buckets ≤ total → IsToFinish total b
+begun_to_finish : {D : Type 0} (disk : DiskOf D) (total first : ℕ) (a b : SectionState D) → IsBuildBegun disk first total a b → first + a.buckets ≤ total → IsToFinish total b
 begun_to_finish disk total first a b it fits =
     let head = it.built.head in
     let same : b.buckets ≡ a.buckets = it.built.same.buckets in

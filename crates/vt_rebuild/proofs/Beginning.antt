@@ -7,14 +7,14 @@ use Rattle.vt_disk.specs.Members.{DiskOf}
 use Rattle.vt_isect.specs.Section.{IsAtRest, SectionState}
 use Rattle.vt_log.specs.Faults.{OneHasRisen}
 use Rattle.vt_model.specs.Places.{first_bucket}
-use Rattle.vt_rebuild.specs.Building.{AreBegun, AreHalfBegun, IsBegun, disks_under}
+use Rattle.vt_rebuild.specs.Building.{AreBegun, AreHalfBegun, IsBuildBegun, disks_under}
 use Rattle.vt_rebuild.specs.Heads.{HasHead, IsSameSection, StopsAtHead, head_in}
-use Rattle.vt_rebuild.specs.Rebuilt.{IsOpened, IsUnwritten, counts_of}
+use Rattle.vt_rebuild.specs.Rebuilt.{IsOpened, IsUnwrittenSection, counts_of}
 use Rattle.vt_rebuild.proofs.Assembling.{at_all, first_behind, within_all}
 use Rattle.vt_rebuild.proofs.InTurn.{AreDoneTo, all_done, all_stay, at_here, before, behind, done_more, map_then, none_done, old_at, one_rose, within}
 
 abbrev pub BeginsAt : {D : Type 0} → DiskOf D → (total : ℕ) → (olds : List (SectionState D)) → ℕ → SectionState D → SectionState D → Type 0
-BeginsAt disk total olds k a b = IsBegun disk (first_bucket (counts_of olds) k) total a b
+BeginsAt disk total olds k a b = IsBuildBegun disk (first_bucket (counts_of olds) k) total a b
 
 -- those before this place say that they are being built
 pub record AreBeginning {D : Type 0} (disk : DiskOf D) (total number first : ℕ) (olds news : List (SectionState D)) : Type 0 where
@@ -56,7 +56,7 @@ next_fits disk total number first olds mids old it at =
     omega (arith, it.first_is, within_all olds number old (old_at (BeginsAt disk total olds) number olds mids old old it.done at))
 
 is_begun : {D : Type 0} (disk : DiskOf D) (total first : ℕ) (old new : SectionState D) → HasHead disk (head_in 2 first old.buckets total 0) old new → IsSameSection disk old new
-    → (IsTrue disk.tells → disk.calls new.disk ≤ disk.calls old.disk + 4) → IsBegun disk first total old new
+    → (IsTrue disk.tells → disk.calls new.disk ≤ disk.calls old.disk + 4) → IsBuildBegun disk first total old new
 is_begun disk total first old new has same calls = record {
   rest = has.rest;
   built = record { same = same; head = has.head_is; next = has.next_is ∙ sym has.head_is; holds = has.holds };
@@ -72,15 +72,15 @@ module _ {D : Type 0} (disk : DiskOf D) (total number first : ℕ) (olds mids : 
       → disk.faults new.disk ≡ disk.faults old.disk → AreBeginning disk total (number + 1) (first + old.buckets) olds (set mids number new)
   begins_more has calls faults = record {
     done = done_more (BeginsAt disk total olds) number olds mids old new it.done at
-        (subst (λ (n : ℕ). IsBegun disk n total old new) it.first_is (is_begun disk total first old new has same calls));
+        (subst (λ (n : ℕ). IsBuildBegun disk n total old new) it.first_is (is_begun disk total first old new has same calls));
     first_is = ap (λ (n : ℕ). n + old.buckets) it.first_is ∙ sym (first_behind olds number old was_at);
     faults = counts_set disk mids number old new at faults ∙ it.faults;
   }
 
   pub begins_stop : StopsAtHead disk (head_in 2 first old.buckets total 0) old new → AreHalfBegun disk total olds (set mids number new)
   begins_stop stop =
-      let Stopped : ℕ → SectionState D → SectionState D → Type 0 = λ k a b. IsUnwritten disk (first_bucket (counts_of olds) k) total a b in
-      let here : Stopped number old new = subst (λ (n : ℕ). IsUnwritten disk n total old new) it.first_is (inr (same, stop)) in
+      let Stopped : ℕ → SectionState D → SectionState D → Type 0 = λ k a b. IsUnwrittenSection disk (first_bucket (counts_of olds) k) total a b in
+      let here : Stopped number old new = subst (λ (n : ℕ). IsUnwrittenSection disk n total old new) it.first_is (inr (same, stop)) in
       record {
         at = number;
         within = omega (arith, it.done.many, within (BeginsAt disk total olds) number olds mids old new it.done at);

@@ -3,7 +3,7 @@ use Rattle.std.proofs.Common.{◌≡◌, ◌≢◌, ⊎_elim, inr, ℕ, ◌+◌,
 use Rattle.std.specs.Prelude.{IfOk, OnErr, MatchResult, Result, Ok, Err}
 use Rattle.vt_bucket.specs.declared.Bucket.{Bucket}
 use Rattle.vt_bucket.specs.declared.holding.Full.{Full}
-use Rattle.vt_bucket.specs.Buckets.{entries_of}
+use Rattle.vt_bucket.specs.Buckets.{bucket_entries}
 use Rattle.std.specs.List.{All, AllPairs, Contains}
 use Rattle.std.proofs.lemmas.List.Elements.{Contains-append_cases}
 use Rattle.std.proofs.lemmas.List.Kept.{AllPairs-cons}
@@ -13,7 +13,7 @@ use Rattle.vt_base.specs.declared.key.Key.{Key}
 use Rattle.vt_base.specs.declared.place.Entry.{Entry}
 use Rattle.vt_bucket.specs.Order.{IsAscending}
 use Rattle.vt_bucket.proofs.Keys.{not_below_itself}
-use Rattle.vt_isect.specs.Agreement.{IsEntryOf, IsOfBlock}
+use Rattle.vt_isect.specs.Agreement.{IsEntryOf, IsEntryOfBlock}
 use Rattle.vt_isect.specs.Merging.{Merges}
 use Rattle.vt_model.specs.declared.TheConstants.{BUCKET_ROOM}
 use Rattle.vt_model.specs.History.{Accepted, History}
@@ -61,7 +61,7 @@ module _ (score : List ℕ → List ℕ) (c : Setup) (h : History) (total first 
     (can : CanIndex score c h total) (gathered : HasGathered score c h first end 0 entries)
     (own : (entry : Entry) → Contains run entry → Contains entries entry × (bucket_of total entry.key.score.0 ≡ number))
     (all : (entry : Entry) → Contains entries entry → bucket_of total entry.key.score.0 ≡ number → Contains run entry) where
-  own_bucket : (entry : Entry) → Contains run entry → IsOfBlock score c h entry × (bucket_of (bucket_count c) entry.key.score.0 ≡ number)
+  own_bucket : (entry : Entry) → Contains run entry → IsEntryOfBlock score c h entry × (bucket_of (bucket_count c) entry.key.score.0 ≡ number)
   own_bucket entry has =
       let it = own entry has in
       (gathered.own entry it.0, ap (λ (n : ℕ). bucket_of n entry.key.score.0) can.buckets ∙ it.1)
@@ -82,7 +82,7 @@ module _ (score : List ℕ → List ℕ) (c : Setup) (h : History) (total first 
   }
 
   pub too_many : ((es : List Entry) → AllPairs (λ a b. a.key ≢ b.key) es
-      → ((entry : Entry) → Contains es entry → IsOfBlock score c h entry × (bucket_of (bucket_count c) entry.key.score.0 ≡ number))
+      → ((entry : Entry) → Contains es entry → IsEntryOfBlock score c h entry × (bucket_of (bucket_count c) entry.key.score.0 ≡ number))
       → length es ≤ crowd score (bucket_count c) h number)
       → (more : List Entry) × (length more ≡ BUCKET_ROOM + 1) × AllPairs (λ a b. a.key ≢ b.key) more × ((entry : Entry) → Contains more entry → Contains run entry)
       → BUCKET_ROOM < crowd score total h number
@@ -94,10 +94,10 @@ module _ (score : List ℕ → List ℕ) (c : Setup) (h : History) (total first 
   -- both answers
   pub bucket_answers : ((i j : ℕ) (a b : Entry) → AllPairs (HasOtherKey score) h → IsEntryOf score c h i a → IsEntryOf score c h j b → a.key ≡ b.key → (i ≡ j) × (a ≡ b))
       → ((es : List Entry) → AllPairs (λ a b. a.key ≢ b.key) es
-      → ((entry : Entry) → Contains es entry → IsOfBlock score c h entry × (bucket_of (bucket_count c) entry.key.score.0 ≡ number))
+      → ((entry : Entry) → Contains es entry → IsEntryOfBlock score c h entry × (bucket_of (bucket_count c) entry.key.score.0 ≡ number))
       → length es ≤ crowd score (bucket_count c) h number)
-      → first ≤ number → number < end → (r : Result Bucket Full) → IfOk r (λ bucket. Merges [] (Contains run) (entries_of bucket))
+      → first ≤ number → number < end → (r : Result Bucket Full) → IfOk r (λ bucket. Merges [] (Contains run) (bucket_entries bucket))
       → OnErr r ((more : List Entry) × (length more ≡ BUCKET_ROOM + 1) × AllPairs (λ a b. a.key ≢ b.key) more × ((entry : Entry) → Contains more entry → Contains run entry))
-      → MatchResult r (λ bucket. HasItsBlocks score c h number (entries_of bucket)) (λ _. BUCKET_ROOM < crowd score total h number)
-  bucket_answers one most least below (Ok bucket) merged full = has_blocks one (entries_of bucket) merged least below
+      → MatchResult r (λ bucket. HasItsBlocks score c h number (bucket_entries bucket)) (λ _. BUCKET_ROOM < crowd score total h number)
+  bucket_answers one most least below (Ok bucket) merged full = has_blocks one (bucket_entries bucket) merged least below
   bucket_answers one most least below (Err refused) merged full = too_many most full

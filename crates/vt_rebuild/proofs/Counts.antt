@@ -2,9 +2,9 @@
 use Rattle.std.proofs.Common.{◌≡◌, ◌⊎◌, inl, inr, ℕ, List, true, false, subst}
 use Rattle.std.specs.Prelude.{Bool, MatchBool, OnOk, OnErr, Result, Ok, Err}
 use Rattle.vt_base.specs.Faults.{HasRisen}
-use Rattle.vt_isect.specs.Faults.{is_fault}
-use Rattle.vt_isect.specs.declared.bad.ShardErr.{ShardErr}
-use Rattle.vt_isect.specs.declared.bad.ShardErr.TheVariants.{Fault}
+use Rattle.vt_isect.specs.Faults.{is_section_fault}
+use Rattle.vt_isect.specs.declared.error.ShardErr.{ShardErr}
+use Rattle.vt_isect.specs.declared.error.ShardErr.TheVariants.{Fault}
 use Rattle.vt_log.specs.Faults.{OneHasRisen}
 
 -- the counts of the log's disks before and after, and that of the section's
@@ -27,8 +27,8 @@ section_counts true logs logs' one one' same rose = inr (same, rose)
 section_counts false logs logs' one one' same stays = (same, stays)
 
 -- the section's call failed
-pub section_rose : (bad : ShardErr) (old new : ℕ) → bad ≡ Fault → MatchBool (is_fault bad) (HasRisen old new) (new ≡ old) → HasRisen old new
-section_rose bad old new is counts = subst (λ (b : ShardErr). MatchBool (is_fault b) (HasRisen old new) (new ≡ old)) is counts
+pub section_rose : (bad : ShardErr) (old new : ℕ) → bad ≡ Fault → MatchBool (is_section_fault bad) (HasRisen old new) (new ≡ old) → HasRisen old new
+section_rose bad old new is counts = subst (λ (b : ShardErr). MatchBool (is_section_fault b) (HasRisen old new) (new ≡ old)) is counts
 
 -- ---- answers
 

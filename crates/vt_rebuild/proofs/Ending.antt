@@ -10,12 +10,12 @@ use Rattle.vt_log.specs.Faults.{OneHasRisen}
 use Rattle.vt_log.specs.Log.{LogState}
 use Rattle.vt_model.specs.History.{History}
 use Rattle.vt_model.specs.Places.{Setup}
-use Rattle.vt_rebuild.specs.declared.bad.RebuildBad.{RebuildBad}
+use Rattle.vt_rebuild.specs.declared.error.RebuildBad.{RebuildBad}
 use Rattle.vt_rebuild.specs.declared.gathering.Gathered.{Gathered}
-use Rattle.vt_rebuild.specs.Building.{AreFinished, AreHalfFinished, IsFinished, IsStopped, IsToFinish, disks_under}
+use Rattle.vt_rebuild.specs.Building.{AreFinished, AreHalfFinished, IsFinished, IsStoppedBuild, IsToFinish, disks_under}
 use Rattle.vt_rebuild.specs.Filling.{CanFill}
 use Rattle.vt_rebuild.specs.Gathering.{IsGathered, IsInOrder}
-use Rattle.vt_rebuild.specs.Walking.{KeepsLog, is_fault}
+use Rattle.vt_rebuild.specs.Walking.{KeepsLog, is_rebuild_fault}
 use Rattle.vt_rebuild.proofs.Assembling.{at_all}
 use Rattle.vt_rebuild.proofs.Beginning.{counts_rise, counts_set}
 use Rattle.vt_rebuild.proofs.Fills.{log_stays}
@@ -94,7 +94,7 @@ module _ {D : Type 0} (score : List ℕ → List ℕ) (disk : DiskOf D) (blocks 
       done = λ c h can all. done_more (EndsAt score disk c h) number old.sections now.sections mid new (it.done c h can all) at (finished c h (can_fill c h can) all);
     }
 
-    pub ends_stopped : (c : Setup) (h : History) → CanFill score disk c h old.log old.gathered → blocks ≡ length h → IsStopped score disk c h mid new
+    pub ends_stopped : (c : Setup) (h : History) → CanFill score disk c h old.log old.gathered → blocks ≡ length h → IsStoppedBuild score disk c h mid new
         → AreHalfFinished score disk c h old.sections (set now.sections number new)
     ends_stopped c h can all stop =
         let done = it.done c h can all in
@@ -103,23 +103,23 @@ module _ {D : Type 0} (score : List ℕ → List ℕ) (disk : DiskOf D) (blocks 
           within = omega (arith, it.many, within (EndsAt score disk c h) number old.sections now.sections mid new done at);
           many = length-set now.sections number new ∙ it.many;
           before = before (EndsAt score disk c h) number old.sections now.sections mid new done at;
-          here = λ a b at_a at_b. at_here (EndsAt score disk c h) number old.sections now.sections mid new done at (λ k a b. IsStopped score disk c h a b) stop number a b refl at_a at_b;
+          here = λ a b at_a at_b. at_here (EndsAt score disk c h) number old.sections now.sections mid new done at (λ k a b. IsStoppedBuild score disk c h a b) stop number a b refl at_a at_b;
           behind = behind (EndsAt score disk c h) number old.sections now.sections mid new done at;
         }
 
     pub ends_counts : (bad : RebuildBad)
-        → MatchBool (is_fault bad)
+        → MatchBool (is_rebuild_fault bad)
         ((OneHasRisen (map disk.faults now.log.disks) (map disk.faults log.disks) × (disk.faults new.disk ≡ disk.faults mid.disk))
         ⊎ ((map disk.faults log.disks ≡ map disk.faults now.log.disks) × HasRisen (disk.faults mid.disk) (disk.faults new.disk)))
         ((map disk.faults log.disks ≡ map disk.faults now.log.disks) × (disk.faults new.disk ≡ disk.faults mid.disk))
-        → MatchBool (is_fault bad)
+        → MatchBool (is_rebuild_fault bad)
         ((OneHasRisen (map disk.faults old.log.disks) (map disk.faults log.disks)
         × (map disk.faults (disks_under (set now.sections number new)) ≡ map disk.faults (disks_under old.sections)))
         ⊎ ((map disk.faults log.disks ≡ map disk.faults old.log.disks)
         × OneHasRisen (map disk.faults (disks_under old.sections)) (map disk.faults (disks_under (set now.sections number new)))))
         ((map disk.faults log.disks ≡ map disk.faults old.log.disks)
         × (map disk.faults (disks_under (set now.sections number new)) ≡ map disk.faults (disks_under old.sections)))
-    ends_counts bad counts = by_fault (is_fault bad) counts
+    ends_counts bad counts = by_fault (is_rebuild_fault bad) counts
       where
         log_rose : OneHasRisen (map disk.faults now.log.disks) (map disk.faults log.disks) → OneHasRisen (map disk.faults old.log.disks) (map disk.faults log.disks)
         log_rose rose = subst (λ (ns : List ℕ). OneHasRisen ns (map disk.faults log.disks)) it.log_faults rose

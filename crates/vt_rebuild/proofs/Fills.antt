@@ -6,19 +6,19 @@ use Rattle.std.proofs.lemmas.Bool.Decides.{eqb_tells}
 use Rattle.vt_base.specs.Faults.{HasRisen}
 use Rattle.vt_base.specs.declared.place.Entry.{Entry}
 use Rattle.vt_disk.specs.Members.{DiskOf}
-use Rattle.vt_isect.specs.Filling.{Reads}
+use Rattle.vt_isect.specs.Filling.{ReadsKnown}
 use Rattle.vt_isect.specs.Section.{SectionState}
-use Rattle.vt_isect.specs.Sound.{DiskHolds, Known, nothing_known, with_bucket}
+use Rattle.vt_isect.specs.Sound.{DiskHolds, KnownBuckets, nothing_known, with_bucket}
 use Rattle.vt_log.specs.Faults.{OneHasRisen}
 use Rattle.vt_log.specs.Log.{LogState}
 use Rattle.vt_model.specs.History.{History}
 use Rattle.vt_model.specs.Places.{Setup}
-use Rattle.vt_rebuild.specs.declared.bad.RebuildBad.{RebuildBad}
+use Rattle.vt_rebuild.specs.declared.error.RebuildBad.{RebuildBad}
 use Rattle.vt_rebuild.specs.declared.gathering.Gathered.{Gathered}
 use Rattle.vt_rebuild.specs.Filling.{CanFill, HasFilled, PutsBucket}
 use Rattle.vt_rebuild.specs.Gathering.{HasItsBlocks, IsGathered, IsInOrder}
 use Rattle.vt_rebuild.specs.Rebuilt.{HasHistory}
-use Rattle.vt_rebuild.specs.Walking.{KeepsLog, is_fault}
+use Rattle.vt_rebuild.specs.Walking.{KeepsLog, is_rebuild_fault}
 use Rattle.vt_rebuild.proofs.Walks.{keeps_none, keeps_then}
 
 -- what is filled, gathered and kept
@@ -49,8 +49,8 @@ pub record IsFilling {D : Type 0} (score : List ℕ → List ℕ) (disk : DiskOf
   pub order : IsInOrder now.gathered
   pub total : now.gathered.total ≡ old.gathered.total
   pub gathers : (c : Setup) (h : History) → CanFillIn score disk c h old → IsGathered score c h now.gathered
-  pub known : Known
-  pub reads : IsTrue disk.tells → Reads disk now.section known
+  pub known : KnownBuckets
+  pub reads : IsTrue disk.tells → ReadsKnown disk now.section known
   pub each : (c : Setup) (h : History) → CanFillIn score disk c h old → (n : ℕ) → old.section.head.first ≤ n → n < old.section.head.first + i
       → (entries : List Entry) × (known n ≡ Some entries) × HasItsBlocks score c h n entries
 
@@ -87,13 +87,13 @@ pub record Fills {D : Type 0} (score : List ℕ → List ℕ) (disk : DiskOf D) 
       × ((c : Setup) (h : History) → CanFillIn score disk c h old → HasItsBlocks score c h number entries)
 
 -- what is known with a bucket more
-with_here : (number : ℕ) (entries : List Entry) (known : Known) → with_bucket number (Some entries) known number ≡ Some entries
+with_here : (number : ℕ) (entries : List Entry) (known : KnownBuckets) → with_bucket number (Some entries) known number ≡ Some entries
 with_here number entries known = ⊎_elim
     (λ yes. ap (λ (b : Bool). cond b (Some entries) (known number)) yes.0)
     (λ no. absurd (no.1 refl))
     (eqb_tells number number)
 
-with_other : (number n : ℕ) (entries : List Entry) (known : Known) → n ≢ number → with_bucket number (Some entries) known n ≡ known n
+with_other : (number n : ℕ) (entries : List Entry) (known : KnownBuckets) → n ≢ number → with_bucket number (Some entries) known n ≡ known n
 with_other number n entries known other = ⊎_elim
     (λ yes. absurd (other yes.1))
     (λ no. ap (λ (b : Bool). cond b (Some entries) (known n)) no.0)
@@ -141,20 +141,20 @@ module _ {D : Type 0} (score : List ℕ → List ℕ) (disk : DiskOf D) (i : ℕ
 
   -- what a bucket's answer says, seen from the first
   pub counts_from : (bad : RebuildBad) (new : Round D)
-      → MatchBool (is_fault bad)
+      → MatchBool (is_rebuild_fault bad)
       ((OneHasRisen (map disk.faults now.log.disks) (map disk.faults new.log.disks) × (disk.faults new.section.disk ≡ disk.faults now.section.disk))
       ⊎ ((map disk.faults new.log.disks ≡ map disk.faults now.log.disks) × HasRisen (disk.faults now.section.disk) (disk.faults new.section.disk)))
       ((map disk.faults new.log.disks ≡ map disk.faults now.log.disks) × (disk.faults new.section.disk ≡ disk.faults now.section.disk))
-      → MatchBool (is_fault bad)
+      → MatchBool (is_rebuild_fault bad)
       ((OneHasRisen (map disk.faults old.log.disks) (map disk.faults new.log.disks) × (disk.faults new.section.disk ≡ disk.faults old.section.disk))
       ⊎ ((map disk.faults new.log.disks ≡ map disk.faults old.log.disks) × HasRisen (disk.faults old.section.disk) (disk.faults new.section.disk)))
       ((map disk.faults new.log.disks ≡ map disk.faults old.log.disks) × (disk.faults new.section.disk ≡ disk.faults old.section.disk))
   counts_from bad new counts =
-      let first = subst (λ (ns : List ℕ). MatchBool (is_fault bad)
+      let first = subst (λ (ns : List ℕ). MatchBool (is_rebuild_fault bad)
       ((OneHasRisen ns (map disk.faults new.log.disks) × (disk.faults new.section.disk ≡ disk.faults now.section.disk))
       ⊎ ((map disk.faults new.log.disks ≡ ns) × HasRisen (disk.faults now.section.disk) (disk.faults new.section.disk)))
       ((map disk.faults new.log.disks ≡ ns) × (disk.faults new.section.disk ≡ disk.faults now.section.disk))) it.log_faults counts in
-      subst (λ (n : ℕ). MatchBool (is_fault bad)
+      subst (λ (n : ℕ). MatchBool (is_rebuild_fault bad)
       ((OneHasRisen (map disk.faults old.log.disks) (map disk.faults new.log.disks) × (disk.faults new.section.disk ≡ n))
       ⊎ ((map disk.faults new.log.disks ≡ map disk.faults old.log.disks) × HasRisen n (disk.faults new.section.disk)))
       ((map disk.faults new.log.disks ≡ map disk.faults old.log.disks) × (disk.faults new.section.disk ≡ n))) it.faults first
@@ -163,13 +163,13 @@ module _ {D : Type 0} (score : List ℕ → List ℕ) (disk : DiskOf D) (i : ℕ
 
 -- nothing that was known is lost by what is written of a bucket
 pub holds_nothing : {D : Type 0} (disk : DiskOf D) (old new : SectionState D) (n : ℕ)
-    → ((t : SectionState D) (known knows : Known) → ((m : ℕ) (entries : List Entry) → knows m ≡ Some entries → known m ≡ Some entries) → DiskHolds disk t known → DiskHolds disk t knows)
-    → ((known : Known) → IsTrue disk.tells → DiskHolds disk old known → DiskHolds disk new (with_bucket n None known))
+    → ((t : SectionState D) (known knows : KnownBuckets) → ((m : ℕ) (entries : List Entry) → knows m ≡ Some entries → known m ≡ Some entries) → DiskHolds disk t known → DiskHolds disk t knows)
+    → ((known : KnownBuckets) → IsTrue disk.tells → DiskHolds disk old known → DiskHolds disk new (with_bucket n None known))
     → IsTrue disk.tells → DiskHolds disk old nothing_known → DiskHolds disk new nothing_known
 holds_nothing disk old new n forget others tells was =
     forget new (with_bucket n None nothing_known) nothing_known (λ m entries is. absurd (cc)) (others nothing_known tells was)
 
 -- the bucket that is written has this number
 pub puts_bucket : {D : Type 0} (disk : DiskOf D) (old new : SectionState D) (n number : ℕ) (entries : List Entry) → n ≡ number
-    → ((known : Known) → IsTrue disk.tells → Reads disk old known → Reads disk new (with_bucket n (Some entries) known)) → PutsBucket disk number entries old new
+    → ((known : KnownBuckets) → IsTrue disk.tells → ReadsKnown disk old known → ReadsKnown disk new (with_bucket n (Some entries) known)) → PutsBucket disk number entries old new
 puts_bucket disk old new n number entries is read = subst (λ (m : ℕ). PutsBucket disk m entries old new) is read

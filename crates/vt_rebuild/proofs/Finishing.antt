@@ -8,33 +8,33 @@ use Rattle.vt_disk.specs.Members.{DiskOf}
 use Rattle.vt_isect.specs.declared.head.Head.{Head}
 use Rattle.vt_isect.specs.declared.phase.Phase.{Phase}
 use Rattle.vt_isect.specs.declared.phase.Phase.TheVariants.{Rest, ChangeHead}
-use Rattle.vt_isect.specs.Agreement.{IsCovered, KnownAgrees, NoOthers}
-use Rattle.vt_isect.specs.Filling.{Reads, with_buckets}
+use Rattle.vt_isect.specs.Agreement.{IsMarkCovered, KnownAgrees, NoOthers}
+use Rattle.vt_isect.specs.Filling.{ReadsKnown, with_buckets}
 use Rattle.vt_isect.specs.Layout.{InRange}
 use Rattle.vt_isect.specs.Section.{IsTodo, PutsEntries, SectionState}
-use Rattle.vt_isect.specs.Sound.{DiskHolds, Known, nothing_known}
+use Rattle.vt_isect.specs.Sound.{DiskHolds, KnownBuckets, nothing_known}
 use Rattle.vt_model.specs.History.{History}
 use Rattle.vt_model.specs.Places.{Setup, bucket_count}
-use Rattle.vt_rebuild.specs.Building.{IsFinished, IsStopped, IsToFinish, StopsInUse, in_use}
+use Rattle.vt_rebuild.specs.Building.{IsFinished, IsStoppedBuild, IsToFinish, StopsInUse, in_use}
 use Rattle.vt_rebuild.specs.Filling.{HasFilled}
 use Rattle.vt_rebuild.specs.Gathering.{CanIndex, HasItsBlocks}
 use Rattle.vt_rebuild.specs.Heads.{HasHead, IsSameSection}
 
 -- no bucket is among none
-pub none_among : (first n : ℕ) (entries : Option (List Entry)) (known : Known) → with_buckets first 0 entries known n ≡ known n
+pub none_among : (first n : ℕ) (entries : Option (List Entry)) (known : KnownBuckets) → with_buckets first 0 entries known n ≡ known n
 none_among first n entries known = grind (arith, nat_tests)
 
 module _ {D : Type 0} (score : List ℕ → List ℕ) (disk : DiskOf D) (c : Setup) (h : History) (t : SectionState D)
     (none_todo : (entry : Entry) → IsTodo t entry → ⊥) (first : t.next.first ≡ t.head.first) (same_total : t.next.total ≡ t.head.total)
     (total : t.head.total ≡ bucket_count c) (filed_mark : t.head.state ≡ 1 → t.head.mark ≡ length h) (coming_mark : t.next.mark ≡ length h)
-    (can : CanIndex score c h t.head.total) (known : Known)
+    (can : CanIndex score c h t.head.total) (known : KnownBuckets)
     (each : (n : ℕ) → InRange t.head t.buckets n → (entries : List Entry) × (known n ≡ Some entries) × HasItsBlocks score c h n entries) where
   its : (n : ℕ) (entries : List Entry) → InRange t.head t.buckets n → known n ≡ Some entries → HasItsBlocks score c h n entries
   its n entries within is =
       let it = each n within in
       subst (λ (es : List Entry). HasItsBlocks score c h n es) (same_Some it.0 entries (sym it.1 ∙ is)) it.2
 
-  covered : (others : Entry → Type 0) → IsCovered score c h t known others (length h)
+  covered : (others : Entry → Type 0) → IsMarkCovered score c h t known others (length h)
   covered others = record {
     fits = omega arith;
     has = λ n i entries within is below belongs.
@@ -52,8 +52,8 @@ module _ {D : Type 0} (score : List ℕ → List ℕ) (disk : DiskOf D) (c : Set
     whole = λ n within. let it = each n within in subst (λ (o : Option (List Entry)). IsSome o) (sym it.1) refl;
     blocks = λ n entries entry within is has. (its n entries within is).own entry has;
     todo = λ entry todo. absurd (none_todo entry todo);
-    filed = λ live. subst (λ (m : ℕ). IsCovered score c h t known NoOthers m) (sym (filed_mark live)) (covered NoOthers);
-    coming = λ live. subst (λ (m : ℕ). IsCovered score c h t known (IsTodo t) m) (sym coming_mark) (covered (IsTodo t));
+    filed = λ live. subst (λ (m : ℕ). IsMarkCovered score c h t known NoOthers m) (sym (filed_mark live)) (covered NoOthers);
+    coming = λ live. subst (λ (m : ℕ). IsMarkCovered score c h t known (IsTodo t) m) (sym coming_mark) (covered (IsTodo t));
   }
 
 -- nothing is still to be put into a bucket
@@ -97,7 +97,7 @@ module _ {D : Type 0} (score : List ℕ → List ℕ) (disk : DiskOf D) (c : Set
   can_of n is = record { buckets = can.buckets ∙ sym is; keys = can.keys }
 
   pub finishes : HasHead disk (in_use blocks mid.head) mid new
-      → ((known : Known) → IsTrue disk.tells → DiskHolds disk mid nothing_known → Reads disk mid known → DiskHolds disk new known)
+      → ((known : KnownBuckets) → IsTrue disk.tells → DiskHolds disk mid nothing_known → ReadsKnown disk mid known → DiskHolds disk new known)
       → disk.calls new.disk ≤ disk.calls old.disk + (2 * old.buckets + 5) → IsFinished score disk c h old new
   finishes head used calls =
       let head_is : new.head ≡ in_use (length h) old.head = head.head_is ∙ in_use_head in
@@ -119,7 +119,7 @@ module _ {D : Type 0} (score : List ℕ → List ℕ) (disk : DiskOf D) (c : Set
         };
       }
 
-  pub stops : StopsInUse disk (in_use blocks mid.head) mid new → IsStopped score disk c h old new
+  pub stops : StopsInUse disk (in_use blocks mid.head) mid new → IsStoppedBuild score disk c h old new
   stops stop =
       let head_is : new.head ≡ old.head = stop.head_is ∙ mid_head in
       let first : new.head.first ≡ old.head.first = ap (λ (x : Head). x.first) head_is in
@@ -149,7 +149,7 @@ module _ {D : Type 0} (score : List ℕ → List ℕ) (disk : DiskOf D) (c : Set
 -- its buckets weren't all filled
 pub unfilled : {D : Type 0} (score : List ℕ → List ℕ) (disk : DiskOf D) (c : Setup) (h : History) (total : ℕ) (old mid : SectionState D) → IsToFinish total old
     → mid ≡ record old { disk = mid.disk } → disk.size mid.disk ≡ disk.size old.disk → (DiskHolds disk old nothing_known → DiskHolds disk mid nothing_known)
-    → IsStopped score disk c h old mid
+    → IsStoppedBuild score disk c h old mid
 unfilled {D} score disk c h total old mid to same size holds = record {
   same = record { name = ap (λ (t : SectionState D). t.name) same; buckets = ap (λ (t : SectionState D). t.buckets) same; size = size };
   head = ap (λ (t : SectionState D). t.head) same;

@@ -10,7 +10,7 @@ use Rattle.std.proofs.lemmas.Option.{same_Some, slice_get_within}
 use Rattle.vt_base.specs.declared.place.Entry.{Entry}
 use Rattle.vt_base.specs.declared.place.Info.{Info}
 use Rattle.vt_isect.specs.Agreement.{HasBlock, IsEntryOf}
-use Rattle.vt_log.specs.Back.{IsInfo}
+use Rattle.vt_log.specs.Back.{IsInfoInLog}
 use Rattle.vt_log.specs.Log.{LogState}
 use Rattle.vt_log.specs.Queue.{spot_of}
 use Rattle.vt_model.specs.History.{Accepted, History}
@@ -19,7 +19,7 @@ use Rattle.vt_rebuild.specs.declared.gathering.Gathered.{Gathered}
 use Rattle.vt_rebuild.specs.Gathering.{HasGathered, IsGathered, IsInOrder, entry_of}
 
 -- what is given of a block is its entry
-pub entry_is : {D : Type 0} (score : List ℕ → List ℕ) (c : Setup) (l : LogState D) (h : History) (m : ℕ) (info : Info) → IsInfo score l h m info
+pub entry_is : {D : Type 0} (score : List ℕ → List ℕ) (c : Setup) (l : LogState D) (h : History) (m : ℕ) (info : Info) → IsInfoInLog score l h m info
     → IsEntryOf score c h m (entry_of info)
 entry_is score c l h m info it = record {
   block = it.block;

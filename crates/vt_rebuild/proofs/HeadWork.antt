@@ -7,16 +7,16 @@ use Rattle.vt_disk.specs.Members.{DiskOf}
 use Rattle.vt_isect.specs.declared.phase.Phase.{Phase}
 use Rattle.vt_isect.specs.declared.phase.Phase.TheVariants.{Rest, ReadFrame, SyncSelectors, ChangeHead}
 use Rattle.vt_isect.specs.Section.{SectionState}
-use Rattle.vt_isect.specs.Sound.{DiskHolds, Known, nothing_known}
-use Rattle.vt_isect.specs.declared.bad.ShardErr.{ShardErr}
-use Rattle.vt_isect.specs.declared.bad.ShardErr.TheVariants.{Fault, Damaged, Stopped}
-use Rattle.vt_isect.specs.Writeback.{Advances, IsRead, Keeps, NextPhase, Syncs, calls_left}
+use Rattle.vt_isect.specs.Sound.{DiskHolds, KnownBuckets, nothing_known}
+use Rattle.vt_isect.specs.declared.error.ShardErr.{ShardErr}
+use Rattle.vt_isect.specs.declared.error.ShardErr.TheVariants.{Fault, Damaged, Stopped}
+use Rattle.vt_isect.specs.Writeback.{SectionAdvances, NextCallReads, KeepsDiskSound, NextPhase, NextCallSyncs, calls_left}
 use Rattle.vt_twin.specs.declared.step.Step.{Step}
 use Rattle.vt_twin.specs.declared.step.Step.TheVariants.{More, Done}
 
 -- what is known of a section may be less
 abbrev pub Forgets : {D : Type 0} → DiskOf D → Type 0
-Forgets {D} disk = (t : SectionState D) (known knows : Known)
+Forgets {D} disk = (t : SectionState D) (known knows : KnownBuckets)
     → ((n : ℕ) (entries : List Entry) → knows n ≡ Some entries → known n ≡ Some entries)
     → DiskHolds disk t known → DiskHolds disk t knows
 
@@ -27,7 +27,7 @@ pub record Stops {D : Type 0} (disk : DiskOf D) (begun now : SectionState D) : T
   pub head : now.head ≡ begun.head
   pub next : now.next ≡ begun.next
   pub phase : now.phase ≡ ChangeHead
-  pub keeps : (known : Known) → IsTrue disk.tells → DiskHolds disk begun known → DiskHolds disk now known
+  pub keeps : (known : KnownBuckets) → IsTrue disk.tells → DiskHolds disk begun known → DiskHolds disk now known
 
 -- a change of the head is under way, or was made
 pub record UnderWay {D : Type 0} (disk : DiskOf D) (begun now : SectionState D) : Type 0 where
@@ -37,9 +37,9 @@ pub record UnderWay {D : Type 0} (disk : DiskOf D) (begun now : SectionState D) 
   pub goes : now.stopped ≡ None
   pub phase : ((now.phase ≡ ChangeHead) × (now.head ≡ begun.head))
       ⊎ ((now.phase ≡ Rest) × (now.head ≡ begun.next) × IsSynced disk now.disk)
-  pub keeps : (known : Known) → IsTrue disk.tells → begun.next.first ≡ begun.head.first
+  pub keeps : (known : KnownBuckets) → IsTrue disk.tells → begun.next.first ≡ begun.head.first
       → DiskHolds disk begun known → DiskHolds disk now known
-  pub before : now.phase ≡ ChangeHead → (known : Known) → IsTrue disk.tells
+  pub before : now.phase ≡ ChangeHead → (known : KnownBuckets) → IsTrue disk.tells
       → DiskHolds disk begun known → DiskHolds disk now known
   pub holds : IsTrue disk.tells → DiskHolds disk begun nothing_known
       → DiskHolds disk now nothing_known
@@ -50,7 +50,7 @@ pub record UnderWay {D : Type 0} (disk : DiskOf D) (begun now : SectionState D) 
 module _ {D : Type 0} (disk : DiskOf D) (forget : Forgets disk) (begun t u : SectionState D)
     (it : UnderWay disk begun t) (way : t.phase ≡ ChangeHead) (same_head : t.head ≡ begun.head) where
   -- what is known of a bucket stays
-  stays : (step : Step) → Keeps disk (Ok step) t u → (known : Known) → u.head.first ≡ t.head.first
+  stays : (step : Step) → KeepsDiskSound disk (Ok step) t u → (known : KnownBuckets) → u.head.first ≡ t.head.first
       → DiskHolds disk t known → DiskHolds disk u known
   stays step keeps known first sound =
       let kept = keeps known sound in
@@ -58,7 +58,7 @@ module _ {D : Type 0} (disk : DiskOf D) (forget : Forgets disk) (begun t u : Sec
       (λ n entries is. kept.1.kept n first (λ completes. let no : ChangeHead ≡ SyncSelectors = sym way ∙ completes.1 in absurd (cc)) ∙ is)
       kept.2
 
-  nothing : (step : Step) → Keeps disk (Ok step) t u → DiskHolds disk t nothing_known → DiskHolds disk u nothing_known
+  nothing : (step : Step) → KeepsDiskSound disk (Ok step) t u → DiskHolds disk t nothing_known → DiskHolds disk u nothing_known
   nothing step keeps sound =
       let kept = keeps nothing_known sound in
       forget u kept.0 nothing_known (λ n entries is. absurd (cc)) kept.2
@@ -67,8 +67,8 @@ module _ {D : Type 0} (disk : DiskOf D) (forget : Forgets disk) (begun t u : Sec
       → disk.calls u.disk + calls_left u ≤ disk.calls begun.disk + 4
   fewer made left told = omega (arith, made told, left, it.calls told)
 
-  pub one_step : (step : Step) → Advances (Ok step) t u → (IsTrue disk.tells → Keeps disk (Ok step) t u)
-      → (Syncs t.phase t → IsSynced disk u.disk) → calls_left u < calls_left t → MadeCalls disk 1 t.disk u.disk
+  pub one_step : (step : Step) → SectionAdvances (Ok step) t u → (IsTrue disk.tells → KeepsDiskSound disk (Ok step) t u)
+      → (NextCallSyncs t.phase t → IsSynced disk u.disk) → calls_left u < calls_left t → MadeCalls disk 1 t.disk u.disk
       → disk.size u.disk ≡ disk.size t.disk → disk.faults u.disk ≡ disk.faults t.disk → UnderWay disk begun u
   one_step More moves keeps synced left made size faults =
       let next : NextPhase ChangeHead t u = subst (λ (p : Phase). NextPhase p t u) way moves.2 in
@@ -95,7 +95,7 @@ module _ {D : Type 0} (disk : DiskOf D) (forget : Forgets disk) (begun t u : Sec
         phase = inr (
           ends.phase,
           ends.head_is ∙ it.next,
-          synced (subst (λ (p : Phase). Syncs p t) (sym way) (inr moves.1)),
+          synced (subst (λ (p : Phase). NextCallSyncs p t) (sym way) (inr moves.1)),
         );
         keeps = λ known told first sound. stays Done (keeps told) known
             (ap (λ h. h.first) (ends.head_is ∙ it.next) ∙ first ∙ sym (ap (λ h. h.first) same_head))
@@ -108,9 +108,9 @@ module _ {D : Type 0} (disk : DiskOf D) (forget : Forgets disk) (begun t u : Sec
       }
 
   -- it fails
-  pub stopped : Advances (Err Fault) t u → (IsTrue disk.tells → Keeps disk (Err Fault) t u) → Stops disk begun u
+  pub stopped : SectionAdvances (Err Fault) t u → (IsTrue disk.tells → KeepsDiskSound disk (Err Fault) t u) → Stops disk begun u
   stopped moves keeps = ⊎_elim
-      (λ ends. absurd (subst (λ (p : Phase). IsRead p) way ends.0))
+      (λ ends. absurd (subst (λ (p : Phase). NextCallReads p) way ends.0))
       (λ goes. record {
         name = goes.1.section.name ∙ it.name;
         buckets = goes.1.section.buckets ∙ it.buckets;
@@ -126,7 +126,7 @@ module _ {D : Type 0} (disk : DiskOf D) (forget : Forgets disk) (begun t u : Sec
       moves
 
   -- whatever is told of it
-  pub stopped_by : (bad : ShardErr) → Advances (Err bad) t u → (IsTrue disk.tells → Keeps disk (Err bad) t u) → Stops disk begun u
+  pub stopped_by : (bad : ShardErr) → SectionAdvances (Err bad) t u → (IsTrue disk.tells → KeepsDiskSound disk (Err bad) t u) → Stops disk begun u
   stopped_by Fault moves keeps = stopped moves keeps
   stopped_by (Damaged bucket want found) moves keeps = let no : ChangeHead ≡ ReadFrame moves.0.0 = sym way ∙ moves.0.1 in absurd (cc)
   stopped_by (Stopped n) moves keeps = let no : None ≡ Some n = sym it.goes ∙ moves.0 in absurd (cc)

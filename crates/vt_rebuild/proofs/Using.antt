@@ -4,9 +4,9 @@ use Rattle.std.specs.Prelude.{IsTrue}
 use Rattle.vt_disk.specs.Calls.{IsSynced}
 use Rattle.vt_disk.specs.Members.{DiskOf}
 use Rattle.vt_isect.specs.declared.head.Head.{Head}
-use Rattle.vt_isect.specs.Filling.{Reads, with_buckets}
+use Rattle.vt_isect.specs.Filling.{ReadsKnown, with_buckets}
 use Rattle.vt_isect.specs.Section.{IsAtRest, PutsEntries, SectionState}
-use Rattle.vt_isect.specs.Sound.{DiskHolds, Known, nothing_known}
+use Rattle.vt_isect.specs.Sound.{DiskHolds, KnownBuckets, nothing_known}
 use Rattle.vt_rebuild.specs.Building.{StopsInUse}
 use Rattle.vt_rebuild.specs.Heads.{HasHead, StopsAtHead}
 use Rattle.vt_rebuild.proofs.Finishing.{none_among}
@@ -14,17 +14,17 @@ use Rattle.vt_rebuild.proofs.HeadWork.{Forgets}
 
 -- behind a sync what is read is known
 abbrev pub Settles : {D : Type 0} → DiskOf D → Type 0
-Settles {D} disk = (t : SectionState D) (known knows : Known) → ¬ PutsEntries t.phase → IsTrue disk.tells → IsSynced disk t.disk
-    → DiskHolds disk t known → Reads disk t knows → DiskHolds disk t knows
+Settles {D} disk = (t : SectionState D) (known knows : KnownBuckets) → ¬ PutsEntries t.phase → IsTrue disk.tells → IsSynced disk t.disk
+    → DiskHolds disk t known → ReadsKnown disk t knows → DiskHolds disk t knows
 
 module _ {D : Type 0} (disk : DiskOf D) (forget : Forgets disk) (first : ℕ) (old mid : SectionState D) (rest : IsAtRest old)
     (same : mid ≡ record old { disk = mid.disk })
-    (others : (known : Known) → IsTrue disk.tells → DiskHolds disk old known → DiskHolds disk mid (with_buckets first 0 None known)) where
+    (others : (known : KnownBuckets) → IsTrue disk.tells → DiskHolds disk old known → DiskHolds disk mid (with_buckets first 0 None known)) where
   head_stays : mid.head ≡ old.head
   head_stays = ap (λ (t : SectionState D). t.head) same
 
   -- what was known still is
-  pub still_holds : (known : Known) → IsTrue disk.tells → DiskHolds disk old known → DiskHolds disk mid known
+  pub still_holds : (known : KnownBuckets) → IsTrue disk.tells → DiskHolds disk old known → DiskHolds disk mid known
   still_holds known tells was = forget mid (with_buckets first 0 None known) known (λ n entries is. none_among first n None known ∙ is) (others known tells was)
 
   -- the sync failed
@@ -36,8 +36,8 @@ module _ {D : Type 0} (disk : DiskOf D) (forget : Forgets disk) (first : ℕ) (o
   }
 
   module _ (settle : Settles disk) (settled : IsSynced disk mid.disk)
-      (read : (known : Known) → IsTrue disk.tells → Reads disk old known → Reads disk mid (with_buckets first 0 (Some []) known)) where
-    pub knows : (known : Known) → IsTrue disk.tells → DiskHolds disk old nothing_known → Reads disk old known → DiskHolds disk mid known
+      (read : (known : KnownBuckets) → IsTrue disk.tells → ReadsKnown disk old known → ReadsKnown disk mid (with_buckets first 0 (Some []) known)) where
+    pub knows : (known : KnownBuckets) → IsTrue disk.tells → DiskHolds disk old nothing_known → ReadsKnown disk old known → DiskHolds disk mid known
     knows known tells was reads =
         settle mid nothing_known known (λ puts. subst PutsEntries (ap (λ (t : SectionState D). t.phase) same ∙ rest) puts) tells settled
         (still_holds nothing_known tells was)
@@ -60,7 +60,7 @@ module _ {D : Type 0} (disk : DiskOf D) (forget : Forgets disk) (first : ℕ) (o
       next = inr (stop.next_is, stop.phase, λ known tells was reads. stop.keeps known tells (knows known tells was reads));
     }
 
-    pub holds_in_use : (head : Head) (new : SectionState D) → head.first ≡ old.head.first → HasHead disk head mid new → (known : Known) → IsTrue disk.tells
-        → DiskHolds disk old nothing_known → Reads disk old known → DiskHolds disk new known
+    pub holds_in_use : (head : Head) (new : SectionState D) → head.first ≡ old.head.first → HasHead disk head mid new → (known : KnownBuckets) → IsTrue disk.tells
+        → DiskHolds disk old nothing_known → ReadsKnown disk old known → DiskHolds disk new known
     holds_in_use head new first_is it known tells was reads =
         it.keeps known tells (first_is ∙ sym (ap (λ (x : Head). x.first) head_stays)) (knows known tells was reads)

@@ -6,18 +6,18 @@ use Rattle.std.proofs.lemmas.Option.{same_Some, slice_get-get_or, slice_get_with
 use Rattle.vt_arena.specs.Places.{block_room}
 use Rattle.vt_base.specs.declared.place.Info.{Info}
 use Rattle.vt_disk.specs.Members.{DiskOf}
-use Rattle.vt_log.specs.Answers.{HoldTheSame, OnlyReads}
-use Rattle.vt_log.specs.Back.{IsBehind, IsInfo, IsTailOf, TailState}
+use Rattle.vt_log.specs.Answers.{HoldTheSame, OnlyReadsLog}
+use Rattle.vt_log.specs.Back.{IsTailBehind, IsInfoInLog, IsTailOf, TailState}
 use Rattle.vt_log.specs.Faults.{OneHasRisen}
 use Rattle.vt_log.specs.Log.{LogState, front}
-use Rattle.vt_log.specs.Sound.{IsSound}
+use Rattle.vt_log.specs.Sound.{IsSoundLog}
 use Rattle.vt_model.specs.History.{History}
 use Rattle.vt_model.specs.Places.{lengths_in}
-use Rattle.vt_rebuild.specs.declared.bad.RebuildBad.{RebuildBad}
-use Rattle.vt_rebuild.specs.Walking.{GivesNext, KeepsLog, is_fault}
+use Rattle.vt_rebuild.specs.declared.error.RebuildBad.{RebuildBad}
+use Rattle.vt_rebuild.specs.Walking.{GivesNext, KeepsLog, is_rebuild_fault}
 
 -- reading leaves where a walk stands
-pub behind_stays : {D : Type 0} (l new : LogState D) (h : History) (n : ℕ) (t : TailState) → new.durable ≡ l.durable → IsBehind l h n t → IsBehind new h n t
+pub behind_stays : {D : Type 0} (l new : LogState D) (h : History) (n : ℕ) (t : TailState) → new.durable ≡ l.durable → IsTailBehind l h n t → IsTailBehind new h n t
 behind_stays {D} l new h n t same it = record {
   left = it.left;
   most = it.most;
@@ -59,7 +59,7 @@ keeps_then {D} score disk a b c one two = record {
   disks = hold_then disk a.disks b.disks c.disks one.disks two.disks;
 }
 
-pub keeps_read : {D : Type 0} (score : List ℕ → List ℕ) (disk : DiskOf D) (most : ℕ) (a b : LogState D) → OnlyReads score disk most a b → KeepsLog score disk a b
+pub keeps_read : {D : Type 0} (score : List ℕ → List ℕ) (disk : DiskOf D) (most : ℕ) (a b : LogState D) → OnlyReadsLog score disk most a b → KeepsLog score disk a b
 keeps_read score disk most a b it = record { same = it.same; sound = it.sound; disks = it.disks }
 
 -- a walk that came so far, of a log that is only read from
@@ -67,15 +67,15 @@ pub record IsWalking {D : Type 0} (score : List ℕ → List ℕ) (disk : DiskOf
   pub keeps : KeepsLog score disk old now
   pub tail : IsTailOf now t
   pub faults : map disk.faults now.disks ≡ map disk.faults old.disks
-  pub behind : (h : History) → IsTrue disk.tells → IsSound score disk old h → IsBehind now h t.left t
+  pub behind : (h : History) → IsTrue disk.tells → IsSoundLog score disk old h → IsTailBehind now h t.left t
 
 pub begin_walk : {D : Type 0} (score : List ℕ → List ℕ) (disk : DiskOf D) (l : LogState D) (t : TailState) → IsTailOf l t → t.left ≡ front l
-    → ((h : History) → IsSound score disk l h → IsBehind l h (length h) t) → IsWalking score disk l l t
+    → ((h : History) → IsSoundLog score disk l h → IsTailBehind l h (length h) t) → IsWalking score disk l l t
 begin_walk score disk l t tail all behind = record {
   keeps = keeps_none score disk l;
   tail = tail;
   faults = refl;
-  behind = λ h tells sound. subst (λ (n : ℕ). IsBehind l h n t) (sym (all ∙ sound.front)) (behind h sound);
+  behind = λ h tells sound. subst (λ (n : ℕ). IsTailBehind l h n t) (sym (all ∙ sound.front)) (behind h sound);
 }
 
 pub walk_on : {D : Type 0} (score : List ℕ → List ℕ) (disk : DiskOf D) (old now new : LogState D) (t after : TailState) (info : Info)
@@ -90,14 +90,14 @@ walk_on {D} score disk old now new t after info was next = record {
 
 -- the block that it gives, by its number
 pub gives_info : {D : Type 0} (score : List ℕ → List ℕ) (disk : DiskOf D) (old now new : LogState D) (t after : TailState) (info : Info)
-    → IsWalking score disk old now t → GivesNext score disk (Ok info) now new t after → (h : History) → IsTrue disk.tells → IsSound score disk old h → IsInfo score now h after.left info
+    → IsWalking score disk old now t → GivesNext score disk (Ok info) now new t after → (h : History) → IsTrue disk.tells → IsSoundLog score disk old h → IsInfoInLog score now h after.left info
 gives_info score disk old now new t after info was next h tells sound = (next.blocks h tells (was.keeps.sound h sound) (was.behind h tells sound)).0
 
 -- it ends early
 pub walk_fails : {D : Type 0} (score : List ℕ → List ℕ) (disk : DiskOf D) (old now new : LogState D) (t after : TailState) (bad : RebuildBad)
     → IsWalking score disk old now t → GivesNext score disk (Err bad) now new t after → KeepsLog score disk old new
-    × MatchBool (is_fault bad) (OneHasRisen (map disk.faults old.disks) (map disk.faults new.disks)) (map disk.faults new.disks ≡ map disk.faults old.disks)
+    × MatchBool (is_rebuild_fault bad) (OneHasRisen (map disk.faults old.disks) (map disk.faults new.disks)) (map disk.faults new.disks ≡ map disk.faults old.disks)
 walk_fails score disk old now new t after bad was next = (
   keeps_then score disk old now new was.keeps (keeps_read score disk 1 now new next.reads),
-  subst (λ (ns : List ℕ). MatchBool (is_fault bad) (OneHasRisen ns (map disk.faults new.disks)) (map disk.faults new.disks ≡ ns)) was.faults next.faults,
+  subst (λ (ns : List ℕ). MatchBool (is_rebuild_fault bad) (OneHasRisen ns (map disk.faults new.disks)) (map disk.faults new.disks ≡ ns)) was.faults next.faults,
 )

@@ -4,9 +4,9 @@ use Rattle.vt_disk.specs.Calls.{IsSynced}
 use Rattle.vt_disk.specs.Members.{DiskOf}
 use Rattle.vt_isect.specs.declared.head.Head.{Head}
 use Rattle.vt_isect.specs.declared.phase.Phase.TheVariants.{ChangeHead}
-use Rattle.vt_isect.specs.Filling.{Reads}
+use Rattle.vt_isect.specs.Filling.{ReadsKnown}
 use Rattle.vt_isect.specs.Agreement.{KnownAgrees}
-use Rattle.vt_isect.specs.Sound.{DiskHolds, Known, nothing_known}
+use Rattle.vt_isect.specs.Sound.{DiskHolds, KnownBuckets, nothing_known}
 use Rattle.vt_isect.specs.Section.{IsAtRest, SectionState}
 use Rattle.vt_model.specs.Places.{Setup, first_bucket}
 use Rattle.vt_rebuild.specs.Heads.{IsSameSection}
@@ -15,16 +15,16 @@ use Rattle.vt_base.specs.Faults.{TellsFault}
 use Rattle.vt_log.specs.Faults.{OneHasRisen}
 use Rattle.vt_log.specs.Log.{LogState}
 use Rattle.vt_model.specs.History.{History}
-use Rattle.vt_rebuild.specs.declared.bad.RebuildBad.{RebuildBad}
-use Rattle.vt_rebuild.specs.declared.bad.RebuildBad.TheVariants.{Fault, IndexFull, Damaged, NoMemory}
-use Rattle.vt_rebuild.specs.Walking.{is_fault}
-use Rattle.vt_rebuild.specs.Rebuilt.{EachSection, IsBeingBuilt, IsFirstFull, IsUnwritten, counts_of}
+use Rattle.vt_rebuild.specs.declared.error.RebuildBad.{RebuildBad}
+use Rattle.vt_rebuild.specs.declared.error.RebuildBad.TheVariants.{Fault, IndexFull, Damaged, NoMemory}
+use Rattle.vt_rebuild.specs.Walking.{is_rebuild_fault}
+use Rattle.vt_rebuild.specs.Rebuilt.{EachSection, IsBeingBuilt, IsFirstFull, IsUnwrittenSection, counts_of}
 
 abbrev pub disks_under : {D : Type 0} → List (SectionState D) → List D
 disks_under sections = map (λ section. section.disk) sections
 
 -- the head of a section says that it is being built
-pub record IsBegun {D : Type 0} (disk : DiskOf D) (first total : ℕ) (old new : SectionState D)
+pub record IsBuildBegun {D : Type 0} (disk : DiskOf D) (first total : ℕ) (old new : SectionState D)
     : Type 0 where
   pub rest : IsAtRest new
   pub built : IsBeingBuilt disk first total old new
@@ -32,7 +32,7 @@ pub record IsBegun {D : Type 0} (disk : DiskOf D) (first total : ℕ) (old new :
 
 abbrev pub AreBegun : {D : Type 0} → DiskOf D → (total : ℕ) → (olds news : List (SectionState D))
     → Type 0
-AreBegun disk total olds news = EachSection (λ first. IsBegun disk first total) olds news
+AreBegun disk total olds news = EachSection (λ first. IsBuildBegun disk first total) olds news
 
 -- Sections were changed in turn up to this one, at which it stopped. Those behind it are as they
 -- were.
@@ -51,12 +51,13 @@ pub record StopsInTurn {D : Type 0} (stopped done : (first : ℕ) → (old new :
 abbrev pub AreHalfBegun : {D : Type 0} → DiskOf D → (total : ℕ)
     → (olds news : List (SectionState D)) → Type 0
 AreHalfBegun disk total olds news =
-    StopsInTurn (λ first. IsUnwritten disk first total) (λ first. IsBegun disk first total) olds news
+    StopsInTurn (λ first. IsUnwrittenSection disk first total)
+    (λ first. IsBuildBegun disk first total) olds news
 
 -- a fault is told exactly where the count of one of the log's disks rose, or of one of the sections'
 abbrev pub CountsAll : {D T : Type 0} → DiskOf D → Result T RebuildBad
     → (log log' : LogState D) → (olds news : List (SectionState D)) → Type 0
-CountsAll disk result log log' olds news = TellsFault is_fault result
+CountsAll disk result log log' olds news = TellsFault is_rebuild_fault result
     ((OneHasRisen (map disk.faults log.disks) (map disk.faults log'.disks)
     × (map disk.faults (disks_under news) ≡ map disk.faults (disks_under olds)))
     ⊎ ((map disk.faults log'.disks ≡ map disk.faults log.disks)
@@ -105,13 +106,13 @@ pub record StopsInUse {D : Type 0} (disk : DiskOf D) (head : Head) (old new : Se
   pub holds : IsTrue disk.tells → DiskHolds disk old nothing_known
       → DiskHolds disk new nothing_known
   pub next : (new.next ≡ new.head) ⊎ ((new.next ≡ head) × (new.phase ≡ ChangeHead)
-      × ((known : Known) → IsTrue disk.tells → DiskHolds disk old nothing_known
-      → Reads disk old known → DiskHolds disk new known))
+      × ((known : KnownBuckets) → IsTrue disk.tells → DiskHolds disk old nothing_known
+      → ReadsKnown disk old known → DiskHolds disk new known))
 
 -- its disk holds the entries of the history's blocks, and no others
 pub record HoldsAll {D : Type 0} (score : List ℕ → List ℕ) (disk : DiskOf D) (c : Setup)
     (h : History) (t : SectionState D) : Type 0 where
-  pub known : Known
+  pub known : KnownBuckets
   pub holds : DiskHolds disk t known
   pub agrees : KnownAgrees score c h t known
 
@@ -126,7 +127,7 @@ pub record IsFinished {D : Type 0} (score : List ℕ → List ℕ) (disk : DiskO
   pub all : DiskHolds disk old nothing_known → HoldsAll score disk c h new
 
 -- It is still being built or, where a crash may leave the next head, it has all entries.
-pub record IsStopped {D : Type 0} (score : List ℕ → List ℕ) (disk : DiskOf D) (c : Setup)
+pub record IsStoppedBuild {D : Type 0} (score : List ℕ → List ℕ) (disk : DiskOf D) (c : Setup)
     (h : History) (old new : SectionState D) : Type 0 where
   pub same : IsSameSection disk old new
   pub head : new.head ≡ old.head
@@ -144,4 +145,5 @@ AreFinished score disk c h olds news = EachSection (λ first. IsFinished score d
 abbrev pub AreHalfFinished : {D : Type 0} → (List ℕ → List ℕ) → DiskOf D → Setup → History
     → (olds news : List (SectionState D)) → Type 0
 AreHalfFinished score disk c h olds news =
-    StopsInTurn (λ first. IsStopped score disk c h) (λ first. IsFinished score disk c h) olds news
+    StopsInTurn (λ first. IsStoppedBuild score disk c h) (λ first. IsFinished score disk c h) olds
+    news

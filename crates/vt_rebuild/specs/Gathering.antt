@@ -3,7 +3,7 @@ use Rattle.std.specs.Prelude.{◌≡◌, ℕ, ◌<◌, ◌≤◌, None, List}
 use Rattle.std.specs.List.{AllPairs, Contains}
 use Rattle.vt_base.specs.declared.place.Entry.{Entry}
 use Rattle.vt_base.specs.declared.place.Info.{Info}
-use Rattle.vt_isect.specs.Agreement.{HasBlock, IsInBucket, IsOfBlock}
+use Rattle.vt_isect.specs.Agreement.{HasBlock, IsInBucket, IsEntryOfBlock}
 use Rattle.vt_isect.specs.Entries.{IsOrdered}
 use Rattle.vt_model.specs.History.{History}
 use Rattle.vt_model.specs.Legal.{HasOtherKey}
@@ -18,7 +18,7 @@ entry_of info = record { key = info.key; size = info.size; place = info.place }
 -- buckets from `first` to before `end` has its entry among them.
 pub record HasGathered (score : List ℕ → List ℕ) (c : Setup) (h : History) (first end least : ℕ)
     (entries : List Entry) : Type 0 where
-  pub own : (entry : Entry) → Contains entries entry → IsOfBlock score c h entry
+  pub own : (entry : Entry) → Contains entries entry → IsEntryOfBlock score c h entry
   pub all : (n i : ℕ) → least ≤ i → first ≤ n → n < end → IsInBucket score c h n i
       → HasBlock score c h (Contains entries) i
 
@@ -34,7 +34,7 @@ IsInOrder g = IsOrdered g.total None g.entries.items
 pub record HasItsBlocks (score : List ℕ → List ℕ) (c : Setup) (h : History) (n : ℕ)
     (entries : List Entry) : Type 0 where
   pub own : (entry : Entry) → Contains entries entry
-      → IsOfBlock score c h entry × (bucket_of (bucket_count c) entry.key.score.0 ≡ n)
+      → IsEntryOfBlock score c h entry × (bucket_of (bucket_count c) entry.key.score.0 ≡ n)
   pub all : (i : ℕ) → IsInBucket score c h n i → HasBlock score c h (Contains entries) i
 
 -- the setup has so many buckets, and no two blocks have one key

@@ -6,7 +6,7 @@ use Rattle.vt_disk.specs.Members.{DiskOf}
 use Rattle.vt_isect.specs.declared.head.Head.{Head}
 use Rattle.vt_isect.specs.declared.phase.Phase.TheVariants.{ChangeHead}
 use Rattle.vt_isect.specs.Section.{IsAtRest, SectionState}
-use Rattle.vt_isect.specs.Sound.{DiskHolds, Known, nothing_known}
+use Rattle.vt_isect.specs.Sound.{DiskHolds, KnownBuckets, nothing_known}
 
 -- the head of a section with this place among the others
 abbrev pub head_in : (state first count total mark : ℕ) → Head
@@ -29,7 +29,7 @@ pub record HasHead {D : Type 0} (disk : DiskOf D) (head : Head) (old new : Secti
   pub settled : IsSynced disk new.disk
   pub holds : IsTrue disk.tells → DiskHolds disk old nothing_known
       → DiskHolds disk new nothing_known
-  pub keeps : (known : Known) → IsTrue disk.tells → head.first ≡ old.head.first
+  pub keeps : (known : KnownBuckets) → IsTrue disk.tells → head.first ≡ old.head.first
       → DiskHolds disk old known → DiskHolds disk new known
 
 -- A call failed by which it was to get this head: the section has the one that it had, and what is
@@ -39,5 +39,5 @@ pub record StopsAtHead {D : Type 0} (disk : DiskOf D) (head : Head) (old new : S
   pub head_is : new.head ≡ old.head
   pub next_is : new.next ≡ head
   pub phase : new.phase ≡ ChangeHead
-  pub keeps : (known : Known) → IsTrue disk.tells → DiskHolds disk old known
+  pub keeps : (known : KnownBuckets) → IsTrue disk.tells → DiskHolds disk old known
       → DiskHolds disk new known

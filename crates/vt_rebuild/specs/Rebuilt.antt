@@ -9,9 +9,9 @@ use Rattle.vt_isect.specs.Agreement.{AgreesWith, KnownAgrees}
 use Rattle.vt_isect.specs.declared.head.Head.{Head}
 use Rattle.vt_isect.specs.Layout.{IsSection}
 use Rattle.vt_isect.specs.Section.{IsAtRest, SectionState}
-use Rattle.vt_isect.specs.Sound.{DiskHolds, Known, LeavesHead, nothing_known}
-use Rattle.vt_log.specs.Log.{LogState, setup_of}
-use Rattle.vt_log.specs.Sound.{IsSound}
+use Rattle.vt_isect.specs.Sound.{DiskHolds, KnownBuckets, LeavesHead, nothing_known}
+use Rattle.vt_log.specs.Log.{LogState, setup_of_log}
+use Rattle.vt_log.specs.Sound.{IsSoundLog}
 use Rattle.vt_model.specs.declared.TheConstants.{BUCKET_ROOM}
 use Rattle.vt_model.specs.History.{History}
 use Rattle.vt_model.specs.Legal.{HasOtherKey}
@@ -23,14 +23,14 @@ abbrev pub counts_of : {D : Type 0} → List (SectionState D) → List ℕ
 counts_of sections = map (λ section. section.buckets) sections
 
 abbrev pub setup_with : {D : Type 0} → LogState D → List (SectionState D) → Setup
-setup_with l sections = record (setup_of l) { sections = counts_of sections }
+setup_with l sections = record (setup_of_log l) { sections = counts_of sections }
 
 -- The log has this history, in which no two blocks have one key. Both hold of each store that was
 -- mounted.
 pub record HasHistory {D : Type 0} (score : List ℕ → List ℕ) (disk : DiskOf D) (l : LogState D)
     (h : History) : Type 0 where
   pub tells : IsTrue disk.tells
-  pub sound : IsSound score disk l h
+  pub sound : IsSoundLog score disk l h
   pub keys : AllPairs (HasOtherKey score) h
 
 -- a section as it is mounted, whatever its head says and its buckets hold: at rest, and its disk
@@ -52,15 +52,16 @@ pub record IsRebuilt {D : Type 0} (score : List ℕ → List ℕ) (disk : DiskOf
   pub images : (file : List ℕ) → disk.images new.disk file → (entries : ℕ → List Entry)
       × IsSection old.name new.head old.buckets entries file
       × AgreesWith score c h old.buckets new.head entries
-  pub known : Known
+  pub known : KnownBuckets
   pub holds : DiskHolds disk new known
   pub agrees : KnownAgrees score c h new known
 
 -- it is as it was, but that a call may have failed by which its head was to say that it is being
 -- built
-abbrev pub IsUnwritten : {D : Type 0} → DiskOf D → (first total : ℕ) → (old new : SectionState D)
+abbrev pub IsUnwrittenSection : {D : Type 0} → DiskOf D → (first total : ℕ)
+    → (old new : SectionState D)
     → Type 0
-IsUnwritten disk first total old new = (new ≡ old)
+IsUnwrittenSection disk first total old new = (new ≡ old)
     ⊎ (IsSameSection disk old new × StopsAtHead disk (head_in 2 first old.buckets total 0) old new)
 
 -- its head says that it is being built, so that nothing in it counts
@@ -78,7 +79,7 @@ pub record IsComing {D : Type 0} (score : List ℕ → List ℕ) (disk : DiskOf 
   pub same : IsSameSection disk old new
   pub head : new.head ≡ head_in 2 first old.buckets (bucket_count c) 0
   pub next : new.next ≡ head_in 1 first old.buckets (bucket_count c) (length h)
-  pub known : Known
+  pub known : KnownBuckets
   pub holds : DiskHolds disk new known
   pub agrees : KnownAgrees score c h new known
 
@@ -87,7 +88,8 @@ pub record IsComing {D : Type 0} (score : List ℕ → List ℕ) (disk : DiskOf 
 abbrev pub IsHalfRebuilt : {D : Type 0} → (List ℕ → List ℕ) → DiskOf D → Setup → History
     → (first : ℕ) → (old new : SectionState D) → Type 0
 IsHalfRebuilt score disk c h first old new =
-    IsUnwritten disk first (bucket_count c) old new ⊎ IsBeingBuilt disk first (bucket_count c) old new
+    IsUnwrittenSection disk first (bucket_count c) old new
+    ⊎ IsBeingBuilt disk first (bucket_count c) old new
     ⊎ IsComing score disk c h first old new ⊎ IsRebuilt score disk c h first old new
 
 -- ---- all sections, each with the number of its first bucket
@@ -113,7 +115,7 @@ pub record AreHalfRebuilt {D : Type 0} (score : List ℕ → List ℕ) (disk : D
     (h : History) (olds news : List (SectionState D)) : Type 0 where
   pub all : EachSection (IsHalfRebuilt score disk c h) olds news
   pub together : ((i : ℕ) (t : SectionState D) → slice_get news i ≡ Some t → MayBeInUse t)
-      → EachSection (λ first. IsUnwritten disk first (bucket_count c)) olds news
+      → EachSection (λ first. IsUnwrittenSection disk first (bucket_count c)) olds news
       ⊎ EachSection (λ first old new. IsComing score disk c h first old new
       ⊎ IsRebuilt score disk c h first old new) olds news
 

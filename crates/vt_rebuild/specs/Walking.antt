@@ -3,22 +3,22 @@ use Rattle.std.specs.Prelude.{◌≡◌, ◌⊎◌, ⊤, ℕ, ◌+◌, ◌-◌, 
 use Rattle.vt_base.specs.Damage.{Differ}
 use Rattle.vt_base.specs.declared.place.Info.{Info}
 use Rattle.vt_disk.specs.Members.{DiskOf}
-use Rattle.vt_log.specs.Answers.{HoldTheSame, OnlyReads}
-use Rattle.vt_log.specs.Back.{IsBehind, IsInfo, IsTailOf, TailState}
+use Rattle.vt_log.specs.Answers.{HoldTheSame, OnlyReadsLog}
+use Rattle.vt_log.specs.Back.{IsTailBehind, IsInfoInLog, IsTailOf, TailState}
 use Rattle.vt_log.specs.Faults.{CountsFaults}
 use Rattle.vt_log.specs.Log.{LogState}
-use Rattle.vt_log.specs.Sound.{IsSound}
+use Rattle.vt_log.specs.Sound.{IsSoundLog}
 use Rattle.vt_model.specs.History.{History}
 use Rattle.vt_model.specs.Places.{crowd}
-use Rattle.vt_rebuild.specs.declared.bad.RebuildBad.{RebuildBad}
-use Rattle.vt_rebuild.specs.declared.bad.RebuildBad.TheVariants.{Fault, IndexFull, Damaged, NoMemory}
+use Rattle.vt_rebuild.specs.declared.error.RebuildBad.{RebuildBad}
+use Rattle.vt_rebuild.specs.declared.error.RebuildBad.TheVariants.{Fault, IndexFull, Damaged, NoMemory}
 
 -- the answer tells of a fault of a disk in this call
-abbrev pub is_fault : RebuildBad → Bool
-is_fault Fault = true
-is_fault (IndexFull bucket) = false
-is_fault (Damaged place want found) = false
-is_fault NoMemory = false
+abbrev pub is_rebuild_fault : RebuildBad → Bool
+is_rebuild_fault Fault = true
+is_rebuild_fault (IndexFull bucket) = false
+is_rebuild_fault (Damaged place want found) = false
+is_rebuild_fault NoMemory = false
 
 -- a fault, or damage whose two values differ
 abbrev pub TellsOfLog : RebuildBad → Type 0
@@ -42,21 +42,21 @@ TellsOfReading NoMemory = ⊤
 pub record KeepsLog {D : Type 0} (score : List ℕ → List ℕ) (disk : DiskOf D) (old new : LogState D)
     : Type 0 where
   pub same : new ≡ record old { disks = new.disks }
-  pub sound : (h : History) → IsSound score disk old h → IsSound score disk new h
+  pub sound : (h : History) → IsSoundLog score disk old h → IsSoundLog score disk new h
   pub disks : HoldTheSame disk old.disks new.disks
 
 -- What is known of the next block on the way back through a log is given, where one is left.
 pub record GivesNext {D : Type 0} (score : List ℕ → List ℕ) (disk : DiskOf D)
     (result : Result Info RebuildBad) (old new : LogState D) (before after : TailState)
     : Type 0 where
-  pub blocks : (h : History) → IsTrue disk.tells → IsSound score disk old h
-      → IsBehind old h before.left before → MatchResult result
-      (λ info. IsInfo score old h after.left info × IsBehind old h after.left after)
+  pub blocks : (h : History) → IsTrue disk.tells → IsSoundLog score disk old h
+      → IsTailBehind old h before.left before → MatchResult result
+      (λ info. IsInfoInLog score old h after.left info × IsTailBehind old h after.left after)
       (λ bad. bad ≡ Fault)
   pub left : MatchResult result (λ _. after.left + 1 ≡ before.left) (λ _. ⊤)
   pub tail : IsTailOf new after
-  pub reads : OnlyReads score disk 1 old new
-  pub faults : CountsFaults disk is_fault result old.disks new.disks
+  pub reads : OnlyReadsLog score disk 1 old new
+  pub faults : CountsFaults disk is_rebuild_fault result old.disks new.disks
   pub ends_early : IfErr result TellsOfLog
 
 -- of so many buckets each has its blocks counted, as far as two bytes count

@@ -12,18 +12,17 @@ ghost use Rattle.vt_rebuild.specs.Gathering.{HasItsBlocks, IsGathered, IsInOrder
 ghost use Rattle.vt_log.specs.Faults.{CountsFaults};
 ghost use Rattle.vt_rebuild.specs.Building.{NamesDamage};
 ghost use Rattle.vt_rebuild.specs.Rebuilt.{HasHistory};
-ghost use Rattle.vt_rebuild.specs.Walking.{FaultOrMemory, KeepsLog, TellsOfReading, is_fault};
+ghost use Rattle.vt_rebuild.specs.Walking.{FaultOrMemory, KeepsLog, TellsOfReading, is_rebuild_fault};
 
 use crate::RebuildBad;
 use crate::gathering::Gathered;
 use std::sync::ledger::Ledger;
-use vt_base::Scorer;
+use vt_base::{Scorer, Steps};
 use vt_bucket::Full;
 use vt_disk::Disk;
 use vt_isect::{Section, soundness_is_kept};
 use vt_log::Log;
 use vt_out::Progress;
-use vt_steps::Steps;
 
 /// Fills all buckets of a section, and tells how many of all are filled. No sync is made.
 pub(crate) fn fill_section<D: Disk, S: Scorer, L: Ledger, G: Progress>(
@@ -136,7 +135,7 @@ fn cover<D: Disk, S: Scorer, L: Ledger>(
     ensures order { OnOk result (IsInOrder gathered.new) }
     ensures total { gathered.new.total ≡ gathered.old.total }
     ensures keeps { KeepsLog S.score_of D.Disk log.old log.new }
-    ensures faults { CountsFaults D.Disk is_fault result log.old.disks log.new.disks }
+    ensures faults { CountsFaults D.Disk is_rebuild_fault result log.old.disks log.new.disks }
     ensures ends_early { IfErr result TellsOfReading }
 {
     if number < gathered.first || gathered.end <= number {

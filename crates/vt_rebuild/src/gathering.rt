@@ -3,25 +3,24 @@
 ghost use Rattle.std.specs.Prelude.{◌≡◌, ◌≢◌, ◌+◌, ◌^◌, ◌<◌, ◌≤◌, ◌∷◌, ◌++◌, ℕ, List, [], IsTrue, IfOk, IfErr, OnOk, OnErr, MatchResult, length};
 ghost use Rattle.std.specs.List.{AllPairs, Contains};
 ghost use Rattle.vt_base.specs.declared.place.Entry.{Entry};
-ghost use Rattle.vt_bucket.specs.Buckets.{number_of, entries_of};
+ghost use Rattle.vt_bucket.specs.Buckets.{number_of_bucket, bucket_entries};
 ghost use Rattle.vt_isect.specs.Merging.{Merges};
 ghost use Rattle.vt_log.specs.Faults.{CountsFaults};
-ghost use Rattle.vt_log.specs.Sound.{IsSound};
+ghost use Rattle.vt_log.specs.Sound.{IsSoundLog};
 ghost use Rattle.vt_model.specs.History.{History};
 ghost use Rattle.vt_model.specs.Places.{Setup, bucket_of, bucket_count, crowd};
 ghost use Rattle.vt_model.specs.declared.TheConstants.{BUCKET_ROOM};
 ghost use Rattle.vt_rebuild.specs.Gathering.{HasGathered, entry_of};
-ghost use Rattle.vt_rebuild.specs.Walking.{FaultOrMemory, KeepsLog, TellsOfReading, is_fault};
+ghost use Rattle.vt_rebuild.specs.Walking.{FaultOrMemory, KeepsLog, TellsOfReading, is_rebuild_fault};
 
 use crate::walking::next_back;
 use crate::{GATHERED, RebuildBad};
 use std::sync::ledger::Ledger;
-use vt_base::{Entry, Info, Scorer};
+use vt_base::{Entry, Info, Scorer, Steps};
 use vt_bucket::{Bucket, Full};
 use vt_disk::Disk;
 use vt_isect::{blocks_are_counted, bucket_number, one_key_has_one_entry};
 use vt_log::Log;
-use vt_steps::Steps;
 
 /// The entries of the blocks of some buckets, of so many: those from `first` on and before `end`.
 #[derive(Drop)]
@@ -51,12 +50,12 @@ impl Gathered {
             × (self.new.end ≤ self.new.total)) }
         ensures total { self.new.total ≡ self.old.total }
         ensures gathered { (c : Setup) (h : History) → IsTrue D.tells
-            → IsSound S.score_of D.Disk log.old h → bucket_count c ≡ self.old.total
+            → IsSoundLog S.score_of D.Disk log.old h → bucket_count c ≡ self.old.total
             → OnOk result (IsGathered S.score_of c h self.new) }
         ensures order { OnOk result (IsInOrder self.new) }
         ensures keeps { KeepsLog S.score_of D.Disk log.old log.new }
-        ensures faults { CountsFaults D.Disk is_fault result log.old.disks log.new.disks }
-        ensures undamaged { (h : History) → IsTrue D.tells → IsSound S.score_of D.Disk log.old h
+        ensures faults { CountsFaults D.Disk is_rebuild_fault result log.old.disks log.new.disks }
+        ensures undamaged { (h : History) → IsTrue D.tells → IsSoundLog S.score_of D.Disk log.old h
             → IfErr result FaultOrMemory }
         ensures ends_early { IfErr result TellsOfReading }
     {
@@ -74,11 +73,11 @@ impl Gathered {
     /// room for.
     pub(crate) fn bucket(&self, number: u32) -> Result<Bucket, Full>
         requires { IsInOrder self.now }
-        ensures number { IfOk result (λ bucket. number_of bucket ≡ number) }
+        ensures number { IfOk result (λ bucket. number_of_bucket bucket ≡ number) }
         ensures blocks { (score : List ℕ → List ℕ) (c : Setup) (h : History)
             → CanIndex score c h self.now.total → IsGathered score c h self.now
             → self.now.first ≤ number → number < self.now.end
-            → MatchResult result (λ bucket. HasItsBlocks score c h number (entries_of bucket))
+            → MatchResult result (λ bucket. HasItsBlocks score c h number (bucket_entries bucket))
             (λ _. BUCKET_ROOM < crowd score self.now.total h number) }
     {
         one_key_has_one_entry();
@@ -119,11 +118,11 @@ fn gather<D: Disk, S: Scorer, L: Ledger>(
     steps: &mut Steps<L>,
 ) -> Result<(), RebuildBad>
     ensures gathered { (c : Setup) (h : History) → IsTrue D.tells
-        → IsSound S.score_of D.Disk log.old h → bucket_count c ≡ total
+        → IsSoundLog S.score_of D.Disk log.old h → bucket_count c ≡ total
         → OnOk result (HasGathered S.score_of c h first end 0 entries.new.items) }
     ensures keeps { KeepsLog S.score_of D.Disk log.old log.new }
-    ensures faults { CountsFaults D.Disk is_fault result log.old.disks log.new.disks }
-    ensures undamaged { (h : History) → IsTrue D.tells → IsSound S.score_of D.Disk log.old h
+    ensures faults { CountsFaults D.Disk is_rebuild_fault result log.old.disks log.new.disks }
+    ensures undamaged { (h : History) → IsTrue D.tells → IsSoundLog S.score_of D.Disk log.old h
         → IfErr result FaultOrMemory }
     ensures ends_early { IfErr result TellsOfReading }
 {
@@ -158,9 +157,9 @@ fn take_in(entries: &mut Vec<Entry>, info: &Info) -> Result<(), RebuildBad>
 /// A bucket with these entries, one of each key. Full says that there are more keys than it has
 /// room for.
 fn bucket_of_run(run: &[Entry], number: u32) -> Result<Bucket, Full>
-    ensures number { IfOk result (λ bucket. number_of bucket ≡ number) }
+    ensures number { IfOk result (λ bucket. number_of_bucket bucket ≡ number) }
     ensures merged { IfOk result
-        (λ bucket. Merges [] (Contains run.now) (entries_of bucket)) }
+        (λ bucket. Merges [] (Contains run.now) (bucket_entries bucket)) }
     ensures full { OnErr result ((more : List Entry) × (length more ≡ BUCKET_ROOM + 1)
         × AllPairs (λ a b. a.key ≢ b.key) more
         × ((entry : Entry) → Contains more entry → Contains run.now entry)) }

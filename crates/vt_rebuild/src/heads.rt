@@ -2,13 +2,13 @@
 
 ghost use Rattle.std.specs.Prelude.{◌≡◌, ◌+◌, ◌^◌, ◌<◌, ◌≤◌, All, IsTrue, IfErr, OnOk, OnErr, map, sum};
 ghost use Rattle.vt_base.specs.Faults.{CountsFault};
-ghost use Rattle.vt_isect.specs.Faults.{is_fault as is_fault_of_section};
+ghost use Rattle.vt_isect.specs.Faults.{is_section_fault};
 ghost use Rattle.vt_isect.specs.Section.{IsAtRest};
 ghost use Rattle.vt_log.specs.Faults.{CountsFaults};
 ghost use Rattle.vt_rebuild.specs.Building.{AreBegun, AreHalfBegun, disks_under};
 ghost use Rattle.vt_rebuild.specs.Heads.{HasHead, IsSameSection, StopsAtHead};
 ghost use Rattle.vt_rebuild.specs.Rebuilt.{IsOpened, counts_of};
-ghost use Rattle.vt_rebuild.specs.Walking.{is_fault};
+ghost use Rattle.vt_rebuild.specs.Walking.{is_rebuild_fault};
 
 use crate::{MAX_BUCKETS, RebuildBad};
 use vt_disk::Disk;
@@ -25,7 +25,7 @@ pub(crate) fn change_head<D: Disk>(section: &mut Section<D>, head: Head) -> Resu
     ensures calls { IsTrue D.tells
         → D.calls section.new.disk ≤ D.calls section.old.disk + 4 }
     ensures refused { IfErr result (λ bad. bad ≡ ShardErr.Fault) }
-    ensures faults { CountsFault is_fault_of_section result
+    ensures faults { CountsFault is_section_fault result
         (D.faults section.old.disk) (D.faults section.new.disk) }
 {
     soundness_is_kept::<D>();
@@ -46,7 +46,7 @@ pub(crate) fn begin_all<D: Disk>(sections: &mut [Section<D>], total: u32) -> Res
     ensures begun { OnOk result (AreBegun D.Disk total sections.old sections.new) }
     ensures stops { OnErr result (AreHalfBegun D.Disk total sections.old sections.new) }
     ensures refused { IfErr result (λ bad. bad ≡ RebuildBad.Fault) }
-    ensures faults { CountsFaults D.Disk is_fault result
+    ensures faults { CountsFaults D.Disk is_rebuild_fault result
         (disks_under sections.old) (disks_under sections.new) }
 {
     let mut first = 0;

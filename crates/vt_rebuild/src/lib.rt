@@ -2,14 +2,14 @@
 // Tests: crates/vt_store_tests/src/upkeep.rt.
 #![tactic(auto)]
 
-mod bad;
+mod error;
 mod filling;
 mod gathering;
 mod heads;
 mod rebuilding;
 mod walking;
 
-pub use bad::RebuildBad;
+pub use error::RebuildBad;
 pub use rebuilding::rebuild;
 
 /// How many buckets all sections may have.

@@ -2,21 +2,21 @@
 
 ghost use Rattle.std.specs.Prelude.{◌≡◌, ◌+◌, ◌^◌, ◌<◌, ◌≤◌, ℕ, [], All, IsTrue, IfErr, IfOk, IfSome, IfNone, OnOk, OnErr, Err, length, slice_index, sum};
 ghost use Rattle.vt_base.specs.Faults.{CountsFault};
-ghost use Rattle.vt_isect.specs.Faults.{is_fault as is_fault_of_section};
-ghost use Rattle.vt_isect.specs.Filling.{Reads};
+ghost use Rattle.vt_isect.specs.Faults.{is_section_fault};
+ghost use Rattle.vt_isect.specs.Filling.{ReadsKnown};
 ghost use Rattle.vt_isect.specs.Section.{IsAtRest};
-ghost use Rattle.vt_isect.specs.Sound.{DiskHolds, Known, nothing_known};
+ghost use Rattle.vt_isect.specs.Sound.{DiskHolds, KnownBuckets, nothing_known};
 ghost use Rattle.vt_log.specs.Log.{front, queued};
 ghost use Rattle.vt_model.specs.History.{History};
 ghost use Rattle.vt_log.specs.Faults.{CountsFaults};
 ghost use Rattle.vt_model.specs.Places.{Setup};
 ghost use Rattle.vt_model.specs.declared.TheConstants.{BUCKET_ROOM};
-ghost use Rattle.vt_rebuild.specs.Building.{AreFinished, AreHalfFinished, AreToFinish, CountsAll, IsRefusedFor, IsFinished, IsStopped, IsToFinish, NamesDamage, StopsInUse, in_use};
+ghost use Rattle.vt_rebuild.specs.Building.{AreFinished, AreHalfFinished, AreToFinish, CountsAll, IsRefusedFor, IsFinished, IsStoppedBuild, IsToFinish, NamesDamage, StopsInUse, in_use};
 ghost use Rattle.vt_rebuild.specs.Filling.{CanFill, CountsEither, FitsBuckets};
 ghost use Rattle.vt_rebuild.specs.Gathering.{IsGathered, IsInOrder};
 ghost use Rattle.vt_rebuild.specs.Heads.{HasHead, IsSameSection};
 ghost use Rattle.vt_rebuild.specs.Rebuilt.{AreHalfRebuilt, AreRebuilt, HasHistory, IsOpened, counts_of, setup_with};
-ghost use Rattle.vt_rebuild.specs.Walking.{FaultOrMemory, KeepsLog, is_fault};
+ghost use Rattle.vt_rebuild.specs.Walking.{FaultOrMemory, KeepsLog, is_rebuild_fault};
 
 use crate::filling::fill_section;
 use crate::gathering::Gathered;
@@ -26,13 +26,12 @@ use crate::{GATHERED, MAX_BUCKETS, RebuildBad};
 use std::alloc::Global;
 use std::marker::Brand;
 use std::sync::ledger::{Blank, Ledger};
-use vt_base::Scorer;
+use vt_base::{Scorer, Steps};
 use vt_disk::Disk;
 use vt_isect::{Head, Section, ShardErr, images_agree, soundness_is_kept, what_is_read_is_settled};
 use vt_log::Log;
 use vt_model::BUCKET_ROOM;
 use vt_out::Progress;
-use vt_steps::Steps;
 
 /// Rebuilds the index of a log, whose blocks are all committed, in these sections, and gives the
 /// count of its blocks. The sections have their buckets one behind the other, whatever their heads
@@ -88,7 +87,7 @@ pub fn rebuild<D: Disk, S: Scorer, G: Progress>(
     rebuild_on::<D, S, Brand, G>(alloc, log, sections, progress, Blank::new(1))
 }
 
-/// The same on a new ledger, in which steps are counted in contracts alone (`vt_steps`).
+/// The same on a new ledger, in which steps are counted in contracts alone (`vt_base`).
 fn rebuild_on<D: Disk, S: Scorer, L: Ledger, G: Progress>(
     alloc: Global,
     log: &mut Log<D, S>,
@@ -156,7 +155,7 @@ fn count_all<D: Disk, S: Scorer, L: Ledger>(
         → IfErr result (IsRefusedFor S.score_of total h) }
     ensures damage { IfErr result NamesDamage }
     ensures keeps { KeepsLog S.score_of D.Disk log.old log.new }
-    ensures faults { CountsFaults D.Disk is_fault result log.old.disks log.new.disks }
+    ensures faults { CountsFaults D.Disk is_rebuild_fault result log.old.disks log.new.disks }
 {
     let Ok(mut counts) = vec![in alloc; 0u16; total as usize] else {
         return Err(RebuildBad::NoMemory);
@@ -269,7 +268,7 @@ fn finish<D: Disk, S: Scorer, L: Ledger, G: Progress>(
         → OnOk result (IsFinished S.score_of D.Disk c h section.old section.new) }
     ensures left { (c : Setup) (h : History)
         → CanFill S.score_of D.Disk c h log.old gathered.old → blocks ≡ length h
-        → OnErr result (IsStopped S.score_of D.Disk c h section.old section.new) }
+        → OnErr result (IsStoppedBuild S.score_of D.Disk c h section.old section.new) }
     ensures fits { (c : Setup) (h : History)
         → CanFill S.score_of D.Disk c h log.old gathered.old
         → FitsBuckets S.score_of gathered.old.total h → IfErr result FaultOrMemory }
@@ -298,15 +297,16 @@ fn put_to_use<D: Disk>(section: &mut Section<D>, blocks: u64) -> Result<(), Shar
     requires numbers { section.old.head.first + section.old.buckets ≤ 2 ^ 32 }
     ensures head { OnOk result
         (HasHead D.Disk (in_use blocks section.old.head) section.old section.new) }
-    ensures used { (known : Known) → IsTrue D.tells → DiskHolds D.Disk section.old nothing_known
-        → Reads D.Disk section.old known → OnOk result (DiskHolds D.Disk section.new known) }
+    ensures used { (known : KnownBuckets) → IsTrue D.tells
+        → DiskHolds D.Disk section.old nothing_known
+        → ReadsKnown D.Disk section.old known → OnOk result (DiskHolds D.Disk section.new known) }
     ensures stops { OnErr result
         (StopsInUse D.Disk (in_use blocks section.old.head) section.old section.new) }
     ensures same { IsSameSection D.Disk section.old section.new }
     ensures calls { IsTrue D.tells
         → D.calls section.new.disk ≤ D.calls section.old.disk + 5 }
     ensures refused { IfErr result (λ bad. bad ≡ ShardErr.Fault) }
-    ensures faults { CountsFault is_fault_of_section result
+    ensures faults { CountsFault is_section_fault result
         (D.faults section.old.disk) (D.faults section.new.disk) }
 {
     soundness_is_kept::<D>();

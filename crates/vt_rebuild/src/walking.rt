@@ -4,18 +4,17 @@ ghost use Rattle.std.specs.Prelude.{◌≡◌, ◌+◌, ◌^◌, ◌<◌, ℕ, I
 ghost use Rattle.vt_log.specs.Back.{IsTailOf};
 ghost use Rattle.vt_log.specs.Faults.{CountsFaults};
 ghost use Rattle.vt_log.specs.Log.{queued};
-ghost use Rattle.vt_log.specs.Sound.{IsSound};
+ghost use Rattle.vt_log.specs.Sound.{IsSoundLog};
 ghost use Rattle.vt_model.specs.History.{History};
-ghost use Rattle.vt_rebuild.specs.Walking.{AreCounted, GivesNext, KeepsLog, TellsOfLog, is_fault};
+ghost use Rattle.vt_rebuild.specs.Walking.{AreCounted, GivesNext, KeepsLog, TellsOfLog, is_rebuild_fault};
 
 use crate::RebuildBad;
 use std::sync::ledger::Ledger;
 use vt_arena::BackBad;
-use vt_base::{Info, Scorer};
+use vt_base::{Info, Scorer, Steps};
 use vt_disk::Disk;
 use vt_isect::bucket_number;
 use vt_log::{Log, Tail};
-use vt_steps::Steps;
 
 /// What is known of the block that comes next on the way to the log's first, where one is left.
 pub(crate) fn next_back<D: Disk, S: Scorer, L: Ledger>(
@@ -48,13 +47,13 @@ pub(crate) fn count_blocks<D: Disk, S: Scorer, L: Ledger>(
     requires zeros { counts.old ≡ replicate (length counts.old) 0 }
     requires some { 0 < length counts.old }
     requires few { length counts.old < 2 ^ 32 }
-    ensures counted { (h : History) → IsTrue D.tells → IsSound S.score_of D.Disk log.old h
+    ensures counted { (h : History) → IsTrue D.tells → IsSoundLog S.score_of D.Disk log.old h
         → OnOk result (AreCounted S.score_of (length counts.old) h counts.new) }
-    ensures undamaged { (h : History) → IsTrue D.tells → IsSound S.score_of D.Disk log.old h
+    ensures undamaged { (h : History) → IsTrue D.tells → IsSoundLog S.score_of D.Disk log.old h
         → IfErr result (λ bad. bad ≡ RebuildBad.Fault) }
     ensures len { length counts.new ≡ length counts.old }
     ensures keeps { KeepsLog S.score_of D.Disk log.old log.new }
-    ensures faults { CountsFaults D.Disk is_fault result log.old.disks log.new.disks }
+    ensures faults { CountsFaults D.Disk is_rebuild_fault result log.old.disks log.new.disks }
     ensures ends_early { IfErr result TellsOfLog }
 {
     let total = counts.len() as u32;

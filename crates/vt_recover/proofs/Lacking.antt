@@ -14,7 +14,7 @@ use Rattle.vt_disk.specs.Members.{DiskOf}
 use Rattle.vt_icache.specs.Index.{entry_of}
 use Rattle.vt_isect.specs.Agreement.{IsEntryOf}
 use Rattle.vt_isect.specs.Head.{IsHeadFrame}
-use Rattle.vt_isect.specs.Layout.{InRange, IsPlaceOf, IsSection, head_place}
+use Rattle.vt_isect.specs.Layout.{InRange, IsBucketPlace, IsSection, head_place}
 use Rattle.vt_isect.specs.Merging.{HasKey}
 use Rattle.vt_isect.specs.declared.TheConstants.{FRAME_LEN}
 use Rattle.vt_isect.specs.declared.head.Head.{Head}
@@ -23,10 +23,10 @@ use Rattle.vt_model.specs.Places.{Setup, bucket_count, bucket_of, section_of_sco
 use Rattle.vt_shard.specs.Shard.{ShardState, HasScore, bucket_at}
 use Rattle.vt_shard.specs.Sound.{IsSoundFrom}
 use Rattle.vt_twin.specs.Frames.{current_frame}
-use Rattle.vt_recover.specs.Marks.{LacksEntry, LacksMany}
+use Rattle.vt_recover.specs.Marks.{LacksIndexEntry, LacksMany}
 use Rattle.vt_recover.specs.Recalling.{KeepsSection}
-use Rattle.vt_recover.specs.Sections.{IsLive, SectionStandsFor, buckets_of}
-use Rattle.vt_recover.specs.TakingBack.{HasEntries, HasNoRoomFor, IsUnwritten, LacksKey}
+use Rattle.vt_recover.specs.Sections.{IsLive, SectionStandsFor, section_buckets}
+use Rattle.vt_recover.specs.TakingBack.{HasEntries, HasNoRoomFor, IsUnwrittenShard, LacksKey}
 use Rattle.vt_recover.proofs.Below.{HaveRanges}
 use Rattle.vt_recover.proofs.Lists.{at_map}
 use Rattle.vt_recover.proofs.PuttingBack.{any_default}
@@ -62,20 +62,20 @@ apart_map xs apart = λ i j d before within same.
     apart i j a.0 before (omega (arith, within, length-map xs f)) (ap f own ∙ sym first ∙ same ∙ second ∙ sym (ap f other))
 
 module _ {D : Type 0} (ranges : HaveRanges) (one_head : OneHead) (one_frame : IsUnambiguous) (score : List ℕ → List ℕ) (c : Setup) (h : History) (i : ℕ) (file : List ℕ) (before : ShardState D)
-    (live : IsLive c i before.section.head) (buckets : before.section.buckets ≡ buckets_of c i) (stands : SectionStandsFor score c h i file)
+    (live : IsLive c i before.section.head) (buckets : before.section.buckets ≡ section_buckets c i) (stands : SectionStandsFor score c h i file)
     (entries : ℕ → List Entry) (has : HasEntries entries file before) where
   -- a section that the file is has the shard's place
-  same_first : (name : List ℕ) (head : Head) (es : ℕ → List Entry) → IsSection name head (buckets_of c i) es file → head.first ≡ before.section.head.first
+  same_first : (name : List ℕ) (head : Head) (es : ℕ → List Entry) → IsSection name head (section_buckets c i) es file → head.first ≡ before.section.head.first
   same_first name head es is =
       let same : head ≡ stands.section.head = (one_head name stands.name head stands.section.head (current_frame head_place FRAME_LEN file) is.head_frame stands.section.is.head_frame).1 in
       ap (λ (x : Head). x.first) same ∙ ap (λ (x : Head). x.first) stands.section.at_place ∙ stands.live.first ∙ sym live.first
 
   -- and these entries
-  same_entries : (name : List ℕ) (head : Head) (es : ℕ → List Entry) → IsSection name head (buckets_of c i) es file → (n : ℕ) → InRange before.section.head before.section.buckets n → es n ≡ entries n
+  same_entries : (name : List ℕ) (head : Head) (es : ℕ → List Entry) → IsSection name head (section_buckets c i) es file → (n : ℕ) → InRange before.section.head before.section.buckets n → es n ≡ entries n
   same_entries name head es is n range =
       let first : head.first ≡ before.section.head.first = same_first name head es is in
       let it = is.bucket n (omega (arith, range.0, first), omega (arith, range.1, first, buckets)) in
-      let place : IsPlaceOf (n - before.section.head.first) it.0 = subst (λ (m : ℕ). IsPlaceOf (n - m) it.0) first it.1 in
+      let place : IsBucketPlace (n - before.section.head.first) it.0 = subst (λ (m : ℕ). IsBucketPlace (n - m) it.0) first it.1 in
       (one_frame n n (es n) (entries n) (current_frame it.0 FRAME_LEN file) it.2 (has n it.0 range place)).1
 
   -- the section of a score that the shard has
@@ -86,7 +86,7 @@ module _ {D : Type 0} (ranges : HaveRanges) (one_head : OneHead) (one_frame : Is
       (ranges c.sections i (bucket_of (bucket_count c) s) (within_list c.sections i some)).1
       (omega (arith, own.0, live.first, total), omega (arith, own.1, live.first, total, buckets))
 
-  pub lacks_entry : (info : Info) → IsEntryOf score c h info.number (entry_of info) → HasScore before info.key.score.0 → LacksKey entries before info.key → LacksEntry score c h i file info.number
+  pub lacks_entry : (info : Info) → IsEntryOf score c h info.number (entry_of info) → HasScore before info.key.score.0 → LacksKey entries before info.key → LacksIndexEntry score c h i file info.number
   lacks_entry info it own lacks =
       let s : List ℕ = score it.block.block.bytes in
       let is : info.key.score.0 ≡ s = it.score_is in
@@ -110,7 +110,7 @@ module _ {D : Type 0} (ranges : HaveRanges) (one_head : OneHead) (one_frame : Is
 
   -- too many are lacking
   pub lacks_many : (disk : DiskOf D) (mid : ShardState D) (info : Info) → KeepsSection disk before mid → IsSoundFrom score c disk mid h (length h) (info.number + 1)
-      → IsEntryOf score c h info.number (entry_of info) → IsUnwritten disk entries file (info.number + 1) mid → HasNoRoomFor entries info.key mid → LacksMany score c h i file
+      → IsEntryOf score c h info.number (entry_of info) → IsUnwrittenShard disk entries file (info.number + 1) mid → HasNoRoomFor entries info.key mid → LacksMany score c h i file
   lacks_many disk mid info keeps sound it un full =
       let f : Info → ℕ = λ x. x.number in
       let dirty : List Info = mid.index.dirty in
@@ -127,8 +127,8 @@ module _ {D : Type 0} (ranges : HaveRanges) (one_head : OneHead) (one_frame : Is
             let least : info.number + 1 ≤ f x.0 = un.least x.0 (k, omega (arith, below, length-map dirty f), get_or_from_slice_get dirty k x.0 x.0 x.1) in
             omega (arith, there, least, same));
         many = omega (arith, length-append (map f dirty) (info.number ∷ []), length-map dirty f, full.full);
-        each = All-push (LacksEntry score c h i file) (map f dirty) info.number
-            (All-map (LacksEntry score c h i file) f dirty (λ k d below.
+        each = All-push (LacksIndexEntry score c h i file) (map f dirty) info.number
+            (All-map (LacksIndexEntry score c h i file) f dirty (λ k d below.
             let x : Info = slice_index_or dirty k d in
             let in_list : Contains dirty x = (k, below, any_default dirty k x d below) in
             lacks_entry x (sound.dirty x in_list) (back x.key.score.0 (un.own x in_list)) (lack x.key (un.lacks x in_list))))

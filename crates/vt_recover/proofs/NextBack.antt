@@ -9,16 +9,16 @@ use Rattle.vt_base.specs.declared.place.Place.{Place}
 use Rattle.vt_base.specs.declared.why.FieldValue.{FieldValue}
 use Rattle.vt_base.specs.declared.why.Site.TheVariants.{Clump}
 use Rattle.vt_disk.specs.Members.{DiskOf}
-use Rattle.vt_arena.specs.Directory.{NamesDamage, is_fault, last_entry}
-use Rattle.vt_arena.specs.declared.bad.BackBad.{BackBad}
-use Rattle.vt_arena.specs.declared.bad.BackBad.TheVariants.{Fault, Damaged}
+use Rattle.vt_arena.specs.Directory.{NamesDamage, is_back_fault, last_entry}
+use Rattle.vt_arena.specs.declared.error.BackBad.{BackBad}
+use Rattle.vt_arena.specs.declared.error.BackBad.TheVariants.{Fault, Damaged}
 use Rattle.vt_arena.specs.declared.directory.At.{At}
 use Rattle.vt_arena.specs.declared.head.Found.{Found}
-use Rattle.vt_log.specs.Answers.{OnlyReads}
-use Rattle.vt_log.specs.Back.{GivesEntry, IsBehind, IsInfo, IsNext, IsTailOf, Moves, StepsBack, TailState}
+use Rattle.vt_log.specs.Answers.{OnlyReadsLog}
+use Rattle.vt_log.specs.Back.{GivesEntry, IsTailBehind, IsInfoInLog, IsNextEntry, IsTailOf, MovesBack, StepsBack, TailState}
 use Rattle.vt_log.specs.Faults.{CountsFaults}
 use Rattle.vt_log.specs.Log.{LogState}
-use Rattle.vt_log.specs.Sound.{IsAt, IsSound as IsSoundLog}
+use Rattle.vt_log.specs.Sound.{IsArenaAt, IsSoundLog}
 use Rattle.vt_log.proofs.Places.{slice_get_there}
 use Rattle.vt_model.specs.History.{History}
 use Rattle.vt_part.specs.declared.layout.ArenaRegion.{ArenaRegion}
@@ -83,18 +83,18 @@ last_full heads (suc a) within some =
 pub record HasNext {D : Type 0} (l : LogState D) (t : TailState) : Type 0 where
   pub arena : ℕ
   pub at : At
-  pub next : IsNext l.heads t arena at
+  pub next : IsNextEntry l.heads t arena at
   pub found : Found
   pub head : slice_get l.heads arena ≡ Some found
   pub index : at.index ≤ found.head.clumps
   pub end : at.end ≤ found.head.used
   pub r : ArenaRegion
   pub disk : D
-  pub stands : IsAt l arena r disk
+  pub stands : IsArenaAt l arena r disk
 
 module _ {D : Type 0} (l : LogState D) (t : TailState) (stands : StandsOnDisks l) (tail : IsTailOf l t) (none : t.queued ≡ 0) (some : 0 < t.left) where
   -- where an arena stands
-  stands_at : (arena : ℕ) → arena < length l.heads → (r : ArenaRegion) × (disk : D) × IsAt l arena r disk
+  stands_at : (arena : ℕ) → arena < length l.heads → (r : ArenaRegion) × (disk : D) × IsArenaAt l arena r disk
   stands_at arena below =
       let r = slice_get_there l.layout arena (omega (arith, below, stands.heads)) in
       let d = slice_get_there l.disks r.0.part (stands.disks arena r.0 r.1) in
@@ -160,7 +160,7 @@ module _ {D : Type 0} (l : LogState D) (t : TailState) (stands : StandsOnDisks l
 
 pub damage_told : {D : Type 0} (disk : DiskOf D) (l : LogState D) (t new : TailState) (it : HasNext l t) (want found : FieldValue) (place : Place) (entry : List ℕ)
     → (IsTrue disk.tells → entry ≡ last_entry it.r.region it.at.index (disk.bytes it.disk)) → GivesEntry it.arena t.left it.found.head.used it.at entry (Err (Damaged want found))
-    → Moves it.arena it.at new (Err (Damaged want found)) → place.arena ≡ new.arena → NamesDamage (Damaged want found)
+    → MovesBack it.arena it.at new (Err (Damaged want found)) → place.arena ≡ new.arena → NamesDamage (Damaged want found)
     → TellsOfLog disk l (MountDamaged (Clump place) want found)
 damage_told {D} disk l t new it want found place entry entry_is gives moves place_is differ =
     inr (
@@ -189,15 +189,15 @@ damage_told {D} disk l t new it want found place entry entry_is gives moves plac
 -- a block, a fault or damage
 -- what is said of the call
 pub record BackAnswers {D : Type 0} (score : List ℕ → List ℕ) (disk : DiskOf D) (l new : LogState D) (t after : TailState) (r : Result (Option Info) BackBad) : Type 0 where
-  pub blocks : (h : History) (n : ℕ) → IsTrue disk.tells → IsSoundLog score disk l h → IsBehind l h n t
-      → MatchResult r (StepsBack score l h n after) (λ bad. (bad ≡ Fault) × IsBehind l h n after)
-  pub entry : (arena : ℕ) (at : At) (found : Found) (r' : ArenaRegion) (d : D) → t.queued ≡ 0 → IsNext l.heads t arena at → slice_get l.heads arena ≡ Some found → IsAt l arena r' d
-      → (entry : List ℕ) × (IsTrue disk.tells → entry ≡ last_entry r'.region at.index (disk.bytes d)) × GivesEntry arena t.left found.head.used at entry r × Moves arena at after r
+  pub blocks : (h : History) (n : ℕ) → IsTrue disk.tells → IsSoundLog score disk l h → IsTailBehind l h n t
+      → MatchResult r (StepsBack score l h n after) (λ bad. (bad ≡ Fault) × IsTailBehind l h n after)
+  pub entry : (arena : ℕ) (at : At) (found : Found) (r' : ArenaRegion) (d : D) → t.queued ≡ 0 → IsNextEntry l.heads t arena at → slice_get l.heads arena ≡ Some found → IsArenaAt l arena r' d
+      → (entry : List ℕ) × (IsTrue disk.tells → entry ≡ last_entry r'.region at.index (disk.bytes d)) × GivesEntry arena t.left found.head.used at entry r × MovesBack arena at after r
   pub differs : IfErr r NamesDamage
   pub tail : IsTailOf new after
   pub left : MatchResult r (λ it. MatchOption it (after.left ≡ t.left) (λ _. after.left + 1 ≡ t.left)) (λ _. after.left ≡ t.left)
-  pub reads : OnlyReads score disk 1 l new
-  pub cause : CountsFaults disk is_fault r l.disks new.disks
+  pub reads : OnlyReadsLog score disk 1 l new
+  pub cause : CountsFaults disk is_back_fault r l.disks new.disks
 
 pub gives_block : {D : Type 0} (score : List ℕ → List ℕ) (disk : DiskOf D) (l new : LogState D) (t after : TailState) (info : Info) → HasNext l t → t.queued ≡ 0
     → BackAnswers score disk l new t after (Ok (Some info)) → GivesNext score disk (Ok info) l new t after
@@ -207,7 +207,7 @@ gives_block score disk l new t after info it none back =
       blocks = λ h n tells sound behind.
           let own = back.blocks h n tells sound behind in
           let number : info.number ≡ own.0 = own.2.number in
-          (subst (λ (m : ℕ). IsInfo score l h m info) (sym number) own.2, number_more number own.1, subst (λ (m : ℕ). IsBehind l h m after) (sym number) own.3);
+          (subst (λ (m : ℕ). IsInfoInLog score l h m info) (sym number) own.2, number_more number own.1, subst (λ (m : ℕ). IsTailBehind l h m after) (sym number) own.3);
       number = (omega (arith, given.2.1, back.left), given.2.1);
       tail = back.tail;
       reads = back.reads;

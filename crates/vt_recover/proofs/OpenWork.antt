@@ -4,21 +4,21 @@ use Rattle.std.specs.Prelude.{slice_get, MatchBool}
 use Rattle.std.specs.List.{AllZip}
 use Rattle.std.proofs.lemmas.List.{append-nil, drop_all, map-append, reverse-append, reverse-reverse, take_all}
 use Rattle.vt_base.specs.Faults.{HasRisen}
-use Rattle.vt_bloom.specs.declared.bad.BloomBad.{BloomBad}
-use Rattle.vt_bloom.specs.declared.bad.BloomBad.TheVariants as bloom_bad
-use Rattle.vt_bloom.specs.Faults.{is_fault}
+use Rattle.vt_bloom.specs.declared.error.BloomError.{BloomError}
+use Rattle.vt_bloom.specs.declared.error.BloomError.TheVariants as bloom_error
+use Rattle.vt_bloom.specs.Faults.{is_filter_fault}
 use Rattle.vt_disk.specs.Calls.{OnlyReads}
 use Rattle.vt_disk.specs.Members.{DiskOf}
-use Rattle.vt_isect.specs.declared.bad.SectBad.{SectBad}
-use Rattle.vt_isect.specs.declared.bad.SectBad.TheVariants as sect_bad
+use Rattle.vt_isect.specs.declared.error.SectBad.{SectBad}
+use Rattle.vt_isect.specs.declared.error.SectBad.TheVariants as sect_bad
 use Rattle.vt_isect.specs.Faults.{refuses_by_fault}
 use Rattle.vt_isect.specs.Section.{SectionState}
 use Rattle.vt_log.specs.Answers.{HoldTheSame}
 use Rattle.vt_log.specs.Faults.{OneHasRisen}
 use Rattle.vt_shard.specs.Shard.{ShardState}
-use Rattle.vt_recover.specs.Opening.{IsOpened, IsShardMade}
+use Rattle.vt_recover.specs.Opening.{IsFoundSection, IsShardMade}
 use Rattle.vt_recover.specs.Refusals.{CountsRefusal}
-use Rattle.vt_told.specs.Told.{of_filter, of_section}
+use Rattle.vt_mount_errors.specs.MountErrors.{of_filter, of_section}
 use Rattle.vt_recover.proofs.Held.{IsHeld, held_reads, held_still, hold_zip, risen_first}
 use Rattle.vt_recover.proofs.Opened.{IsSplitAt, split_at}
 use Rattle.vt_recover.proofs.Zips.{zip_append, zip_implies, zip_length, zip_map, zip_same, zip_self}
@@ -58,36 +58,36 @@ section_counts part sect_bad.NotFormatted old new it = it
 section_counts part (sect_bad.Torn field found want) old new it = it
 section_counts part sect_bad.NoMemory old new it = it
 
-filter_counts : (part : ℕ) (bad : BloomBad) (old new : List ℕ) → MatchBool (is_fault bad) (OneHasRisen old new) (new ≡ old) → CountsRefusal (of_filter part bad) old new
-filter_counts part bloom_bad.Fault old new it = it
-filter_counts part (bloom_bad.TooSmall len need) old new it = it
-filter_counts part bloom_bad.NotFormatted old new it = it
-filter_counts part (bloom_bad.Torn field found want) old new it = it
-filter_counts part bloom_bad.NoMemory old new it = it
+filter_counts : (part : ℕ) (bad : BloomError) (old new : List ℕ) → MatchBool (is_filter_fault bad) (OneHasRisen old new) (new ≡ old) → CountsRefusal (of_filter part bad) old new
+filter_counts part bloom_error.Fault old new it = it
+filter_counts part (bloom_error.TooSmall len need) old new it = it
+filter_counts part bloom_error.NotFormatted old new it = it
+filter_counts part (bloom_error.Torn field found want) old new it = it
+filter_counts part bloom_error.NoMemory old new it = it
 
-pub one_filter : (part : ℕ) (bad : BloomBad) (old new : ℕ) → MatchBool (is_fault bad) (HasRisen old new) (new ≡ old) → CountsRefusal (of_filter part bad) (old ∷ []) (new ∷ [])
+pub one_filter : (part : ℕ) (bad : BloomError) (old new : ℕ) → MatchBool (is_filter_fault bad) (HasRisen old new) (new ≡ old) → CountsRefusal (of_filter part bad) (old ∷ []) (new ∷ [])
 one_filter part bad old new it =
-    filter_counts part bad (old ∷ []) (new ∷ []) (lift (is_fault bad) old new (old ∷ []) (new ∷ []) (λ rose. risen_first old new [] rose) (λ e. ap (λ (n : ℕ). n ∷ []) e) it)
+    filter_counts part bad (old ∷ []) (new ∷ []) (lift (is_filter_fault bad) old new (old ∷ []) (new ∷ []) (λ rose. risen_first old new [] rose) (λ e. ap (λ (n : ℕ). n ∷ []) e) it)
 
 -- ---- the sections
 
-pub opened_held : {D : Type 0} (disk : DiskOf D) (devices : List D) (sections : List (SectionState D)) → AllZip (IsOpened disk) devices sections
+pub opened_held : {D : Type 0} (disk : DiskOf D) (devices : List D) (sections : List (SectionState D)) → AllZip (IsFoundSection disk) devices sections
     → AllZip (IsHeld disk) devices (map (λ s. s.disk) sections)
 opened_held disk devices sections opens = zip_map (IsHeld disk) (λ s. s.disk) devices sections
-    (zip_implies (IsOpened disk) (λ d s. IsHeld disk d s.disk) devices sections (λ d s it. held_reads disk 3 d s.disk it.reads) opens)
+    (zip_implies (IsFoundSection disk) (λ d s. IsHeld disk d s.disk) devices sections (λ d s it. held_reads disk 3 d s.disk it.reads) opens)
 
-pub opened_faults : {D : Type 0} (disk : DiskOf D) (devices : List D) (sections : List (SectionState D)) → AllZip (IsOpened disk) devices sections
+pub opened_faults : {D : Type 0} (disk : DiskOf D) (devices : List D) (sections : List (SectionState D)) → AllZip (IsFoundSection disk) devices sections
     → map disk.faults (map (λ s. s.disk) sections) ≡ map disk.faults devices
 opened_faults disk devices sections opens = zip_same disk.faults disk.faults devices (map (λ s. s.disk) sections)
     (zip_map (λ d e. disk.faults e ≡ disk.faults d) (λ s. s.disk) devices sections
-    (zip_implies (IsOpened disk) (λ d s. disk.faults s.disk ≡ disk.faults d) devices sections (λ d s it. it.faults) opens))
+    (zip_implies (IsFoundSection disk) (λ d s. disk.faults s.disk ≡ disk.faults d) devices sections (λ d s it. it.faults) opens))
 
 module _ {D : Type 0} (disk : DiskOf D) (all : List D) (sections : List (SectionState D)) (left rest : List D) (device after : D) (is : left ≡ rest ++ device ∷ [])
-    (it : IsSplitAt (IsOpened disk) all sections left) where
+    (it : IsSplitAt (IsFoundSection disk) all sections left) where
   pub comes_next : slice_get all (length sections) ≡ Some device
   comes_next =
-      let many : length sections ≡ length it.done = zip_length (IsOpened disk) it.done sections it.zip in
-      ap (slice_get all) many ∙ ap (λ (l : List D). slice_get l (length it.done)) (split_at (IsOpened disk) all sections left rest device is it) ∙ at_seam it.done device (reverse rest)
+      let many : length sections ≡ length it.done = zip_length (IsFoundSection disk) it.done sections it.zip in
+      ap (slice_get all) many ∙ ap (λ (l : List D). slice_get l (length it.done)) (split_at (IsFoundSection disk) all sections left rest device is it) ∙ at_seam it.done device (reverse rest)
 
   -- what is handed back
   back_is : (back waiting : List D) → waiting ≡ rest ++ after ∷ [] → back ≡ map (λ s. s.disk) sections ++ reverse waiting → back ≡ map (λ s. s.disk) sections ++ after ∷ reverse rest
@@ -95,7 +95,7 @@ module _ {D : Type 0} (disk : DiskOf D) (all : List D) (sections : List (Section
 
   pub back_held : (back waiting : List D) → waiting ≡ rest ++ after ∷ [] → back ≡ map (λ s. s.disk) sections ++ reverse waiting → OnlyReads disk 3 device after → HoldTheSame disk all back
   back_held back waiting w b reads = subst (λ (l : List D). HoldTheSame disk all l) (sym (back_is back waiting w b))
-      (subst (λ (l : List D). HoldTheSame disk l (map (λ s. s.disk) sections ++ after ∷ reverse rest)) (sym (split_at (IsOpened disk) all sections left rest device is it))
+      (subst (λ (l : List D). HoldTheSame disk l (map (λ s. s.disk) sections ++ after ∷ reverse rest)) (sym (split_at (IsFoundSection disk) all sections left rest device is it))
       (hold_zip disk (it.done ++ device ∷ reverse rest) (map (λ s. s.disk) sections ++ after ∷ reverse rest)
       (zip_append (IsHeld disk) it.done (device ∷ reverse rest) (map (λ s. s.disk) sections) (after ∷ reverse rest) (opened_held disk it.done sections it.zip)
       (held_reads disk 3 device after reads, zip_self (IsHeld disk) (reverse rest) (held_still disk)))))
@@ -108,7 +108,7 @@ module _ {D : Type 0} (disk : DiskOf D) (all : List D) (sections : List (Section
       let less = map f it.done in
       let more = map f (reverse rest) in
       let old : less ++ f device ∷ more ≡ map f all =
-      sym (map-append f it.done (device ∷ reverse rest)) ∙ ap (map f) (sym (split_at (IsOpened disk) all sections left rest device is it)) in
+      sym (map-append f it.done (device ∷ reverse rest)) ∙ ap (map f) (sym (split_at (IsFoundSection disk) all sections left rest device is it)) in
       let new : less ++ f after ∷ more ≡ map f back =
       ap (λ (l : List ℕ). l ++ f after ∷ more) (sym (opened_faults disk it.done sections it.zip)) ∙ sym (map-append f (map (λ s. s.disk) sections) (after ∷ reverse rest))
       ∙ ap (map f) (sym (back_is back waiting w b)) in

@@ -15,21 +15,21 @@ use Rattle.vt_disk.specs.Members.{DiskOf}
 use Rattle.vt_icache.specs.Index.{entry_of}
 use Rattle.vt_isect.specs.Agreement.{IsEntryOf}
 use Rattle.vt_base.specs.Faults.{CountsFault}
-use Rattle.vt_isect.specs.Faults.{is_fault}
+use Rattle.vt_isect.specs.Faults.{is_section_fault}
 use Rattle.vt_isect.specs.Layout.{InRange}
-use Rattle.vt_isect.specs.declared.bad.ShardErr.{ShardErr}
-use Rattle.vt_isect.specs.declared.bad.ShardErr.TheVariants.{Fault}
+use Rattle.vt_isect.specs.declared.error.ShardErr.{ShardErr}
+use Rattle.vt_isect.specs.declared.error.ShardErr.TheVariants.{Fault}
 use Rattle.vt_model.specs.History.{History, HasScoreAt}
 use Rattle.vt_model.specs.Places.{Setup, bucket_count, crowd}
 use Rattle.vt_model.specs.declared.TheConstants.{BUCKET_ROOM}
 use Rattle.vt_shard.specs.Looking.{CountsCrowd, Looks}
 use Rattle.vt_shard.specs.Search.{HasKeyOf}
 use Rattle.vt_shard.specs.Shard.{ShardState, HasScore, bucket_at}
-use Rattle.vt_shard.specs.Sound.{IsSound as IsSoundShard, IsSoundFrom, IsSoundWithout, LooksSoundly}
+use Rattle.vt_shard.specs.Sound.{IsSoundShard, IsSoundFrom, IsSoundWithout, LooksSoundly}
 use Rattle.vt_shard.specs.declared.TheConstants.{ROOM}
-use Rattle.vt_recover.specs.Recalling.{FitsBuckets, IsQuiet, IsReadBack, KeepsSection}
-use Rattle.vt_told.specs.Told.{of_shard}
-use Rattle.vt_recover.specs.TakingBack.{CountsShard, FaultOrDamage, HasEntries, HasNoRoomFor, IsCrowdedWith, IsOwnCrowd, IsSoundAt, IsUnwritten, LacksKey, LooksForEntry, PutsBack, TakesBack, WritesBack}
+use Rattle.vt_recover.specs.Recalling.{FitsBuckets, IsAtRestUnstopped, IsReadBack, KeepsSection}
+use Rattle.vt_mount_errors.specs.MountErrors.{of_shard}
+use Rattle.vt_recover.specs.TakingBack.{CountsShard, FaultOrDamage, HasEntries, HasNoRoomFor, IsCrowdedWith, IsOwnCrowd, IsSoundAt, IsUnwrittenShard, LacksKey, LooksForEntry, PutsBack, TakesBack, WritesAllBack}
 use Rattle.vt_recover.proofs.TakingBack.{bucket_cases, counts_looked, entries_stay, keeps_none, keeps_then, lacks_stays, look_cause, look_tells, looks_dirty, looks_keep, looks_read_back, unwritten_after}
 
 -- a shard with one more dirty entry
@@ -57,7 +57,7 @@ in_err (Err b) bad is it = cc (is, it)
 
 -- what it is then in memory
 mid_unwritten : {D : Type 0} (disk : DiskOf D) (info : Info) (old : ShardState D) (entries : ℕ → List Entry) (file : List ℕ)
-    → HasScore old info.key.score.0 → IsUnwritten disk entries file (info.number + 1) old → LacksKey entries old info.key → IsUnwritten disk entries file info.number (with_dirty info old)
+    → HasScore old info.key.score.0 → IsUnwrittenShard disk entries file (info.number + 1) old → LacksKey entries old info.key → IsUnwrittenShard disk entries file info.number (with_dirty info old)
 mid_unwritten {D} disk info old entries file own was lacks = record {
   phase = was.phase;
   bytes = was.bytes;
@@ -77,7 +77,7 @@ mid_unwritten {D} disk info old entries file own was lacks = record {
     there k d below = any_default old.index.dirty k (get_or old.index.dirty k d) d below
 
 module _ {D : Type 0} (disk : DiskOf D) (apart : IsUnambiguous) (part : ℕ) (info : Info) (old mid new : ShardState D) (n : ℕ) (r : Result ℕ ShardErr)
-    (quiet : IsQuiet old) (put : mid ≡ with_dirty info old) (n_is : n ≡ bucket_at old info.key.score.0) (own : HasScore old info.key.score.0) (counts : CountsCrowd disk n r mid new) where
+    (quiet : IsAtRestUnstopped old) (put : mid ≡ with_dirty info old) (n_is : n ≡ bucket_at old info.key.score.0) (own : HasScore old info.key.score.0) (counts : CountsCrowd disk n r mid new) where
   put_same : {X : Type 0} (f : ShardState D → X) → f (record mid { section = record mid.section { disk = new.section.disk }; bucket = new.bucket }) ≡ f mid → f mid ≡ f old → f new ≡ f old
   put_same f looks puts = ap f counts.looks.same ∙ looks ∙ puts
 
@@ -97,7 +97,7 @@ module _ {D : Type 0} (disk : DiskOf D) (apart : IsUnambiguous) (part : ℕ) (in
   put_phase : new.section.phase ≡ old.section.phase
   put_phase = put_same (λ s. s.section.phase) refl (ap (λ (s : ShardState D). s.section.phase) put)
 
-  put_quiet : IsQuiet new
+  put_quiet : IsAtRestUnstopped new
   put_quiet = record {
     phase = put_phase ∙ quiet.phase;
     next = put_same (λ s. s.section.next) refl (ap (λ (s : ShardState D). s.section.next) put) ∙ quiet.next ∙ sym put_keeps.head;
@@ -115,10 +115,10 @@ module _ {D : Type 0} (disk : DiskOf D) (apart : IsUnambiguous) (part : ℕ) (in
         (Contains-push_cases old.index.dirty info other (subst (λ (l : List Info). Contains l other) put_dirty has));
   }
 
-  put_unwritten : IsTrue disk.tells → (entries : ℕ → List Entry) (file : List ℕ) → HasEntries entries file old → IsUnwritten disk entries file (info.number + 1) old
-      → LacksKey entries old info.key → IsUnwritten disk entries file info.number new
+  put_unwritten : IsTrue disk.tells → (entries : ℕ → List Entry) (file : List ℕ) → HasEntries entries file old → IsUnwrittenShard disk entries file (info.number + 1) old
+      → LacksKey entries old info.key → IsUnwrittenShard disk entries file info.number new
   put_unwritten tells entries file at was lacks =
-      let P : ShardState D → Type 0 = λ s. IsUnwritten disk entries file info.number s in
+      let P : ShardState D → Type 0 = λ s. IsUnwrittenShard disk entries file info.number s in
       let there : P mid = subst P (sym put) (mid_unwritten disk info old entries file own was lacks) in
       let keeps : KeepsSection disk old mid = record {
         name = ap (λ (s : ShardState D). s.section.name) put;
@@ -152,7 +152,7 @@ module _ {D : Type 0} (disk : DiskOf D) (apart : IsUnambiguous) (part : ℕ) (in
     same_faults : (count : ℕ) → r ≡ Ok count → disk.faults new.section.disk ≡ disk.faults old.section.disk
     same_faults count is = faults_in r is counts.looks.faults ∙ ap (λ (s : ShardState D). disk.faults s.section.disk) put
       where
-        faults_in : (x : Result ℕ ShardErr) → x ≡ Ok count → CountsFault is_fault x (disk.faults mid.section.disk) (disk.faults new.section.disk)
+        faults_in : (x : Result ℕ ShardErr) → x ≡ Ok count → CountsFault is_section_fault x (disk.faults mid.section.disk) (disk.faults new.section.disk)
             → disk.faults new.section.disk ≡ disk.faults mid.section.disk
         faults_in (Ok m) e it = it
         faults_in (Err bad) e it = absurd (cc)
@@ -217,7 +217,7 @@ LacksOthers {D} disk = (score : List ℕ → List ℕ) (c : Setup) (t : ShardSta
 pub key_of : (score : List ℕ → List ℕ) (c : Setup) (h : History) (info : Info) → IsEntryOf score c h info.number (entry_of info) → HasKeyOf score h info.number info.key
 key_of score c h info it = record { block = it.block; stands = it.stands.block; score_is = sym it.score_is; kind_is = sym it.kind_is }
 
-pub less_unwritten : {D : Type 0} (disk : DiskOf D) (entries : ℕ → List Entry) (file : List ℕ) (n : ℕ) (s : ShardState D) → IsUnwritten disk entries file (n + 1) s → IsUnwritten disk entries file n s
+pub less_unwritten : {D : Type 0} (disk : DiskOf D) (entries : ℕ → List Entry) (file : List ℕ) (n : ℕ) (s : ShardState D) → IsUnwrittenShard disk entries file (n + 1) s → IsUnwrittenShard disk entries file n s
 less_unwritten disk entries file n s was = record {
   phase = was.phase;
   bytes = was.bytes;
@@ -333,14 +333,14 @@ module _ {D : Type 0} (disk : DiskOf D) (part : ℕ) (info : Info) (old : ShardS
 
     -- there is no room for it
     module _ (after : ShardState D) (full : length mid.index.dirty ≡ ROOM) (own : HasScore old info.key.score.0) where
-      no_room : IsTrue disk.tells → (entries : ℕ → List Entry) (file : List ℕ) → HasEntries entries file old → IsUnwritten disk entries file (info.number + 1) old → HasNoRoomFor entries info.key old
+      no_room : IsTrue disk.tells → (entries : ℕ → List Entry) (file : List ℕ) → HasEntries entries file old → IsUnwrittenShard disk entries file (info.number + 1) old → HasNoRoomFor entries info.key old
       no_room tells entries file at was = record {
         full = ap (λ (l : List Info). length l) (sym (looks_dirty disk old mid looks.looks)) ∙ full;
         own = own;
         lacks = looks.lacks refl tells entries file (info.number + 1) at was;
       }
 
-      pub back_write_err : (bad : MountBad) → WritesBack {U = ⊤} disk (Err bad) mid after → TakesBack {U = ⊤} disk part info (Err bad) old after
+      pub back_write_err : (bad : MountBad) → WritesAllBack {U = ⊤} disk (Err bad) mid after → TakesBack {U = ⊤} disk part info (Err bad) old after
       back_write_err bad writes = record {
         keeps = keeps_then disk old mid after (looks_keep disk old mid looks.looks) writes.keeps;
         rests = λ bits below was number set. tt;
@@ -350,7 +350,7 @@ module _ {D : Type 0} (disk : DiskOf D) (part : ℕ) (info : Info) (old : ShardS
         unwritten = λ tells entries file at was. inr (no_room tells entries file at was);
       }
 
-      pub back_written : {U : Type 0} (r : Result U MountBad) (new : ShardState D) (done : ⊤) → WritesBack disk (Ok done) mid after → TakesBack disk part info r after new → TakesBack disk part info r old new
+      pub back_written : {U : Type 0} (r : Result U MountBad) (new : ShardState D) (done : ⊤) → WritesAllBack disk (Ok done) mid after → TakesBack disk part info r after new → TakesBack disk part info r old new
       back_written {U} r new done writes takes = record {
         keeps = keeps_then disk old mid new (looks_keep disk old mid looks.looks) (keeps_then disk mid after new writes.keeps takes.keeps);
         rests = λ bits below was number set. takes.rests bits below (writes.rests bits below (looks_read_back disk old mid looks.looks bits below was)) number set;

@@ -11,23 +11,23 @@ use Rattle.vt_base.specs.declared.place.Info.{Info}
 use Rattle.vt_arena.specs.Directory.{last_entry}
 use Rattle.vt_base.specs.declared.why.FieldValue.{FieldValue}
 use Rattle.vt_base.specs.declared.why.Site.TheVariants.{Bucket, Clump}
-use Rattle.vt_bloom.specs.Bits.{Filter, HasBitsOf, Marks}
+use Rattle.vt_bloom.specs.Bits.{Filter, HasBitsOf, MarksScore}
 use Rattle.vt_bucket.specs.Laws.{IsUnambiguous}
 use Rattle.vt_disk.specs.Members.{DiskOf}
 use Rattle.vt_icache.specs.Index.{entry_of}
 use Rattle.vt_isect.specs.Agreement.{IsEntryOf}
-use Rattle.vt_bucket.specs.Frame.{IsFrame}
+use Rattle.vt_bucket.specs.Frame.{IsBucketFrame}
 use Rattle.vt_disk.specs.declared.region.Region.{Region}
-use Rattle.vt_isect.specs.Layout.{IsPlaceOf}
+use Rattle.vt_isect.specs.Layout.{IsBucketPlace}
 use Rattle.vt_isect.specs.declared.TheConstants.{FRAME_LEN}
 use Rattle.vt_twin.specs.Frames.{current_frame}
 use Rattle.vt_isect.specs.declared.head.Head.{Head}
-use Rattle.vt_log.specs.Answers.{HoldTheSame, OnlyReads}
-use Rattle.vt_log.specs.Back.{IsBehind, IsInfo, IsTailOf, TailState}
-use Rattle.vt_log.specs.Log.{IsMounted, LogState, front, queued}
+use Rattle.vt_log.specs.Answers.{HoldTheSame, OnlyReadsLog}
+use Rattle.vt_log.specs.Back.{IsTailBehind, IsInfoInLog, IsTailOf, TailState}
+use Rattle.vt_log.specs.Log.{IsMountedLog, LogState, front, queued}
 use Rattle.vt_log.specs.Queue.{QueueState, spot_of}
-use Rattle.vt_log.specs.Sound.{IsSound as IsSoundLog}
-use Rattle.vt_log.specs.Whole.{IsOnDisk, IsWhole as IsWholeLog}
+use Rattle.vt_log.specs.Sound.{IsSoundLog}
+use Rattle.vt_log.specs.Whole.{IsOnDisk, IsWholeLog}
 use Rattle.vt_log.proofs.Lists.{at_slice, slice_get_other}
 use Rattle.vt_model.specs.History.{Accepted, History}
 use Rattle.vt_arena.specs.Places.{block_room}
@@ -35,10 +35,10 @@ use Rattle.vt_model.specs.Places.{Setup, lengths_in}
 use Rattle.vt_shard.specs.Shard.{ShardState}
 use Rattle.vt_shard.specs.Sound.{IsSoundFrom}
 use Rattle.vt_recover.specs.Marks.{LacksMany}
-use Rattle.vt_recover.specs.Recalling.{AreReadBack, IsDamagedIn, IsUnused, KeepsBytes, KeepsSection, Opened, ReadsBack, ReadsLogBack, Recalls, devices_in, opened}
+use Rattle.vt_recover.specs.Recalling.{AreReadBack, IsDamagedIn, IsUnused, KeepsSectionBytes, KeepsSection, Opened, ReadsBack, ReadsLogBack, RecallsFrom, devices_called, opened}
 use Rattle.vt_recover.specs.Refusals.{CountsRefusal}
-use Rattle.vt_recover.specs.Sections.{IsLive, SectionStandsFor, buckets_of}
-use Rattle.vt_recover.specs.TakingBack.{GivesNext, HasEntries, IsSoundAt, IsUnwritten, StandsOnDisks, TakesAllBack, TellsOfLog}
+use Rattle.vt_recover.specs.Sections.{IsLive, SectionStandsFor, section_buckets}
+use Rattle.vt_recover.specs.TakingBack.{GivesNext, HasEntries, IsSoundAt, IsUnwrittenShard, StandsOnDisks, TakesAllBack, TellsOfLog}
 use Rattle.vt_recover.proofs.Below.{AreMarked, HaveRanges, MarkedStay}
 use Rattle.vt_recover.proofs.Places.{map_then, within_get, one_or_other}
 use Rattle.vt_recover.proofs.Counts.{risen_front}
@@ -50,7 +50,7 @@ use Rattle.vt_recover.proofs.Held.{counts_less, held_twice}
 
 -- ---- the log
 
-behind_stays : {D : Type 0} (l new : LogState D) (h : History) (n : ℕ) (t : TailState) → new.durable ≡ l.durable → IsBehind l h n t → IsBehind new h n t
+behind_stays : {D : Type 0} (l new : LogState D) (h : History) (n : ℕ) (t : TailState) → new.durable ≡ l.durable → IsTailBehind l h n t → IsTailBehind new h n t
 behind_stays {D} l new h n t same it = record {
   left = it.left;
   most = it.most;
@@ -77,7 +77,7 @@ stands_stays {D} disk l new same hold it = record {
 }
 
 -- what is given of a block is its entry
-pub entry_is : {D : Type 0} (score : List ℕ → List ℕ) (c : Setup) (l : LogState D) (h : History) (info : Info) → IsInfo score l h info.number info → IsEntryOf score c h info.number (entry_of info)
+pub entry_is : {D : Type 0} (score : List ℕ → List ℕ) (c : Setup) (l : LogState D) (h : History) (info : Info) → IsInfoInLog score l h info.number info → IsEntryOf score c h info.number (entry_of info)
 entry_is score c l h info it = record {
   block = it.block;
   spot = spot_of info.place;
@@ -93,10 +93,10 @@ entry_is score c l h info it = record {
 
 -- The blocks from this number on were read back, and nothing of the section was written, or many entries were lacking.
 abbrev pub IsUnwrittenTo : {D : Type 0} → (List ℕ → List ℕ) → DiskOf D → History → (i n : ℕ) → (before after : ShardState D) → Type 0
-IsUnwrittenTo score disk h i n before after = (c : Setup) (entries : ℕ → List Entry) → IsLive c i before.section.head → before.section.buckets ≡ buckets_of c i
+IsUnwrittenTo score disk h i n before after = (c : Setup) (entries : ℕ → List Entry) → IsLive c i before.section.head → before.section.buckets ≡ section_buckets c i
     → SectionStandsFor score c h i (disk.bytes before.section.disk) → IsSoundFrom score c disk before h (length h) (length h)
     → HasEntries entries (disk.bytes before.section.disk) before
-    → IsUnwritten disk entries (disk.bytes before.section.disk) n after ⊎ LacksMany score c h i (disk.bytes before.section.disk)
+    → IsUnwrittenShard disk entries (disk.bytes before.section.disk) n after ⊎ LacksMany score c h i (disk.bytes before.section.disk)
 
 -- The blocks from the walk's place on were read back.
 pub record IsReading {D : Type 0} (score : List ℕ → List ℕ) (disk : DiskOf D) (old now : Opened D) (t : TailState) : Type 0 where
@@ -108,13 +108,13 @@ pub record IsReading {D : Type 0} (score : List ℕ → List ℕ) (disk : DiskOf
   pub rest : AreReadBack now.bits old.log.durable now.shards
   pub log_faults : map disk.faults now.log.disks ≡ map disk.faults old.log.disks
   pub shard_faults : map (λ s. disk.faults s.section.disk) now.shards ≡ map (λ s. disk.faults s.section.disk) old.shards
-  pub behind : (h : History) → IsTrue disk.tells → IsSoundLog score disk old.log h → IsBehind now.log h t.left t
-  pub recalls : (h : History) → IsTrue disk.tells → IsSoundLog score disk old.log h → Recalls score disk h t.left old now
+  pub behind : (h : History) → IsTrue disk.tells → IsSoundLog score disk old.log h → IsTailBehind now.log h t.left t
+  pub recalls : (h : History) → IsTrue disk.tells → IsSoundLog score disk old.log h → RecallsFrom score disk h t.left old now
   pub unwritten : (h : History) (i : ℕ) (before after : ShardState D) → IsTrue disk.tells → IsSoundLog score disk old.log h → slice_get old.shards i ≡ Some before
       → slice_get now.shards i ≡ Some after → IsUnwrittenTo score disk h i t.left before after
 
 -- a log that was just found has no queue
-pub no_queued : {D : Type 0} (l : LogState D) → IsMounted l → queued l ≡ 0
+pub no_queued : {D : Type 0} (l : LogState D) → IsMountedLog l → queued l ≡ 0
 no_queued l it = ap (λ (q : QueueState). length q.places) it.queue
 
 -- a block that comes next has a number below the greatest
@@ -126,7 +126,7 @@ pub record ReadsEachOnce {D : Type 0} (disk : DiskOf D) (least : ℕ) (old now :
   pub calls : IsTrue disk.tells → sum_by disk.calls now.log.disks + t.left ≤ sum_by disk.calls old.log.disks + old.log.durable
   pub far : (least ≤ t.left) ⊎ (t.left ≡ old.log.durable)
 
-pub begin_once : {D : Type 0} (disk : DiskOf D) (least : ℕ) (old : Opened D) (t : TailState) → IsMounted old.log → t.left ≡ front old.log → ReadsEachOnce disk least old old t
+pub begin_once : {D : Type 0} (disk : DiskOf D) (least : ℕ) (old : Opened D) (t : TailState) → IsMountedLog old.log → t.left ≡ front old.log → ReadsEachOnce disk least old old t
 begin_once disk least old t mounted all =
     let same : t.left ≡ old.log.durable = omega (arith, all, no_queued old.log mounted) in
     record { calls = λ tells. omega (arith, same); far = inr same }
@@ -146,9 +146,9 @@ once_ends disk least old now t it far tells = ⊎_elim
 none_in : {X : Type 0} (x : X) → Contains [] x → ⊥
 none_in x has = omega (arith, has.1)
 
-pub begin_reading : {D : Type 0} (score : List ℕ → List ℕ) (disk : DiskOf D) (old : Opened D) (t : TailState) → IsMounted old.log → StandsOnDisks old.log
+pub begin_reading : {D : Type 0} (score : List ℕ → List ℕ) (disk : DiskOf D) (old : Opened D) (t : TailState) → IsMountedLog old.log → StandsOnDisks old.log
     → ((i : ℕ) (s : ShardState D) → slice_get old.shards i ≡ Some s → IsUnused s) → IsTailOf old.log t → t.left ≡ front old.log
-    → ((h : History) → IsSoundLog score disk old.log h → IsBehind old.log h (length h) t) → IsReading score disk old old t
+    → ((h : History) → IsSoundLog score disk old.log h → IsTailBehind old.log h (length h) t) → IsReading score disk old old t
 begin_reading {D} score disk old t mounted stands unused tail all behind = record {
   reads = record {
     log = refl;
@@ -171,13 +171,13 @@ begin_reading {D} score disk old t mounted stands unused tail all behind = recor
   };
   log_faults = refl;
   shard_faults = refl;
-  behind = λ h tells sound. subst (λ (n : ℕ). IsBehind old.log h n t) (sym (all_of h sound)) (behind h sound);
+  behind = λ h tells sound. subst (λ (n : ℕ). IsTailBehind old.log h n t) (sym (all_of h sound)) (behind h sound);
   recalls = λ h tells sound. record {
     bits = λ i e above at. absurd (omega (arith, above, all_of h sound, within_get h i e at));
     shards = λ i x y at there c was. subst (λ (n : ℕ). IsSoundFrom score c disk y h (length h) n) (sym (all_of h sound))
         (subst (λ (s : ShardState D). IsSoundFrom score c disk s h (length h) (length h)) (same_Some x y (sym at ∙ there)) was);
   };
-  unwritten = λ h i x y tells sound at there c entries live buckets section was has. inl (subst (λ (s : ShardState D). IsUnwritten disk entries (disk.bytes x.section.disk) t.left s) (same_Some x y (sym at ∙ there))
+  unwritten = λ h i x y tells sound at there c entries live buckets section was has. inl (subst (λ (s : ShardState D). IsUnwrittenShard disk entries (disk.bytes x.section.disk) t.left s) (same_Some x y (sym at ∙ there))
       (let it = unused i x at in record {
         phase = it.quiet.phase;
         bytes = refl;
@@ -195,15 +195,15 @@ begin_reading {D} score disk old t mounted stands unused tail all behind = recor
 -- ---- what the section's file has
 
 -- the entries of the section that the file is
-stands_entries : {D : Type 0} (score : List ℕ → List ℕ) (c : Setup) (h : History) (i : ℕ) (file : List ℕ) (before : ShardState D) → IsLive c i before.section.head → before.section.buckets ≡ buckets_of c i
+stands_entries : {D : Type 0} (score : List ℕ → List ℕ) (c : Setup) (h : History) (i : ℕ) (file : List ℕ) (before : ShardState D) → IsLive c i before.section.head → before.section.buckets ≡ section_buckets c i
     → (stands : SectionStandsFor score c h i file) → HasEntries stands.section.entries file before
 stands_entries score c h i file before live buckets stands = λ n region range place.
     let first : stands.section.head.first ≡ before.section.head.first = ap (λ (x : Head). x.first) stands.section.at_place ∙ stands.live.first ∙ sym live.first in
     let it = stands.section.is.bucket n (omega (arith, range.0, first), omega (arith, range.1, first, buckets)) in
-    let same : it.0 ≡ region = same_place it.0 region (n - before.section.head.first) (subst (λ (m : ℕ). IsPlaceOf (n - m) it.0) first it.1) place in
-    subst (λ (r : Region). IsFrame n (stands.section.entries n) (current_frame r FRAME_LEN file)) same it.2
+    let same : it.0 ≡ region = same_place it.0 region (n - before.section.head.first) (subst (λ (m : ℕ). IsBucketPlace (n - m) it.0) first it.1) place in
+    subst (λ (r : Region). IsBucketFrame n (stands.section.entries n) (current_frame r FRAME_LEN file)) same it.2
   where
-    same_place : (a b : Region) (j : ℕ) → IsPlaceOf j a → IsPlaceOf j b → a ≡ b
+    same_place : (a b : Region) (j : ℕ) → IsBucketPlace j a → IsBucketPlace j b → a ≡ b
     same_place a b j here there =
         let one : a ≡ record { start = b.start; len = a.len } = ap (λ (s : ℕ). record { start = s; len = a.len }) (here.start ∙ sym there.start) in
         one ∙ ap (λ (m : ℕ). record { start = b.start; len = m }) (here.len ∙ sym there.len)
@@ -211,7 +211,7 @@ stands_entries score c h i file before live buckets stands = λ n region range p
 -- ---- counts
 
 -- those of the log's disks and of the sections' disks
-counts_all : {D : Type 0} (disk : DiskOf D) (o : Opened D) → map disk.faults (devices_in o) ≡ map disk.faults o.log.disks ++ map (λ s. disk.faults s.section.disk) o.shards
+counts_all : {D : Type 0} (disk : DiskOf D) (o : Opened D) → map disk.faults (devices_called o) ≡ map disk.faults o.log.disks ++ map (λ s. disk.faults s.section.disk) o.shards
 counts_all {D} disk o = map-append disk.faults o.log.disks (map (λ (s : ShardState D). s.section.disk) o.shards)
     ∙ ap (λ (ns : List ℕ). map disk.faults o.log.disks ++ ns) (sym (map_then (λ (s : ShardState D). s.section.disk) disk.faults o.shards))
 
@@ -243,7 +243,7 @@ module _ {D : Type 0} (score : List ℕ → List ℕ) (disk : DiskOf D) (old now
 
   -- the block that was given
   given : (h : History) → IsTrue disk.tells → IsSoundLog score disk old.log h
-      → IsInfo score now.log h info.number info × (info.number + 1 ≡ t.left) × IsBehind now.log h info.number after
+      → IsInfoInLog score now.log h info.number info × (info.number + 1 ≡ t.left) × IsTailBehind now.log h info.number after
   given h tells sound = next.blocks h t.left tells (was.reads.sound h sound) (was.behind h tells sound)
 
   -- a shard as it was before the block was taken back into it
@@ -258,7 +258,7 @@ module _ {D : Type 0} (score : List ℕ → List ℕ) (disk : DiskOf D) (old now
   below = omega (arith, next.number.1, was.left)
 
   module _ {U : Type 0} (r : Result U MountBad) (part : ℕ) (shards : List (ShardState D)) (bits : Filter) (takes : TakesAllBack disk part info r now.shards shards)
-      (marks : Marks now.bits info.key.score.0 bits) (stay : MarkedStay) (set : AreMarked) where
+      (marks : MarksScore now.bits info.key.score.0 bits) (stay : MarkedStay) (set : AreMarked) where
     -- a shard between
     mid_at : (i : ℕ) (z : ShardState D) → slice_get shards i ≡ Some z → (y : ShardState D) × (slice_get now.shards i ≡ Some y)
     mid_at i z there = slice_get_other now.shards shards i z takes.many there
@@ -304,7 +304,7 @@ module _ {D : Type 0} (score : List ℕ → List ℕ) (disk : DiskOf D) (old now
           let keeps = was.reads.shards i x y.0 at y.1 in
           ⊎_elim
           (λ un.
-          let mid : IsUnwritten disk entries file (info.number + 1) y.0 = subst (λ (n : ℕ). IsUnwritten disk entries file n y.0) (sym next.number.1) un in
+          let mid : IsUnwrittenShard disk entries file (info.number + 1) y.0 = subst (λ (n : ℕ). IsUnwrittenShard disk entries file n y.0) (sym next.number.1) un in
           ⊎_elim (λ good. inl good)
           (λ full. inr (let it = sound_at h tells sound c i x y.0 at y.1 first in
           lacks_many ranges one_head one_frame score c h i file x live buckets section entries has disk y.0 info keeps it.0 it.1 mid full))
@@ -313,7 +313,7 @@ module _ {D : Type 0} (score : List ℕ → List ℕ) (disk : DiskOf D) (old now
           (was.unwritten h i x y.0 tells sound at y.1 c entries live buckets section first has)
 
       step_bytes : (h : History) (i : ℕ) (x z : ShardState D) → IsTrue disk.tells → IsSoundLog score disk old.log h → slice_get old.shards i ≡ Some x → slice_get shards i ≡ Some z
-          → KeepsBytes score disk h i x z
+          → KeepsSectionBytes score disk h i x z
       step_bytes h i x z tells sound at there c live buckets section first = ⊎_elim
           (λ un. inl un.bytes) (λ many. inr many)
           (step_unwritten h i x z tells sound at there c section.section.entries live buckets section first (stands_entries score c h i (disk.bytes x.section.disk) x live buckets section))
@@ -321,7 +321,7 @@ module _ {D : Type 0} (score : List ℕ → List ℕ) (disk : DiskOf D) (old now
 -- all shards took it back
 pub reads_on : {D : Type 0} (score : List ℕ → List ℕ) (disk : DiskOf D) (old now : Opened D) (t after : TailState) (was : IsReading score disk old now t) (l : LogState D) (info : Info)
     (next : GivesNext score disk (Ok info) now.log l t after) (done : ⊤) (part : ℕ) (shards : List (ShardState D)) (bits : Filter) → TakesAllBack disk part info (Ok done) now.shards shards
-    → Marks now.bits info.key.score.0 bits → MarkedStay → AreMarked → HaveRanges → OneHead → IsUnambiguous → LacksMore disk → IsReading score disk old (opened l shards bits) after
+    → MarksScore now.bits info.key.score.0 bits → MarkedStay → AreMarked → HaveRanges → OneHead → IsUnambiguous → LacksMore disk → IsReading score disk old (opened l shards bits) after
 reads_on {D} score disk old now t after was l info next done part shards bits takes marks stay set ranges one_head one_frame more = record {
   reads = step_reads score disk old now t after was l info next (Ok done) part shards bits takes marks stay set;
   stands = stands_stays disk now.log l next.reads.same next.reads.disks was.stands;
@@ -332,8 +332,8 @@ reads_on {D} score disk old now t after was l info next done part shards bits ta
   log_faults = next.counts ∙ was.log_faults;
   shard_faults = takes.counts ∙ was.shard_faults;
   behind = λ h tells sound. behind_stays now.log l h after.left after (same_durable score disk old now t after was l info next)
-      (subst (λ (n : ℕ). IsBehind now.log h n after) next.number.0 (given score disk old now t after was l info next h tells sound).2);
-  recalls = λ h tells sound. subst (λ (n : ℕ). Recalls score disk h n old (opened l shards bits)) next.number.0 (record {
+      (subst (λ (n : ℕ). IsTailBehind now.log h n after) next.number.0 (given score disk old now t after was l info next h tells sound).2);
+  recalls = λ h tells sound. subst (λ (n : ℕ). RecallsFrom score disk h n old (opened l shards bits)) next.number.0 (record {
     bits = step_bits score disk old now t after was l info next (Ok done) part shards bits takes marks stay set h tells sound;
     shards = λ i x z at there c first.
         let y = slice_get_other now.shards shards i z takes.many there in
@@ -346,7 +346,7 @@ reads_on {D} score disk old now t after was l info next done part shards bits ta
 -- reading ends at one of them
 pub ends_in_shard : {D : Type 0} (score : List ℕ → List ℕ) (disk : DiskOf D) (old now : Opened D) (t after : TailState) (was : IsReading score disk old now t) (l : LogState D) (info : Info)
     (next : GivesNext score disk (Ok info) now.log l t after) (bad : MountBad) (least part : ℕ) (shards : List (ShardState D)) (bits : Filter) → TakesAllBack {U = ⊤} disk part info (Err bad) now.shards shards
-    → Marks now.bits info.key.score.0 bits → MarkedStay → AreMarked → HaveRanges → OneHead → IsUnambiguous → LacksMore disk
+    → MarksScore now.bits info.key.score.0 bits → MarkedStay → AreMarked → HaveRanges → OneHead → IsUnambiguous → LacksMore disk
     → ReadsLogBack {U = ⊤} score disk least part (Err bad) old (opened l shards bits)
 ends_in_shard {D} score disk old now t after was l info next bad least part shards bits takes marks stay set ranges one_head one_frame more = record {
   recalls = λ h tells sound. record {
@@ -385,19 +385,19 @@ ends_in_shard {D} score disk old now t after was l info next bad least part shar
       takes.ends_early;
 }
   where
-    counts : CountsRefusal bad (map disk.faults (devices_in old)) (map disk.faults (devices_in (opened l shards bits)))
+    counts : CountsRefusal bad (map disk.faults (devices_called old)) (map disk.faults (devices_called (opened l shards bits)))
     counts =
         let f : ShardState D → ℕ = λ s. disk.faults s.section.disk in
-        let first : map disk.faults (devices_in old) ≡ map disk.faults l.disks ++ map f now.shards =
+        let first : map disk.faults (devices_called old) ≡ map disk.faults l.disks ++ map f now.shards =
         counts_all disk old ∙ ap (λ (ns : List ℕ). ns ++ map f old.shards) (sym (next.counts ∙ was.log_faults)) ∙ ap (λ (ns : List ℕ). map disk.faults l.disks ++ ns) (sym was.shard_faults) in
-        subst (λ (xs : List ℕ). CountsRefusal bad xs (map disk.faults (devices_in (opened l shards bits)))) (sym first)
+        subst (λ (xs : List ℕ). CountsRefusal bad xs (map disk.faults (devices_called (opened l shards bits)))) (sym first)
         (subst (λ (ys : List ℕ). CountsRefusal bad (map disk.faults l.disks ++ map f now.shards) ys) (sym (counts_all disk (opened l shards bits)))
         (counts_less bad (map disk.faults l.disks) (map f now.shards) (map f shards) takes.counts))
 
 -- ---- it ends in the log, or at its end
 
 module _ {D : Type 0} (score : List ℕ → List ℕ) (disk : DiskOf D) (old now : Opened D) (t : TailState) (was : IsReading score disk old now t) where
-  bytes_now : (h : History) (i : ℕ) (x y : ShardState D) → IsTrue disk.tells → IsSoundLog score disk old.log h → slice_get old.shards i ≡ Some x → slice_get now.shards i ≡ Some y → KeepsBytes score disk h i x y
+  bytes_now : (h : History) (i : ℕ) (x y : ShardState D) → IsTrue disk.tells → IsSoundLog score disk old.log h → slice_get old.shards i ≡ Some x → slice_get now.shards i ≡ Some y → KeepsSectionBytes score disk h i x y
   bytes_now h i x y tells sound at there c live buckets section first = ⊎_elim (λ un. inl un.bytes) (λ many. inr many)
       (was.unwritten h i x y tells sound at there c section.section.entries live buckets section first (stands_entries score c h i (disk.bytes x.section.disk) x live buckets section))
 
@@ -423,9 +423,9 @@ module _ {D : Type 0} (score : List ℕ → List ℕ) (disk : DiskOf D) (old now
         bad = it.bad;
       }
 
-  pub ends_in_log : (l : LogState D) (bad : MountBad) (least part : ℕ) → OnlyReads score disk 1 now.log l → CountsRefusal bad (map disk.faults now.log.disks) (map disk.faults l.disks)
+  pub ends_in_log : (l : LogState D) (bad : MountBad) (least part : ℕ) → OnlyReadsLog score disk 1 now.log l → CountsRefusal bad (map disk.faults now.log.disks) (map disk.faults l.disks)
       → TellsOfLog disk now.log bad
-      → ((h : History) (n : ℕ) → IsTrue disk.tells → IsSoundLog score disk now.log h → IsBehind now.log h n t → bad ≡ Fault)
+      → ((h : History) (n : ℕ) → IsTrue disk.tells → IsSoundLog score disk now.log h → IsTailBehind now.log h n t → bad ≡ Fault)
       → LacksMore disk → ReadsLogBack {U = ⊤} score disk least part (Err bad) old (opened l now.shards now.bits)
   ends_in_log l bad least part reads counts tells_of fault more = record {
     recalls = λ h tells sound. let it = was.recalls h tells sound in record {
@@ -450,12 +450,12 @@ module _ {D : Type 0} (score : List ℕ → List ℕ) (disk : DiskOf D) (old now
     ends_early = ⊎_elim (λ e. inl e) (λ it. inr (inl (Clump it.0, it.1, it.2, it.3, it.4, damaged_before it.0.arena it.1 it.2 it.5))) tells_of;
   }
     where
-      all_counts : CountsRefusal bad (map disk.faults (devices_in old)) (map disk.faults (devices_in (opened l now.shards now.bits)))
+      all_counts : CountsRefusal bad (map disk.faults (devices_called old)) (map disk.faults (devices_called (opened l now.shards now.bits)))
       all_counts =
           let f : ShardState D → ℕ = λ s. disk.faults s.section.disk in
-          let first : map disk.faults (devices_in old) ≡ map disk.faults now.log.disks ++ map f now.shards =
+          let first : map disk.faults (devices_called old) ≡ map disk.faults now.log.disks ++ map f now.shards =
           counts_all disk old ∙ ap (λ (ns : List ℕ). ns ++ map f old.shards) (sym was.log_faults) ∙ ap (λ (ns : List ℕ). map disk.faults now.log.disks ++ ns) (sym was.shard_faults) in
-          subst (λ (xs : List ℕ). CountsRefusal bad xs (map disk.faults (devices_in (opened l now.shards now.bits)))) (sym first)
+          subst (λ (xs : List ℕ). CountsRefusal bad xs (map disk.faults (devices_called (opened l now.shards now.bits)))) (sym first)
           (subst (λ (ys : List ℕ). CountsRefusal bad (map disk.faults now.log.disks ++ map f now.shards) ys) (sym (counts_all disk (opened l now.shards now.bits)))
           (counts_front bad (map disk.faults now.log.disks) (map disk.faults l.disks) (map f now.shards) counts))
 

@@ -12,7 +12,7 @@ use Rattle.vt_shard.specs.Shard.{ShardState}
 use Rattle.vt_shard.specs.Sound.{IsSoundFrom}
 use Rattle.vt_recover.specs.Recalling.{KeepsSection}
 use Rattle.vt_recover.specs.Refusals.{CountsRefusal}
-use Rattle.vt_recover.specs.TakingBack.{CountsRose, CountsShard, HasEntries, HasNoRoomFor, IsSoundAt, IsUnwritten, TakesAllBack, TakesBack}
+use Rattle.vt_recover.specs.TakingBack.{CountsRose, CountsShard, HasEntries, HasNoRoomFor, IsSoundAt, IsUnwrittenShard, TakesAllBack, TakesBack}
 use Rattle.vt_recover.proofs.Places.{get_set, get_other, length-set, within_get, one_or_other, map_over_set}
 use Rattle.vt_recover.proofs.Lists.{at_map}
 use Rattle.vt_recover.proofs.PuttingBack.{LacksMore, less_unwritten}
@@ -109,8 +109,8 @@ module _ {D : Type 0} (disk : DiskOf D) (part : ℕ) (info : Info) (i : ℕ) (ol
         (λ s sound. sound.0) j s t here there;
     found = λ tells score c h all fits. (takes.sound tells score c h (all i before old_at)).1 fits;
     unwritten = λ tells j s t here there.
-        by_place (λ s t. (entries : ℕ → List Entry) (file : List ℕ) → HasEntries entries file s → IsUnwritten disk entries file (info.number + 1) s
-        → IsUnwritten disk entries file info.number t ⊎ HasNoRoomFor entries info.key s)
+        by_place (λ s t. (entries : ℕ → List Entry) (file : List ℕ) → HasEntries entries file s → IsUnwrittenShard disk entries file (info.number + 1) s
+        → IsUnwrittenShard disk entries file info.number t ⊎ HasNoRoomFor entries info.key s)
         (λ entries file has un. takes.unwritten tells entries file has un)
         (λ n s t it entries file has un. it.unwritten tells entries file has un)
         (λ s entries file has un. inl (less_unwritten disk entries file info.number s un)) j s t here there;

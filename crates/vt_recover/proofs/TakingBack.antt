@@ -13,18 +13,18 @@ use Rattle.vt_bloom.specs.Bits.{Filter}
 use Rattle.vt_bucket.specs.declared.decoding.BucketBad.{BucketBad}
 use Rattle.vt_bucket.specs.declared.decoding.BucketBad.TheVariants as bucket_bad
 use Rattle.vt_bucket.specs.Laws.{IsUnambiguous}
-use Rattle.vt_bucket.specs.Frame.{IsFrame}
+use Rattle.vt_bucket.specs.Frame.{IsBucketFrame}
 use Rattle.vt_disk.specs.Calls.{OnlyReads}
 use Rattle.vt_disk.specs.Members.{DiskOf}
 use Rattle.vt_disk.specs.declared.region.Region.{Region}
-use Rattle.vt_icache.specs.Index.{IndexState, dirty_info, entry_in}
-use Rattle.vt_isect.specs.Faults.{NamesDamage, damage_of, is_fault}
-use Rattle.vt_isect.specs.Layout.{InRange, IsPlaceOf}
-use Rattle.vt_isect.specs.Merging.{HasKey, IsDamage, IsFaulty}
+use Rattle.vt_icache.specs.Index.{IndexState, dirty_info, cached_entry}
+use Rattle.vt_isect.specs.Faults.{NamesDamage, damage_of_bucket, is_section_fault}
+use Rattle.vt_isect.specs.Layout.{InRange, IsBucketPlace}
+use Rattle.vt_isect.specs.Merging.{HasKey, IsDamage, IsFaultyFrame}
 use Rattle.vt_isect.specs.Section.{SectionState, IsAtRest, IsChanging, PutsEntries}
 use Rattle.vt_isect.specs.declared.TheConstants.{FRAME_LEN, HEAD_PLACE_LEN, BUCKET_PLACE_LEN}
-use Rattle.vt_isect.specs.declared.bad.ShardErr.{ShardErr}
-use Rattle.vt_isect.specs.declared.bad.ShardErr.TheVariants.{Fault, Damaged, Stopped}
+use Rattle.vt_isect.specs.declared.error.ShardErr.{ShardErr}
+use Rattle.vt_isect.specs.declared.error.ShardErr.TheVariants.{Fault, Damaged, Stopped}
 use Rattle.vt_isect.specs.declared.head.Head.{Head}
 use Rattle.vt_model.specs.History.{History}
 use Rattle.vt_model.specs.Places.{Setup, bucket_of}
@@ -33,9 +33,9 @@ use Rattle.vt_shard.specs.Search.{HasKeyOf, IsFoundIn}
 use Rattle.vt_shard.specs.Shard.{ShardState, ReadBucket, HasScore, bucket_at}
 use Rattle.vt_shard.specs.Sound.{IsSoundFrom, IsSoundWithout, LooksSoundly}
 use Rattle.vt_twin.specs.Frames.{current_frame}
-use Rattle.vt_recover.specs.Recalling.{IsQuiet, IsReadBack, KeepsSection}
-use Rattle.vt_told.specs.Told.{of_shard}
-use Rattle.vt_recover.specs.TakingBack.{CountsShard, FaultOrDamage, HasEntries, IsUnwritten, LacksKey, LooksForEntry, OnlyLooks}
+use Rattle.vt_recover.specs.Recalling.{IsAtRestUnstopped, IsReadBack, KeepsSection}
+use Rattle.vt_mount_errors.specs.MountErrors.{of_shard}
+use Rattle.vt_recover.specs.TakingBack.{CountsShard, FaultOrDamage, HasEntries, IsUnwrittenShard, LacksKey, LooksForEntry, OnlyLooks}
 
 -- ---- what is told
 
@@ -46,7 +46,7 @@ same_bucket n bucket group frame want found damage = ⊎_elim
     (λ overfull. cc overfull.5)
     damage
   where
-    of_fault : (fault : BucketBad) → Damaged bucket want found ≡ damage_of n fault → bucket ≡ n
+    of_fault : (fault : BucketBad) → Damaged bucket want found ≡ damage_of_bucket n fault → bucket ≡ n
     of_fault (bucket_bad.Magic f) is = cc
     of_fault (bucket_bad.Number f) is = cc
     of_fault (bucket_bad.Count f) is = cc
@@ -60,8 +60,8 @@ tells_bucket n group frame (Damaged bucket want found) damage names =
     inr (bucket, want, found, refl, names, (frame, group, subst (λ (b : ℕ). IsDamage b group frame (Damaged bucket want found)) (sym same) damage))
 
 -- a look-up doesn't tell of a stop
-pub counts_looked : {T U : Type 0} (n : ℕ) (r : Result T ShardErr) (u : U) (old new : ℕ) → CountsFault is_fault r old new
-    → IfErr r (λ bad. (bad ≡ Fault) ⊎ ((frame : List ℕ) × IsFaulty n frame bad)) → (s : Result U MountBad)
+pub counts_looked : {T U : Type 0} (n : ℕ) (r : Result T ShardErr) (u : U) (old new : ℕ) → CountsFault is_section_fault r old new
+    → IfErr r (λ bad. (bad ≡ Fault) ⊎ ((frame : List ℕ) × IsFaultyFrame n frame bad)) → (s : Result U MountBad)
     → ((x : T) → r ≡ Ok x → (v : U) × (s ≡ Ok v)) → ((bad : ShardErr) → r ≡ Err bad → s ≡ Err (of_shard bad)) → CountsShard s old new
 counts_looked {T} {U} n (Ok x) u old new counts cause s done fails =
     let it = done x refl in subst (λ (r : Result U MountBad). CountsShard r old new) (sym it.1) counts
@@ -72,7 +72,7 @@ counts_looked {T} {U} n (Err (Stopped call)) u old new counts cause s done fails
     (λ it. no_stop it.1.0 it.1.2)
     cause
   where
-    no_stop : (fault : BucketBad) → Stopped call ≡ damage_of n fault → CountsShard s old new
+    no_stop : (fault : BucketBad) → Stopped call ≡ damage_of_bucket n fault → CountsShard s old new
     no_stop (bucket_bad.Magic f) is = absurd (cc)
     no_stop (bucket_bad.Number f) is = absurd (cc)
     no_stop (bucket_bad.Count f) is = absurd (cc)
@@ -94,7 +94,7 @@ module _ {D : Type 0} (disk : DiskOf D) (old new : ShardState D) (looks : OnlyLo
   pub looks_dirty : new.index.dirty ≡ old.index.dirty
   looks_dirty = ap (λ (s : ShardState D). s.index.dirty) looks.same
 
-  pub looks_quiet : IsQuiet old → IsQuiet new
+  pub looks_quiet : IsAtRestUnstopped old → IsAtRestUnstopped new
   looks_quiet quiet = record {
     phase = ap (λ (s : ShardState D). s.section.phase) looks.same ∙ quiet.phase;
     next = ap (λ (s : ShardState D). s.section.next) looks.same ∙ quiet.next ∙ sym (ap (λ (s : ShardState D). s.section.head) looks.same);
@@ -122,7 +122,7 @@ score_stays {D} disk old new s keeps has =
 pub entries_stay : {D : Type 0} (disk : DiskOf D) (old new : ShardState D) (entries : ℕ → List Entry) (file : List ℕ) → KeepsSection disk old new → HasEntries entries file old → HasEntries entries file new
 entries_stay {D} disk old new entries file keeps has = λ n region range place.
     has n region (subst (λ (b : ℕ). InRange old.section.head b n) keeps.buckets (subst (λ (h : Head). InRange h new.section.buckets n) keeps.head range))
-    (subst (λ (h : Head). IsPlaceOf (n - h.first) region) keeps.head place)
+    (subst (λ (h : Head). IsBucketPlace (n - h.first) region) keeps.head place)
 
 pub keeps_then : {D : Type 0} (disk : DiskOf D) (a b c : ShardState D) → KeepsSection disk a b → KeepsSection disk b c → KeepsSection disk a c
 keeps_then disk a b c one two = record {
@@ -152,7 +152,7 @@ not_changing t n rest changing = subst PutsEntries rest changing.1.0
 
 module _ {D : Type 0} (disk : DiskOf D) (apart : IsUnambiguous) (old new : ShardState D) (n : ℕ)
     (range : InRange old.section.head old.section.buckets n) (tells : IsTrue disk.tells)
-    (entries : ℕ → List Entry) (file : List ℕ) (from : ℕ) (has : HasEntries entries file old) (was : IsUnwritten disk entries file from old) where
+    (entries : ℕ → List Entry) (file : List ℕ) (from : ℕ) (has : HasEntries entries file old) (was : IsUnwrittenShard disk entries file from old) where
   -- its entries are those that the section had
   bucket_is : ReadsBucket disk n old new → (b : ReadBucket) → new.bucket ≡ Some b → b.entries ≡ entries b.number
   bucket_is reads b is =
@@ -160,16 +160,16 @@ module _ {D : Type 0} (disk : DiskOf D) (apart : IsUnambiguous) (old new : Shard
       let same : it ≡ b = same_Some it b (sym reads.1 ∙ is) in
       let number : it.number ≡ n = reads.2 in
       let region = place_of_bucket (n - old.section.head.first) in
-      let place : IsPlaceOf (n - old.section.head.first) region = record { start = refl; len = refl } in
+      let place : IsBucketPlace (n - old.section.head.first) region = record { start = refl; len = refl } in
       let read = reads.5 region tells place in
       let frame : reads.3 ≡ current_frame region FRAME_LEN file =
       read.rest (not_changing old.section n was.phase) ∙ ap (λ (f : List ℕ). current_frame region FRAME_LEN f) was.bytes in
       let own : it.entries ≡ entries n = (apart n n it.entries (entries n) reads.3 reads.4
-      (subst (λ (f : List ℕ). IsFrame n (entries n) f) (sym frame) (has n region range place))).1 in
+      (subst (λ (f : List ℕ). IsBucketFrame n (entries n) f) (sym frame) (has n region range place))).1 in
       subst (λ (c : ReadBucket). c.entries ≡ entries c.number) same (own ∙ ap entries (sym number))
 
   pub unwritten_after : OnlyReads disk 2 old.section.disk new.section.disk → IsAtRest new.section → new.index.dirty ≡ old.index.dirty → KeepsSection disk old new
-      → ((new.bucket ≡ old.bucket) ⊎ ReadsBucket disk n old new) → IsUnwritten disk entries file from new
+      → ((new.bucket ≡ old.bucket) ⊎ ReadsBucket disk n old new) → IsUnwrittenShard disk entries file from new
   unwritten_after reads phase dirty keeps buckets = record {
     phase = phase;
     bytes = reads.bytes ∙ was.bytes;
@@ -187,7 +187,7 @@ bucket_cases disk n (Err bad) old new looks = inl looks.kept
 
 -- why a look ends with an error
 pub look_cause : {T : Type 0} {D : Type 0} (disk : DiskOf D) (n : ℕ) (r : Result T ShardErr) (old new : ShardState D) → Looks disk n r old new
-    → IfErr r (λ bad. (bad ≡ Fault) ⊎ ((frame : List ℕ) × IsFaulty n frame bad))
+    → IfErr r (λ bad. (bad ≡ Fault) ⊎ ((frame : List ℕ) × IsFaultyFrame n frame bad))
 look_cause disk n (Ok x) old new looks = tt
 look_cause disk n (Err bad) old new looks = ⊎_elim (λ e. inl e) (λ it. inr (it.0, it.1)) looks.cause
 
@@ -235,10 +235,10 @@ module _ {D : Type 0} (disk : DiskOf D) (apart : IsUnambiguous) (key : Key) (r :
       }
 
   -- where nothing is found its bucket lacks the key
-  looked_lacks : r ≡ Ok None → IsTrue disk.tells → (entries : ℕ → List Entry) (file : List ℕ) (from : ℕ) → HasEntries entries file old → IsUnwritten disk entries file from old → LacksKey entries old key
-  looked_lacks none tells entries file from at was = by_memory (entry_in key old.index) refl
+  looked_lacks : r ≡ Ok None → IsTrue disk.tells → (entries : ℕ → List Entry) (file : List ℕ) (from : ℕ) → HasEntries entries file old → IsUnwrittenShard disk entries file from old → LacksKey entries old key
+  looked_lacks none tells entries file from at was = by_memory (cached_entry key old.index) refl
     where
-      after : IsUnwritten disk entries file from new
+      after : IsUnwrittenShard disk entries file from new
       after = looks_only.unwritten tells entries file from at was
 
       by_bucket : (b : Option ReadBucket) → new.bucket ≡ b → MatchOption b ⊥ (λ it. (it.number ≡ bucket_at old key.score.0) × All (λ entry. ¬ (entry.key ≡ key)) it.entries) → LacksKey entries old key
@@ -254,7 +254,7 @@ module _ {D : Type 0} (disk : DiskOf D) (apart : IsUnambiguous) (key : Key) (r :
       in_ok (Ok (Some y)) e it = absurd (cc)
       in_ok (Err bad) e it = absurd (cc)
 
-      by_memory : (o : Option Entry) → entry_in key old.index ≡ o → LacksKey entries old key
+      by_memory : (o : Option Entry) → cached_entry key old.index ≡ o → LacksKey entries old key
       by_memory (Some entry) is =
           let both : Ok None ≡ Ok (Some entry) = sym none ∙ (up.in_memory (subst (λ (x : Option Entry). IsSome x) (sym is) refl)).0 ∙ ap Ok is in absurd (cc)
       by_memory None is = by_bucket new.bucket refl (in_ok r none (up.in_bucket is))

@@ -5,10 +5,10 @@ use Rattle.std.specs.List.{Contains}
 use Rattle.vt_base.specs.declared.place.Info.{Info}
 use Rattle.vt_disk.specs.Members.{DiskOf}
 use Rattle.vt_isect.specs.Section.{SectionState, IsAtRest, entering}
-use Rattle.vt_isect.specs.Writeback.{Advances as SectionAdvances, NextPhase}
+use Rattle.vt_isect.specs.Writeback.{SectionAdvances, NextPhase}
 use Rattle.vt_isect.proofs.IsRead.{read_runs}
-use Rattle.vt_isect.specs.declared.bad.ShardErr.{ShardErr}
-use Rattle.vt_isect.specs.declared.bad.ShardErr.TheVariants.{Fault, Damaged, Stopped}
+use Rattle.vt_isect.specs.declared.error.ShardErr.{ShardErr}
+use Rattle.vt_isect.specs.declared.error.ShardErr.TheVariants.{Fault, Damaged, Stopped}
 use Rattle.vt_isect.specs.declared.phase.Phase.{Phase}
 use Rattle.vt_isect.specs.declared.phase.Phase.TheVariants.{Rest, ReadSelector, ReadFrame, WriteFrame, SyncFrames, WriteSelector, SyncSelectors, ChangeHead}
 use Rattle.vt_model.specs.History.{History}
@@ -17,12 +17,12 @@ use Rattle.vt_model.specs.declared.TheConstants.{BUCKET_ROOM}
 use Rattle.vt_shard.specs.declared.TheConstants.{ROOM}
 use Rattle.vt_shard.specs.Shard.{ShardState, IsAboveAll}
 use Rattle.vt_shard.specs.Sound.{IsSoundFrom, KeepsSound}
-use Rattle.vt_shard.specs.Writeback.{Begins, MakesCall, ReadsFrame, TakesStep, without_list}
+use Rattle.vt_shard.specs.Writeback.{BeginsShardWriteback, ShardMakesCall, ReadsFrame, ShardTakesStep, without_list}
 use Rattle.vt_twin.specs.declared.step.Step.{Step}
 use Rattle.vt_twin.specs.declared.step.Step.TheVariants.{More, Done}
-use Rattle.vt_recover.specs.Recalling.{IsQuiet, KeepsSection}
-use Rattle.vt_told.specs.Told.{of_shard}
-use Rattle.vt_recover.specs.TakingBack.{CountsShard, FaultOrDamage, WritesBack}
+use Rattle.vt_recover.specs.Recalling.{IsAtRestUnstopped, KeepsSection}
+use Rattle.vt_mount_errors.specs.MountErrors.{of_shard}
+use Rattle.vt_recover.specs.TakingBack.{CountsShard, FaultOrDamage, WritesAllBack}
 use Rattle.vt_recover.proofs.Places.{within_get}
 use Rattle.vt_recover.proofs.TakingBack.{keeps_then, tells_bucket}
 use Rattle.std.proofs.lemmas.List.Elements.{Contains-append_right}
@@ -57,7 +57,7 @@ dirty_below score c disk s h from sound info has = let it = sound.dirty info has
 
 -- ---- how it begins
 
-pub begun_writing : {D : Type 0} (disk : DiskOf D) (old new : ShardState D) (below : ℕ) → IsQuiet old → IsAboveAll old.index.dirty below → Begins below old.section.head.mark old new
+pub begun_writing : {D : Type 0} (disk : DiskOf D) (old new : ShardState D) (below : ℕ) → IsAtRestUnstopped old → IsAboveAll old.index.dirty below → BeginsShardWriteback below old.section.head.mark old new
     → (IsTrue disk.tells → (score : List ℕ → List ℕ) (c : Setup) (h : History) (from : ℕ) → IsSoundFrom score c disk old h (length h) from → IsSoundFrom score c disk new h (length h) from)
     → IsWriting disk old new
 begun_writing {D} disk old new below quiet above it sound = record {
@@ -131,7 +131,7 @@ goes_on SyncSelectors old new it rest = ⊎_elim
 goes_on ChangeHead old new it rest = let e : ChangeHead ≡ Rest = sym it.1 ∙ rest in absurd (cc)
 
 -- no entry becomes dirty
-pub fewer : {D : Type 0} {r : Result Step ShardErr} {before after : ShardState D} (writeback : Option ℕ) → before.writeback ≡ writeback → IsSome writeback → TakesStep r before after
+pub fewer : {D : Type 0} {r : Result Step ShardErr} {before after : ShardState D} (writeback : Option ℕ) → before.writeback ≡ writeback → IsSome writeback → ShardTakesStep r before after
     → (info : Info) → Contains after.index.dirty info → Contains before.index.dirty info
 fewer None is some takes info has = absurd (cc)
 fewer {before = before} {after = after} (Some below) is some takes info has =
@@ -148,7 +148,7 @@ module _ {D : Type 0} (disk : DiskOf D) (old now next : ShardState D) (was : IsW
       no_some None is some = absurd (cc)
       no_some (Some n) is some = absurd (cc)
 
-  module _ (r : Result Step ShardErr) (takes : TakesStep r now next) (made : MakesCall disk r now next) where
+  module _ (r : Result Step ShardErr) (takes : ShardTakesStep r now next) (made : ShardMakesCall disk r now next) where
     step_keeps : KeepsSection disk old next
     step_keeps =
         let it = takes.advances.section in
@@ -172,7 +172,7 @@ module _ {D : Type 0} (disk : DiskOf D) (old now next : ShardState D) (was : IsW
     step_dirty : (info : Info) → Contains next.index.dirty info → Contains old.index.dirty info
     step_dirty info has = was.dirty info (fewer now.writeback refl under takes info has)
 
-  pub one_step : (step : Step) → TakesStep (Ok step) now next → MakesCall disk (Ok step) now next → (IsTrue disk.tells → KeepsSound disk now next) → IsWriting disk old next
+  pub one_step : (step : Step) → ShardTakesStep (Ok step) now next → ShardMakesCall disk (Ok step) now next → (IsTrue disk.tells → KeepsSound disk now next) → IsWriting disk old next
   one_step step takes made sound = record {
     below = was.below;
     above = was.above;
@@ -186,7 +186,7 @@ module _ {D : Type 0} (disk : DiskOf D) (old now next : ShardState D) (was : IsW
     sound = λ tells score c h from before. sound tells score c h (length h) from (was.sound tells score c h from before);
   }
     where
-      stands : (done : Step) → TakesStep (Ok done) now next → (next.writeback ≡ Some was.below) ⊎ ((next.writeback ≡ None) × IsAtRest next.section × (next.index.dirty ≡ []))
+      stands : (done : Step) → ShardTakesStep (Ok done) now next → (next.writeback ≡ Some was.below) ⊎ ((next.writeback ≡ None) × IsAtRest next.section × (next.index.dirty ≡ []))
       stands More t =
           let it = t.advances.section in
           let phase : next.section.phase ≡ it.0.phase = ap (λ (x : SectionState D). x.phase) it.2 ∙ (list_same it.0.phase it.0).3 in
@@ -201,11 +201,11 @@ module _ {D : Type 0} (disk : DiskOf D) (old now next : ShardState D) (was : IsW
                 t.filed was.below refl under_way (info, has, was.above.above info (was.dirty info (fewer now.writeback refl under t info has)))),
           )
 
-  pub ends_early : (bad : ShardErr) → TakesStep (Err bad) now next → MakesCall disk (Err bad) now next → ReadsFrame disk (Err bad) now next
+  pub ends_early : (bad : ShardErr) → ShardTakesStep (Err bad) now next → ShardMakesCall disk (Err bad) now next → ReadsFrame disk (Err bad) now next
       → (IsTrue disk.tells → KeepsSound disk now next)
       → (IsTrue disk.tells → (score : List ℕ → List ℕ) (c : Setup) (h : History) (from : ℕ) → IsSoundFrom score c disk now h (length h) from
       → ((n : ℕ) → crowd score (bucket_count c) h n ≤ BUCKET_ROOM) → (bad ≡ Fault) ⊎ ((n : ℕ) × (bad ≡ Stopped n)))
-      → WritesBack {U = ⊤} disk (Err (of_shard bad)) old next
+      → WritesAllBack {U = ⊤} disk (Err (of_shard bad)) old next
   ends_early bad takes made reads sound undamaged = record {
     keeps = step_keeps (Err bad) takes made;
     rests = λ bits below before. tt;
@@ -218,16 +218,16 @@ module _ {D : Type 0} (disk : DiskOf D) (old now next : ShardState D) (was : IsW
         (sound tells score c h (length h) from mid, λ fits. ⊎_elim (λ e. ap of_shard e) (λ it. ap of_shard it.1) (undamaged tells score c h from mid fits));
   }
     where
-      not_stopped : (n : ℕ) → TakesStep (Err (Stopped n)) now next → ⊥
+      not_stopped : (n : ℕ) → ShardTakesStep (Err (Stopped n)) now next → ⊥
       not_stopped n t = let e : None ≡ Some n = sym was.stopped ∙ (t.stopped n).0 refl in absurd (cc)
 
-      counts : (b : ShardErr) → TakesStep (Err b) now next → MakesCall disk (Err b) now next
+      counts : (b : ShardErr) → ShardTakesStep (Err b) now next → ShardMakesCall disk (Err b) now next
           → CountsShard {U = ⊤} (Err (of_shard b)) (disk.faults old.section.disk) (disk.faults next.section.disk)
       counts Fault t m = subst (λ (n : ℕ). CountsShard {U = ⊤} (Err (of_shard Fault)) n (disk.faults next.section.disk)) was.faults m.faults
       counts (Damaged bucket want found) t m = m.faults ∙ was.faults
       counts (Stopped n) t m = absurd (not_stopped n t)
 
-      tells : (b : ShardErr) → TakesStep (Err b) now next → ReadsFrame disk (Err b) now next → FaultOrDamage (of_shard b)
+      tells : (b : ShardErr) → ShardTakesStep (Err b) now next → ReadsFrame disk (Err b) now next → FaultOrDamage (of_shard b)
       tells Fault t read = inl refl
       tells (Damaged bucket want found) t read =
           let phase = t.advances.section.1.0 in
@@ -237,7 +237,7 @@ module _ {D : Type 0} (disk : DiskOf D) (old now next : ShardState D) (was : IsW
 
 -- ---- how it ends
 
-pub writes_all : {D : Type 0} (disk : DiskOf D) (old now : ShardState D) (done : ⊤) → IsWriting disk old now → now.writeback ≡ None → WritesBack disk (Ok done) old now
+pub writes_all : {D : Type 0} (disk : DiskOf D) (old now : ShardState D) (done : ⊤) → IsWriting disk old now → now.writeback ≡ None → WritesAllBack disk (Ok done) old now
 writes_all {D} disk old now done was none = record {
   keeps = was.keeps;
   rests = λ bits below before. record {
@@ -256,7 +256,7 @@ writes_all {D} disk old now done was none = record {
     rest : (now.writeback ≡ None) × IsAtRest now.section × (now.index.dirty ≡ [])
     rest = ⊎_elim (λ some. let e : None ≡ Some was.below = sym none ∙ some in absurd (cc)) (λ it. it) was.stands
 
-    at_rest : IsQuiet now
+    at_rest : IsAtRestUnstopped now
     at_rest = record { phase = rest.1; next = was.next; stopped = was.stopped; writeback = none }
 
     least : (below : ℕ) → ((info : Info) → Contains old.index.dirty info → info.number < below) → was.below ≤ below

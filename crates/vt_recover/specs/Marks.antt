@@ -10,7 +10,7 @@ use Rattle.vt_isect.specs.Layout.{IsSection}
 use Rattle.vt_bloom.specs.Bloom.{BloomState}
 use Rattle.vt_shard.specs.declared.TheConstants.{ROOM}
 use Rattle.vt_shard.specs.Shard.{ShardState}
-use Rattle.vt_recover.specs.Sections.{buckets_of}
+use Rattle.vt_recover.specs.Sections.{section_buckets}
 
 -- All marks, the filter's too, cover the first n blocks. Without a filter's device none do.
 pub record AreCovered {D : Type 0} (shards : List (ShardState D)) (bloom : Option (BloomState D))
@@ -20,13 +20,13 @@ pub record AreCovered {D : Type 0} (shards : List (ShardState D)) (bloom : Optio
   pub filter_is : MatchOption bloom (n ≡ 0) (λ b. n ≤ b.mark)
 
 -- block i of the history belongs to this section, whose file lacks its entry
-pub record LacksEntry (score : List ℕ → List ℕ) (c : Setup) (g : History) (section : ℕ)
+pub record LacksIndexEntry (score : List ℕ → List ℕ) (c : Setup) (g : History) (section : ℕ)
     (file : List ℕ) (i : ℕ) : Type 0 where
   pub block : Accepted
   pub at : slice_get g i ≡ Some block
   pub belongs : section_of_score c (score block.block.bytes) ≡ section
   pub lacks : (name : List ℕ) (head : Head) (entries : ℕ → List Entry)
-      → IsSection name head (buckets_of c section) entries file
+      → IsSection name head (section_buckets c section) entries file
       → ¬ HasBlock score c g
       (Contains (entries (bucket_of (bucket_count c) (score block.block.bytes)))) i
 
@@ -36,4 +36,4 @@ pub record LacksMany (score : List ℕ → List ℕ) (c : Setup) (g : History) (
   pub numbers : List ℕ
   pub apart : AllPairs (λ i j. i ≢ j) numbers
   pub many : ROOM < length numbers
-  pub each : All (LacksEntry score c g section file) numbers
+  pub each : All (LacksIndexEntry score c g section file) numbers

@@ -14,12 +14,12 @@ use Rattle.vt_isect.specs.declared.head.Head.{Head}
 use Rattle.vt_isect.specs.Agreement.{AgreesWith, KnownAgrees}
 use Rattle.vt_isect.specs.Head.{IsHeadFrame}
 use Rattle.vt_isect.specs.Layout.{IsSection, head_place, buckets_in}
-use Rattle.vt_isect.specs.Section.{SectionState, mounted}
-use Rattle.vt_isect.specs.Sound.{Known, DiskHolds, all_known, nothing_known}
+use Rattle.vt_isect.specs.Section.{SectionState, mounted_section}
+use Rattle.vt_isect.specs.Sound.{KnownBuckets, DiskHolds, all_known, nothing_known}
 use Rattle.vt_bloom.specs.Bits.{Filter}
-use Rattle.vt_bloom.specs.Bloom.{BloomState, HasCounts, IsSound as IsSoundBloom}
+use Rattle.vt_bloom.specs.Bloom.{BloomState, HasCounts, IsSoundBloom}
 use Rattle.vt_bloom.specs.Frame.{Saved, HasSaved}
-use Rattle.vt_shard.specs.Shard.{ShardState, mounted as mounted_shard}
+use Rattle.vt_shard.specs.Shard.{ShardState, mounted_shard}
 use Rattle.vt_shard.specs.Sound.{IsSoundFrom}
 use Rattle.vt_recover.specs.Refusals.{CountsRefusal}
 
@@ -32,8 +32,10 @@ pub record CanBeOpened {D : Type 0} (disk : DiskOf D) (device : D) : Type 0 wher
 
 -- The section of this device was found. It has the head that is there, nothing is under way, and
 -- its device is sound for each history with which what is there agrees.
-pub record IsOpened {D : Type 0} (disk : DiskOf D) (device : D) (s : SectionState D) : Type 0 where
-  pub fresh : s ≡ mounted s.disk (buckets_in (disk.size device)) s.name s.head s.head_twin.current
+pub record IsFoundSection {D : Type 0} (disk : DiskOf D) (device : D) (s : SectionState D)
+    : Type 0 where
+  pub fresh : s ≡ mounted_section s.disk (buckets_in (disk.size device)) s.name s.head
+      s.head_twin.current
   pub some : 0 < s.buckets
   pub head : IsTrue disk.tells
       → IsHeadFrame s.name s.head (current_frame head_place FRAME_LEN (disk.bytes device))
@@ -58,7 +60,7 @@ sections_after (Err refusal) = refusal.1.items
 pub record IsShardMade {D : Type 0} (disk : DiskOf D) (lumps clean : ℕ) (section : SectionState D)
     (s : ShardState D) : Type 0 where
   pub is : s ≡ mounted_shard section lumps clean
-  pub sound : (score : List ℕ → List ℕ) (c : Setup) (h : History) (known : Known)
+  pub sound : (score : List ℕ → List ℕ) (c : Setup) (h : History) (known : KnownBuckets)
       → IsTrue disk.tells → DiskHolds disk section known → KnownAgrees score c h section known
       → section.head.state ≡ 1 → IsSoundFrom score c disk s h (length h) (length h)
 
@@ -96,6 +98,6 @@ filter_after (Ok opened) = option_map (λ b. b.disk) opened.0
 filter_after (Err refusal) = refusal.1
 
 -- memory for so many devices, to hand them back in
-pub record HasRoom {D Z : Type 0} (many : ℕ) (room : Vec D Z) : Type 0 where
+pub record HasRoomForDevices {D Z : Type 0} (many : ℕ) (room : Vec D Z) : Type 0 where
   pub empty : room.items ≡ []
   pub enough : many ≤ vec_capacity room

@@ -15,22 +15,22 @@ use Rattle.vt_model.specs.History.{History, Accepted}
 use Rattle.vt_model.specs.Places.{Setup, bucket_count, crowd}
 use Rattle.vt_model.specs.declared.TheConstants.{BUCKET_ROOM}
 use Rattle.vt_part.specs.declared.layout.ArenaRegion.{ArenaRegion}
-use Rattle.vt_arena.specs.declared.bad.BackBad.TheVariants as back_bad
+use Rattle.vt_arena.specs.declared.error.BackBad.TheVariants as back_bad
 use Rattle.vt_arena.specs.declared.directory.At.{At}
 use Rattle.vt_arena.specs.declared.head.Found.{Found}
-use Rattle.vt_arena.specs.Directory.{last_entry, first_bad}
+use Rattle.vt_arena.specs.Directory.{last_entry, first_bad_entry}
 use Rattle.vt_bloom.specs.Bits.{Filter, HasBitsOf}
-use Rattle.vt_isect.specs.declared.bad.ShardErr.TheVariants as shard_err
+use Rattle.vt_isect.specs.declared.error.ShardErr.TheVariants as shard_err
 use Rattle.vt_isect.specs.Merging.{IsDamage}
 use Rattle.vt_isect.specs.Section.{IsAtRest}
 use Rattle.vt_log.specs.Answers.{HoldTheSame}
 use Rattle.vt_log.specs.Log.{LogState}
-use Rattle.vt_log.specs.Sound.{IsSound as IsSoundLog, IsAt}
+use Rattle.vt_log.specs.Sound.{IsSoundLog, IsArenaAt}
 use Rattle.vt_shard.specs.Shard.{ShardState}
 use Rattle.vt_shard.specs.Sound.{IsSoundFrom}
 use Rattle.vt_recover.specs.Marks.{LacksMany}
 use Rattle.vt_recover.specs.Refusals.{CountsRefusal}
-use Rattle.vt_recover.specs.Sections.{IsLive, SectionStandsFor, buckets_of}
+use Rattle.vt_recover.specs.Sections.{IsLive, SectionStandsFor, section_buckets}
 
 -- What is read back, and into what: the log, a shard for each section, and the filter's bits.
 pub record Opened (D : Type 0) : Type 0 where
@@ -42,13 +42,13 @@ abbrev pub opened : {D : Type 0} → LogState D → List (ShardState D) → Filt
 opened log shards bits = record { log = log; shards = shards; bits = bits }
 
 -- the devices that are called
-abbrev pub devices_in : {D : Type 0} → Opened D → List D
-devices_in o = o.log.disks ++ map (λ s. s.section.disk) o.shards
+abbrev pub devices_called : {D : Type 0} → Opened D → List D
+devices_called o = o.log.disks ++ map (λ s. s.section.disk) o.shards
 
 -- ---- a shard
 
 -- nothing is under way in it, and nothing stopped it
-pub record IsQuiet {D : Type 0} (s : ShardState D) : Type 0 where
+pub record IsAtRestUnstopped {D : Type 0} (s : ShardState D) : Type 0 where
   pub phase : IsAtRest s.section
   pub next : s.section.next ≡ s.section.head
   pub stopped : s.section.stopped ≡ None
@@ -56,7 +56,7 @@ pub record IsQuiet {D : Type 0} (s : ShardState D) : Type 0 where
 
 -- no call was made of it yet, and nothing is in its memory
 pub record IsUnused {D : Type 0} (s : ShardState D) : Type 0 where
-  pub quiet : IsQuiet s
+  pub quiet : IsAtRestUnstopped s
   pub dirty : s.index.dirty ≡ []
   pub bucket : s.bucket ≡ None
   pub filed : s.filed ≡ 0
@@ -73,7 +73,7 @@ pub record KeepsSection {D : Type 0} (disk : DiskOf D) (old new : ShardState D) 
 -- What it put into its buckets and what is dirty are entries of blocks below this number, and the
 -- bits of the dirty ones are set.
 pub record IsReadBack {D : Type 0} (bits : Filter) (below : ℕ) (s : ShardState D) : Type 0 where
-  pub quiet : IsQuiet s
+  pub quiet : IsAtRestUnstopped s
   pub filed : s.filed ≤ below
   pub numbers : (info : Info) → Contains s.index.dirty info → info.number < below
   pub bits_of : (info : Info) → Contains s.index.dirty info → HasBitsOf bits info.key.score.0
@@ -112,7 +112,7 @@ pub record IsDamagedIn {D : Type 0} (disk : DiskOf D) (l : LogState D) (arena : 
     (want found : FieldValue) : Type 0 where
   pub r : ArenaRegion
   pub device : D
-  pub stands : IsAt l arena r device
+  pub stands : IsArenaAt l arena r device
   pub head : Found
   pub head_is : slice_get l.heads arena ≡ Some head
   pub at : At
@@ -120,7 +120,7 @@ pub record IsDamagedIn {D : Type 0} (disk : DiskOf D) (l : LogState D) (arena : 
   pub end : at.end ≤ head.head.used
   pub entry : List ℕ
   pub entry_is : IsTrue disk.tells → entry ≡ last_entry r.region at.index (disk.bytes device)
-  pub bad : first_bad head.head.used at entry ≡ Some (back_bad.Damaged want found)
+  pub bad : first_bad_entry head.head.used at entry ≡ Some (back_bad.Damaged want found)
 
 -- Section i got more blocks of a bucket than a bucket has room for. Where it is sound for the log's
 -- history, these are the history's own.
@@ -166,7 +166,7 @@ IsSoundTo score disk h from before after = (c : Setup)
 
 -- The blocks of the log from this number on were read back: the bits of each are set, and no shard
 -- lacks the entry of one.
-pub record Recalls {D : Type 0} (score : List ℕ → List ℕ) (disk : DiskOf D) (h : History)
+pub record RecallsFrom {D : Type 0} (score : List ℕ → List ℕ) (disk : DiskOf D) (h : History)
     (from : ℕ) (old new : Opened D) : Type 0 where
   pub bits : (i : ℕ) (e : Accepted) → from ≤ i → slice_get h i ≡ Some e
       → HasBitsOf new.bits (score e.block.bytes)
@@ -175,10 +175,10 @@ pub record Recalls {D : Type 0} (score : List ℕ → List ℕ) (disk : DiskOf D
 
 -- A section keeps what it holds, unless more of its entries are lacking than its shard has room
 -- for.
-abbrev pub KeepsBytes : {D : Type 0} → (List ℕ → List ℕ) → DiskOf D → History → (i : ℕ)
+abbrev pub KeepsSectionBytes : {D : Type 0} → (List ℕ → List ℕ) → DiskOf D → History → (i : ℕ)
     → (before after : ShardState D) → Type 0
-KeepsBytes score disk h i before after = (c : Setup) → IsLive c i before.section.head
-    → before.section.buckets ≡ buckets_of c i
+KeepsSectionBytes score disk h i before after = (c : Setup) → IsLive c i before.section.head
+    → before.section.buckets ≡ section_buckets c i
     → SectionStandsFor score c h i (disk.bytes before.section.disk)
     → IsSoundFrom score c disk before h (length h) (length h)
     → (disk.bytes after.section.disk ≡ disk.bytes before.section.disk)
@@ -197,19 +197,19 @@ pub record ReadsLogBack {D U : Type 0} (score : List ℕ → List ℕ) (disk : D
   -- Each shard is sound for the log's history afterwards, but where reading ended early it may lack
   -- entries as before. There nothing but a fault ends it early.
   pub recalls : (h : History) → IsTrue disk.tells → IsSoundLog score disk old.log h
-      → MatchResult result (λ _. Recalls score disk h least old new)
-      (λ _. Recalls score disk h (length h) old new)
+      → MatchResult result (λ _. RecallsFrom score disk h least old new)
+      (λ _. RecallsFrom score disk h (length h) old new)
   pub found : (c : Setup) (h : History) → IsTrue disk.tells → IsSoundLog score disk old.log h
       → FitsBuckets score c h → ((i : ℕ) (s : ShardState D) → slice_get old.shards i ≡ Some s
       → IsSoundFrom score c disk s h (length h) (length h)) → IfErr result (λ bad. bad ≡ Fault)
   pub bytes : (h : History) (i : ℕ) (before after : ShardState D) → IsTrue disk.tells
       → IsSoundLog score disk old.log h → slice_get old.shards i ≡ Some before
-      → slice_get new.shards i ≡ Some after → KeepsBytes score disk h i before after
+      → slice_get new.shards i ≡ Some after → KeepsSectionBytes score disk h i before after
   -- whatever the devices hold
   pub reads : ReadsBack score disk old new
   pub rest : OnOk result (AreReadBack new.bits old.log.durable new.shards)
-  pub counts : CountsMount result (map disk.faults (devices_in old))
-      (map disk.faults (devices_in new))
+  pub counts : CountsMount result (map disk.faults (devices_called old))
+      (map disk.faults (devices_called new))
   pub ends_early : IfErr result (EndsEarly score disk part old)
   -- each entry of the others is read once
   pub calls : OnOk result (IsTrue disk.tells → sum_by disk.calls new.log.disks

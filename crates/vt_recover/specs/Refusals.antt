@@ -5,13 +5,13 @@ use Rattle.vt_base.specs.declared.mount.MountBad.TheVariants.{Fault}
 use Rattle.vt_disk.specs.Members.{DiskOf}
 use Rattle.vt_twin.specs.Frames.{current_frame}
 use Rattle.vt_isect.specs.declared.TheConstants.{FRAME_LEN}
-use Rattle.vt_isect.specs.declared.bad.SectBad.{SectBad}
-use Rattle.vt_isect.specs.Faults.{RefusesMount as RefusesSection, NamesItsCause as NamesSectionCause}
+use Rattle.vt_isect.specs.declared.error.SectBad.{SectBad}
+use Rattle.vt_isect.specs.Faults.{RefusesSectionMount, NamesSectionCause}
 use Rattle.vt_isect.specs.Layout.{head_place}
-use Rattle.vt_bloom.specs.declared.bad.BloomBad.{BloomBad}
-use Rattle.vt_bloom.specs.Faults.{RefusesMount as RefusesBloom, NamesItsCause as NamesBloomCause}
+use Rattle.vt_bloom.specs.declared.error.BloomError.{BloomError}
+use Rattle.vt_bloom.specs.Faults.{RefusesFilterMount, NamesFilterCause}
 use Rattle.vt_log.specs.Faults.{OneHasRisen}
-use Rattle.vt_told.specs.Told.{of_filter, of_section}
+use Rattle.vt_mount_errors.specs.MountErrors.{of_filter, of_section}
 
 -- the device of a section, of which the first is this part of the store
 pub record SectionIsRefused {D : Type 0} (disk : DiskOf D) (part : ℕ) (devices : List D)
@@ -22,7 +22,7 @@ pub record SectionIsRefused {D : Type 0} (disk : DiskOf D) (part : ℕ) (devices
   pub why : SectBad
   pub bad_is : bad ≡ of_section (part + i) why
   pub names : NamesSectionCause (disk.size device) why
-  pub refuses : IsTrue disk.tells → RefusesSection (disk.size device)
+  pub refuses : IsTrue disk.tells → RefusesSectionMount (disk.size device)
       (current_frame head_place FRAME_LEN (disk.bytes device)) why
 
 -- that of the filter, which is this part
@@ -30,10 +30,10 @@ pub record FilterIsRefused {D : Type 0} (disk : DiskOf D) (part : ℕ) (devices 
     (bad : MountBad) : Type 0 where
   pub device : D
   pub at : slice_get devices 0 ≡ Some device
-  pub why : BloomBad
+  pub why : BloomError
   pub bad_is : bad ≡ of_filter part why
-  pub names : NamesBloomCause (disk.size device) why
-  pub refuses : IsTrue disk.tells → RefusesBloom (disk.bytes device) (disk.size device) why
+  pub names : NamesFilterCause (disk.size device) why
+  pub refuses : IsTrue disk.tells → RefusesFilterMount (disk.bytes device) (disk.size device) why
 
 -- of all counts of faults one rose where a fault is told, and else none
 abbrev pub CountsRefusal : MountBad → (old new : List ℕ) → Type 0

@@ -13,13 +13,13 @@ use Rattle.vt_base.specs.declared.why.FieldValue.{FieldValue}
 use Rattle.vt_base.specs.declared.place.Place.{Place}
 use Rattle.vt_base.specs.declared.why.Site.TheVariants.{Bucket, Clump}
 use Rattle.vt_bloom.specs.Bits.{Filter, HasBitsOf}
-use Rattle.vt_bucket.specs.Frame.{IsFrame}
+use Rattle.vt_bucket.specs.Frame.{IsBucketFrame}
 use Rattle.vt_disk.specs.Calls.{OnlyReads}
 use Rattle.vt_disk.specs.Members.{DiskOf}
 use Rattle.vt_disk.specs.declared.region.Region.{Region}
 use Rattle.vt_icache.specs.Index.{dirty_info, entry_of}
 use Rattle.vt_isect.specs.Agreement.{IsEntryOf}
-use Rattle.vt_isect.specs.Layout.{InRange, IsPlaceOf}
+use Rattle.vt_isect.specs.Layout.{InRange, IsBucketPlace}
 use Rattle.vt_isect.specs.Merging.{HasKey}
 use Rattle.vt_isect.specs.Section.{IsAtRest}
 use Rattle.vt_isect.specs.declared.TheConstants.{FRAME_LEN}
@@ -32,11 +32,11 @@ use Rattle.vt_shard.specs.Shard.{ShardState, ReadBucket, HasScore, bucket_at}
 use Rattle.vt_shard.specs.Sound.{IsSoundFrom, IsSoundWithout}
 use Rattle.vt_shard.specs.declared.TheConstants.{ROOM}
 use Rattle.vt_twin.specs.Frames.{current_frame}
-use Rattle.vt_log.specs.Answers.{OnlyReads as OnlyReadsLog}
-use Rattle.vt_log.specs.Back.{IsBehind, IsInfo, IsTailOf, TailState}
+use Rattle.vt_log.specs.Answers.{OnlyReadsLog}
+use Rattle.vt_log.specs.Back.{IsTailBehind, IsInfoInLog, IsTailOf, TailState}
 use Rattle.vt_log.specs.Log.{LogState}
-use Rattle.vt_log.specs.Sound.{IsSound as IsSoundLog}
-use Rattle.vt_recover.specs.Recalling.{AreReadBack, CountsMount, FitsBuckets, IsDamagedBucket, IsDamagedIn, IsQuiet, IsReadBack, KeepsSection}
+use Rattle.vt_log.specs.Sound.{IsSoundLog}
+use Rattle.vt_recover.specs.Recalling.{AreReadBack, CountsMount, FitsBuckets, IsDamagedBucket, IsDamagedIn, IsAtRestUnstopped, IsReadBack, KeepsSection}
 
 -- a fault is told exactly where the device's count rose
 abbrev pub CountsRose : MountBad → (old new : ℕ) → Type 0
@@ -62,8 +62,8 @@ FaultOrDamage bad = (bad ≡ Fault) ⊎ TellsBucket bad
 abbrev pub HasEntries : {D : Type 0} → (entries : ℕ → List Entry) → (file : List ℕ) → ShardState D
     → Type 0
 HasEntries entries file s = (n : ℕ) (region : Region)
-    → InRange s.section.head s.section.buckets n → IsPlaceOf (n - s.section.head.first) region
-    → IsFrame n (entries n) (current_frame region FRAME_LEN file)
+    → InRange s.section.head s.section.buckets n → IsBucketPlace (n - s.section.head.first) region
+    → IsBucketFrame n (entries n) (current_frame region FRAME_LEN file)
 
 -- the key's bucket lacks it
 abbrev pub LacksKey : {D : Type 0} → (entries : ℕ → List Entry) → ShardState D → Key → Type 0
@@ -72,7 +72,7 @@ LacksKey entries s key = ¬ HasKey (Contains (entries (bucket_at s key.score.0))
 -- Nothing was written since the device had this file, whose section has these entries. The dirty
 -- entries are of different blocks from this number on, and their buckets, which are the shard's,
 -- lack them.
-pub record IsUnwritten {D : Type 0} (disk : DiskOf D) (entries : ℕ → List Entry)
+pub record IsUnwrittenShard {D : Type 0} (disk : DiskOf D) (entries : ℕ → List Entry)
     (file : List ℕ) (from : ℕ) (s : ShardState D) : Type 0 where
   pub phase : IsAtRest s.section
   pub bytes : disk.bytes s.section.disk ≡ file
@@ -101,8 +101,8 @@ pub record OnlyLooks {D : Type 0} (disk : DiskOf D) (old new : ShardState D) : T
   }
   pub reads : OnlyReads disk 2 old.section.disk new.section.disk
   pub unwritten : IsTrue disk.tells → (entries : ℕ → List Entry) (file : List ℕ) (from : ℕ)
-      → HasEntries entries file old → IsUnwritten disk entries file from old
-      → IsUnwritten disk entries file from new
+      → HasEntries entries file old → IsUnwrittenShard disk entries file from old
+      → IsUnwrittenShard disk entries file from new
 
 -- Whether a block has its entry.
 pub record LooksForEntry {D : Type 0} (disk : DiskOf D) (key : Key) (result : Result Bool MountBad)
@@ -115,7 +115,7 @@ pub record LooksForEntry {D : Type 0} (disk : DiskOf D) (key : Key) (result : Re
       (λ bad. IsSoundFrom score c disk new h (length h) (i + 1) × (bad ≡ Fault))
   pub absent : result ≡ Ok false → dirty_info key new.index ≡ None
   pub lacks : result ≡ Ok false → IsTrue disk.tells → (entries : ℕ → List Entry) (file : List ℕ)
-      (from : ℕ) → HasEntries entries file old → IsUnwritten disk entries file from old
+      (from : ℕ) → HasEntries entries file old → IsUnwrittenShard disk entries file from old
       → LacksKey entries old key
   pub counts : CountsShard result (disk.faults old.section.disk) (disk.faults new.section.disk)
   pub tells : IfErr result FaultOrDamage
@@ -160,8 +160,8 @@ pub record TakesBack {D U : Type 0} (disk : DiskOf D) (part : ℕ) (info : Info)
       (λ bad. IsSoundFrom score c disk new h (length h) (info.number + 1)
       × (FitsBuckets score c h → bad ≡ Fault))
   pub unwritten : IsTrue disk.tells → (entries : ℕ → List Entry) (file : List ℕ)
-      → HasEntries entries file old → IsUnwritten disk entries file (info.number + 1) old
-      → IsUnwritten disk entries file info.number new ⊎ HasNoRoomFor entries info.key old
+      → HasEntries entries file old → IsUnwrittenShard disk entries file (info.number + 1) old
+      → IsUnwrittenShard disk entries file info.number new ⊎ HasNoRoomFor entries info.key old
 
 -- An entry is put in that the shard lacks.
 pub record PutsBack {D U : Type 0} (disk : DiskOf D) (part : ℕ) (info : Info)
@@ -178,16 +178,16 @@ pub record PutsBack {D U : Type 0} (disk : DiskOf D) (part : ℕ) (info : Info)
       → IsSoundFrom score c disk new h (length h) info.number
       × IfErr result (λ bad. (bad ≡ Fault) ⊎ IsOwnCrowd part score c h bad)
   pub unwritten : IsTrue disk.tells → (entries : ℕ → List Entry) (file : List ℕ)
-      → HasEntries entries file old → IsUnwritten disk entries file (info.number + 1) old
-      → LacksKey entries old info.key → IsUnwritten disk entries file info.number new
+      → HasEntries entries file old → IsUnwrittenShard disk entries file (info.number + 1) old
+      → LacksKey entries old info.key → IsUnwrittenShard disk entries file info.number new
 
 -- All dirty entries were to be written back.
-pub record WritesBack {D U : Type 0} (disk : DiskOf D) (result : Result U MountBad)
+pub record WritesAllBack {D U : Type 0} (disk : DiskOf D) (result : Result U MountBad)
     (old new : ShardState D) : Type 0 where
   pub keeps : KeepsSection disk old new
   pub rests : (bits : Filter) (below : ℕ) → IsReadBack bits below old
       → OnOk result (IsReadBack bits below new)
-  pub quiet : OnOk result (IsQuiet new)
+  pub quiet : OnOk result (IsAtRestUnstopped new)
   pub emptied : OnOk result (length new.index.dirty < ROOM)
   pub counts : CountsShard result (disk.faults old.section.disk) (disk.faults new.section.disk)
   pub tells : IfErr result FaultOrDamage
@@ -222,8 +222,8 @@ pub record TakesAllBack {D U : Type 0} (disk : DiskOf D) (part : ℕ) (info : In
   pub unwritten : IsTrue disk.tells → (i : ℕ) (before after : ShardState D)
       → slice_get old i ≡ Some before → slice_get new i ≡ Some after
       → (entries : ℕ → List Entry) (file : List ℕ) → HasEntries entries file before
-      → IsUnwritten disk entries file (info.number + 1) before
-      → IsUnwritten disk entries file info.number after ⊎ HasNoRoomFor entries info.key before
+      → IsUnwrittenShard disk entries file (info.number + 1) before
+      → IsUnwrittenShard disk entries file info.number after ⊎ HasNoRoomFor entries info.key before
 
 -- ---- the log
 
@@ -244,8 +244,9 @@ pub record GivesNext {D : Type 0} (score : List ℕ → List ℕ) (disk : DiskOf
     (result : Result Info MountBad) (old new : LogState D) (before after : TailState)
     : Type 0 where
   pub blocks : (h : History) (n : ℕ) → IsTrue disk.tells → IsSoundLog score disk old h
-      → IsBehind old h n before → MatchResult result (λ info. IsInfo score old h info.number info
-      × (info.number + 1 ≡ n) × IsBehind old h info.number after) (λ bad. bad ≡ Fault)
+      → IsTailBehind old h n before
+      → MatchResult result (λ info. IsInfoInLog score old h info.number info
+      × (info.number + 1 ≡ n) × IsTailBehind old h info.number after) (λ bad. bad ≡ Fault)
   pub number : MatchResult result (λ info. (info.number ≡ after.left)
       × (info.number + 1 ≡ before.left)) (λ _. ⊤)
   pub tail : IsTailOf new after

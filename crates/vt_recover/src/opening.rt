@@ -7,9 +7,9 @@ ghost use Rattle.vt_base.specs.declared.mount.MountBad.{MountBad};
 ghost use Rattle.vt_bloom.specs.Frame.{Saved, HasSaved};
 ghost use Rattle.vt_isect.specs.Section.{IsAtRest};
 ghost use Rattle.vt_log.specs.Answers.{HoldTheSame};
-ghost use Rattle.vt_recover.specs.Opening.{CanBeOpened, CountsBack, IsOpened, IsShardMade, OpensFilter, filter_after, sections_after};
+ghost use Rattle.vt_recover.specs.Opening.{CanBeOpened, CountsBack, IsFoundSection, IsShardMade, OpensFilter, filter_after, sections_after};
 ghost use Rattle.vt_recover.specs.Refusals.{FilterIsRefused, SectionIsRefused};
-ghost use Rattle.vt_recover.specs.Opening.{HasRoom};
+ghost use Rattle.vt_recover.specs.Opening.{HasRoomForDevices};
 
 use crate::devices::close_shards;
 use std::alloc::{AllocError, Global};
@@ -17,8 +17,8 @@ use vt_base::MountBad;
 use vt_bloom::{Bits, Bloom};
 use vt_disk::Disk;
 use vt_isect::Section;
+use vt_mount_errors::{of_filter, of_section};
 use vt_shard::{Shard, Sizes};
-use vt_told::{of_filter, of_section};
 
 /// The counts of a filter that has no device.
 const M: u8 = 16;
@@ -33,8 +33,8 @@ pub fn open_sections<D: Disk>(
     part: u32,
 ) -> Result<(Vec<Section<D>>, Vec<D>), (MountBad, Vec<D>)>
     requires { part + length devices.items < 2 ^ 32 }
-    ensures opened { IfOk result (λ it. AllZip (IsOpened D.Disk) devices.items it.0.items
-        × HasRoom (length devices.items) it.1) }
+    ensures opened { IfOk result (λ it. AllZip (IsFoundSection D.Disk) devices.items it.0.items
+        × HasRoomForDevices (length devices.items) it.1) }
     ensures refused { IfErr result (λ refusal. (refusal.0 ≡ MountBad.NoMemory)
         ⊎ SectionIsRefused D.Disk part devices.items refusal.0) }
     ensures found { IsTrue D.tells → All (CanBeOpened D.Disk) devices.items
@@ -98,9 +98,9 @@ fn open_shards<D: Disk>(
     requires lumps { 0 < sizes.lumps }
     requires clean { 0 < sizes.clean }
     requires rest { All (λ s. IsAtRest s) sections.items }
-    requires room { HasRoom (length sections.items) room }
+    requires room { HasRoomForDevices (length sections.items) room }
     ensures made { IfOk result (λ it. AllZip (IsShardMade D.Disk sizes.lumps sizes.clean)
-        sections.items it.0.items × HasRoom (length sections.items) it.1) }
+        sections.items it.0.items × HasRoomForDevices (length sections.items) it.1) }
     ensures memory { IfErr result (λ devices. devices.items ≡ map (λ s. s.disk) sections.items) }
 {
     let Ok(mut shards) = Vec::with_capacity(alloc, sections.len()) else {
@@ -134,9 +134,9 @@ pub fn open_memory<D: Disk>(
     requires lumps { 0 < sizes.lumps }
     requires clean { 0 < sizes.clean }
     requires rest { All (λ s. IsAtRest s) sections.items }
-    requires room { HasRoom (length sections.items) room }
+    requires room { HasRoomForDevices (length sections.items) room }
     ensures made { IfOk result (λ it. AllZip (IsShardMade D.Disk sizes.lumps sizes.clean)
-        sections.items it.0.items × HasRoom (length sections.items) it.1) }
+        sections.items it.0.items × HasRoomForDevices (length sections.items) it.1) }
     ensures rows { IfOk result (λ it. it.2.items ≡ replicate sessions None) }
     ensures memory { IfErr result (λ devices. devices.items ≡ map (λ s. s.disk) sections.items) }
 {

@@ -1,27 +1,26 @@
 //! Reading the log back, from its end to the least mark, while a store is mounted.
 
 ghost use Rattle.std.specs.Prelude.{◌≡◌, ◌+◌, ◌-◌, ◌^◌, ◌<◌, ◌≤◌, ℕ, MatchOption, None, Some, length, slice_get};
-ghost use Rattle.vt_bloom.specs.Bits.{Marks};
+ghost use Rattle.vt_bloom.specs.Bits.{MarksScore};
 ghost use Rattle.vt_icache.specs.Index.{dirty_info};
 ghost use Rattle.vt_log.specs.Back.{IsTailOf};
-ghost use Rattle.vt_log.specs.Log.{IsMounted, queued};
+ghost use Rattle.vt_log.specs.Log.{IsMountedLog, queued};
 ghost use Rattle.vt_shard.specs.Shard.{ShardState, HasScore};
 ghost use Rattle.vt_shard.specs.declared.TheConstants.{ROOM};
-ghost use Rattle.vt_recover.specs.Recalling.{IsQuiet, IsUnused, ReadsLogBack, opened};
-ghost use Rattle.vt_recover.specs.TakingBack.{GivesNext, LooksForEntry, PutsBack, StandsOnDisks, TakesAllBack, TakesBack, WritesBack};
+ghost use Rattle.vt_recover.specs.Recalling.{IsAtRestUnstopped, IsUnused, ReadsLogBack, opened};
+ghost use Rattle.vt_recover.specs.TakingBack.{GivesNext, LooksForEntry, PutsBack, StandsOnDisks, TakesAllBack, TakesBack, WritesAllBack};
 ghost use Rattle.vt_recover.specs.Marks.{AreCovered};
 
 use std::marker::Brand;
 use std::sync::ledger::{Blank, Ledger};
 use vt_arena::BackBad;
-use vt_base::{Info, MountBad, MountField, Scorer, Site};
+use vt_base::{Info, MountBad, MountField, Scorer, Site, Steps};
 use vt_bloom::{Bits, Bloom};
 use vt_disk::Disk;
 use vt_log::{Log, Tail};
 use vt_model::BUCKET_ROOM;
+use vt_mount_errors::of_shard;
 use vt_shard::{Shard, no_block_lacks, others_lack_nothing};
-use vt_steps::Steps;
-use vt_told::of_shard;
 
 /// The least of all marks: for each block below it all sections have their entries, and the filter
 /// its bits. Without a filter's device it is 0.
@@ -53,7 +52,7 @@ pub fn read_back<D: Disk, S: Scorer>(
     part: u32,
 ) -> Result<(), MountBad>
     requires many { part + length shards.old < 2 ^ 32 }
-    requires mounted { IsMounted log.old }
+    requires mounted { IsMountedLog log.old }
     requires unused { (i : ℕ) (s : ShardState D) → slice_get shards.old i ≡ Some s → IsUnused s }
 
     ensures { ReadsLogBack S.score_of D.Disk least part result
@@ -62,7 +61,7 @@ pub fn read_back<D: Disk, S: Scorer>(
     read_back_on::<D, S, Brand>(log, shards, bits, least, part, Blank::new(1))
 }
 
-/// The same on a new ledger, in which steps are counted in contracts alone (`vt_steps`).
+/// The same on a new ledger, in which steps are counted in contracts alone (`vt_base`).
 fn read_back_on<D: Disk, S: Scorer, L: Ledger>(
     log: &mut Log<D, S>,
     shards: &mut [Shard<D>],
@@ -72,7 +71,7 @@ fn read_back_on<D: Disk, S: Scorer, L: Ledger>(
     blank: Blank,
 ) -> Result<(), MountBad>
     requires many { part + length shards.old < 2 ^ 32 }
-    requires mounted { IsMounted log.old }
+    requires mounted { IsMountedLog log.old }
     requires unused { (i : ℕ) (s : ShardState D) → slice_get shards.old i ≡ Some s → IsUnused s }
     requires name { blank.name ≡ L.name }
     requires parts { blank.parts ≡ L.parts }
@@ -129,9 +128,10 @@ fn recall<D: Disk, L: Ledger>(
 ) -> Result<(), MountBad>
     requires many { part + length shards.old < 2 ^ 32 }
     requires number { info.number < 2 ^ 64 - 1 }
-    requires quiet { (i : ℕ) (s : ShardState D) → slice_get shards.old i ≡ Some s → IsQuiet s }
+    requires quiet { (i : ℕ) (s : ShardState D) → slice_get shards.old i ≡ Some s
+        → IsAtRestUnstopped s }
     ensures takes { TakesAllBack D.Disk part info result shards.old shards.new }
-    ensures marks { Marks bits.old info.key.score.0 bits.new }
+    ensures marks { MarksScore bits.old info.key.score.0 bits.new }
 {
     no_block_lacks::<D>();
     bits.mark_bits(&info.key.score);
@@ -149,7 +149,7 @@ fn take_back<D: Disk, L: Ledger>(
     steps: &mut Steps<L>,
 ) -> Result<(), MountBad>
     requires number { info.number < 2 ^ 64 - 1 }
-    requires quiet { IsQuiet shard.old }
+    requires quiet { IsAtRestUnstopped shard.old }
     ensures { TakesBack D.Disk part info result shard.old shard.new }
 {
     others_lack_nothing::<D>();
@@ -193,8 +193,8 @@ fn has_entry<D: Disk, L: Ledger>(
 
 /// Writes all dirty entries back.
 fn write_back<D: Disk>(shard: &mut Shard<D>) -> Result<(), MountBad>
-    requires { IsQuiet shard.old }
-    ensures { WritesBack D.Disk result shard.old shard.new }
+    requires { IsAtRestUnstopped shard.old }
+    ensures { WritesAllBack D.Disk result shard.old shard.new }
 {
     if !shard.begin_bare() {
         return Ok(());
@@ -212,7 +212,7 @@ fn write_back<D: Disk>(shard: &mut Shard<D>) -> Result<(), MountBad>
 fn put_back<D: Disk>(shard: &mut Shard<D>, info: Info, part: u32) -> Result<(), MountBad>
     requires range { HasScore shard.old info.key.score.0 }
     requires number { info.number < 2 ^ 64 - 1 }
-    requires quiet { IsQuiet shard.old }
+    requires quiet { IsAtRestUnstopped shard.old }
     requires room { length shard.old.index.dirty < ROOM }
     requires absent { dirty_info info.key shard.old.index ≡ None }
     ensures { PutsBack D.Disk part info result shard.old shard.new }

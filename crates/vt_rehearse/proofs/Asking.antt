@@ -25,16 +25,16 @@ use Rattle.vt_model.specs.Answer.{Outcome, adds}
 use Rattle.vt_model.specs.History.{Accepted, Block as BlockOf, History}
 use Rattle.vt_model.specs.Places.{Setup, next_arena}
 use Rattle.vt_isect.specs.Agreement.{IsEntryOf}
-use Rattle.vt_arena.specs.Arena.{ArenaState, added_by, calls_made, commit_calls}
+use Rattle.vt_arena.specs.Arena.{ArenaState, added_by_commit, calls_made, commit_calls}
 use Rattle.vt_clump.specs.Clumps.{stored_of}
-use Rattle.vt_log.specs.declared.bad.LogErr.{LogErr}
-use Rattle.vt_log.specs.declared.bad.LogErr.TheVariants as log_err
-use Rattle.vt_log.specs.declared.bad.Progress.{Progress}
-use Rattle.vt_log.specs.declared.bad.Progress.TheVariants.{Idle, Step as LogStep, Durable}
+use Rattle.vt_log.specs.declared.error.LogErr.{LogErr}
+use Rattle.vt_log.specs.declared.error.LogErr.TheVariants as log_err
+use Rattle.vt_log.specs.declared.error.Progress.{Progress}
+use Rattle.vt_log.specs.declared.error.Progress.TheVariants.{Idle, Step as LogStep, Durable}
 use Rattle.vt_log.specs.declared.queue.Waiting.{Waiting}
-use Rattle.vt_log.specs.Answers.{Advances}
+use Rattle.vt_log.specs.Answers.{LogAdvances}
 use Rattle.vt_log.specs.Log.{LogState, queue_of, queued}
-use Rattle.vt_log.specs.Logs.{accepted as accepted_in}
+use Rattle.vt_log.specs.Logs.{accepted_in}
 use Rattle.vt_log.specs.Owed.{calls_left, owed, seal_calls}
 use Rattle.vt_log.specs.Queue.{waiting_block}
 use Rattle.vt_shard.specs.Shard.{ShardState}
@@ -45,9 +45,9 @@ use Rattle.vt_core.specs.declared.event.Out.{Out}
 use Rattle.vt_core.specs.declared.event.Out.TheVariants.{Said as SaidOut, Waits, NotYet, Moved, Nothing, Failed}
 use Rattle.vt_lookup.specs.declared.writing.Verdict.{Verdict}
 use Rattle.vt_lookup.specs.declared.writing.Verdict.TheVariants.{Held, New}
-use Rattle.vt_core.specs.Asking.{AnswersSync, EndsSync, EndsWrite, HasNoRoom, Serves, Writes, says, shard_of, stop_for}
-use Rattle.vt_lookup.specs.Finding.{Parts}
-use Rattle.vt_drive.proofs.TestKeeps.{KeepsRoom, test_keeps}
+use Rattle.vt_core.specs.Asking.{AnswersSync, EndsSync, EndsWrite, HasNoRoom, AnswersOperation, AnswersWriteOperation, says, shard_of, stop_for}
+use Rattle.vt_lookup.specs.Finding.{StoreParts}
+use Rattle.vt_requests.proofs.TestKeeps.{KeepsRoom, test_keeps}
 use Rattle.vt_base.specs.declared.key.Key.{Key}
 use Rattle.std.specs.Str.{bytes_eq}
 use Rattle.vt_core.specs.Core.{CoreState, history_len, machine_of, setup_of}
@@ -57,9 +57,9 @@ use Rattle.vt_core.specs.Machine.{Machine}
 use Rattle.vt_core.specs.Steps.{Steps}
 use Rattle.vt_core.specs.Work.{out_of_progress}
 use Rattle.vt_recover.proofs.Places.{get_set}
-use Rattle.vt_rehearse.specs.Rehearsal.{AsksFor, IsWritten, asked_by, listed_after}
+use Rattle.vt_rehearse.specs.Rehearsal.{AsksForOperation, IsWritten, asked_by, listed_after}
 use Rattle.vt_rehearse.specs.Stage.{HasWords, IsFilled, IsMemory, IsSteady, none_waits}
-use Rattle.vt_rehearse.specs.Words.{AreApart, block_of, word_of}
+use Rattle.vt_rehearse.specs.Words.{AreApart, block_of_word, word_of}
 use Rattle.vt_rehearse.proofs.Judging.{found_answer, given_block, given_reply, held_answer, missing_answer, new_answer, says_absent, says_block, says_score, word_short, word_some}
 use Rattle.vt_rehearse.proofs.Listed.{few_words, first_has, first_is, rest_has}
 use Rattle.vt_rehearse.proofs.Room.{filled_more, has_room}
@@ -78,16 +78,16 @@ has_or_lacks (v ∷ vs) w = ⊎_elim
     (cases_eq v w)
 
 push_words : (h : History) (listed : List ℕ) (w arena : ℕ) → w < 64 → HasWords h listed → ¬ Contains listed w
-    → HasWords (h ++ record { block = block_of w; arena = arena } ∷ []) (listed ++ w ∷ [])
+    → HasWords (h ++ record { block = block_of_word w; arena = arena } ∷ []) (listed ++ w ∷ [])
 push_words h listed w arena below has lacks = record {
-  blocks = map-append (λ (e : Accepted). e.block) h _ ∙ ap (λ (bs : List BlockOf). bs ++ block_of w ∷ []) has.blocks ∙ sym (map-append block_of listed (w ∷ []));
+  blocks = map-append (λ (e : Accepted). e.block) h _ ∙ ap (λ (bs : List BlockOf). bs ++ block_of_word w ∷ []) has.blocks ∙ sym (map-append block_of_word listed (w ∷ []));
   words = All-push (λ v. v < 64) listed w has.words below;
   once = all_pairs_push (λ v x. v ≢ x) listed w has.once (λ k d lt same. lacks (subst (λ (x : ℕ). Contains listed x) same (Contains-get_or listed k d lt)));
 }
 
 pub take_words : (h : History) (listed : List ℕ) (n : ℕ) → n ≤ length h → HasWords h listed → HasWords (take n h) (take n listed)
 take_words h listed n within has = record {
-  blocks = sym (take-map (λ (e : Accepted). e.block) n h) ∙ ap (λ (bs : List BlockOf). take n bs) has.blocks ∙ take-map block_of n listed;
+  blocks = sym (take-map (λ (e : Accepted). e.block) n h) ∙ ap (λ (bs : List BlockOf). take n bs) has.blocks ∙ take-map block_of_word n listed;
   words = All-take (λ v. v < 64) n listed has.words;
   once = λ i j d less lt same.
       let len = length-take n listed in
@@ -181,11 +181,11 @@ module _ (score : List ℕ → List ℕ) (c : Setup) (h : History) where
 
 module _ {D : Type 0} (score : List ℕ → List ℕ) (disk : DiskOf D) (memory : IsMemory disk) where
   -- the machine's step of a request for an operation
-  asked : (session : ℕ) (request : Asked) (m : Operation) (out : Out) (old new : Machine) → AsksFor m request
+  asked : (session : ℕ) (request : Asked) (m : Operation) (out : Out) (old new : Machine) → AsksForOperation m request
       → IsAsked score session (operation_of request) out old new → IsAsked score session m out old new
   asked session request m out old new is_for it = subst (λ (x : Operation). IsAsked score session x out old new) is_for it
 
-  pub may_give : (session : ℕ) (request : Asked) (m : Operation) (out : Out) (h : History) (old new : CoreState D) → m ≢ sync → AsksFor m request → IsSteady score disk old h
+  pub may_give : (session : ℕ) (request : Asked) (m : Operation) (out : Out) (h : History) (old new : CoreState D) → m ≢ sync → AsksForOperation m request → IsSteady score disk old h
       → old.waiting ≡ none_waits → Steps score disk (asked_by session request) out old new → MayGive out
   may_give session request m out h old new other is_for steady free step =
       let it = stepped score disk memory (asked_by session request) out h old new steady step in
@@ -234,7 +234,7 @@ module _ {D : Type 0} (score : List ℕ → List ℕ) (disk : DiskOf D) (memory 
           → GivesAnswer score (write 13 (word_of w)) a.said (machine_of old h) (machine_of new it.next) → Wrote
       wrote_new lacks None is gives = absurd (has_room (setup_of old) h listed filled has w is)
       wrote_new lacks (Some arena) is gives =
-          let e : Accepted = record { block = block_of w; arena = arena } in
+          let e : Accepted = record { block = block_of_word w; arena = arena } in
           let known = new_answer score apart w below (setup_of old) h listed has lacks ∙ ap (λ (o : Option ℕ). adds (score (word_of w)) 13 (word_of w) o) is in
           let g = given_block score (write 13 (word_of w)) a.said (machine_of old h) (machine_of new it.next) (r_write (score (word_of w))) e known gives in
           let next_is : it.next ≡ h ++ e ∷ [] = ap (λ (m : Machine). m.history) g.1 in
@@ -252,7 +252,7 @@ module _ {D : Type 0} (score : List ℕ → List ℕ) (disk : DiskOf D) (memory 
                 (subst (λ (c : Setup). IsFilled c (h ++ e ∷ [])) (sym setup) (filled_more (setup_of old) h filled e is (word_short w)));
           }
 
-      pub write_answered : AsksFor (write 13 (word_of w)) request → (a.said ≡ Refused NoMemory) ⊎ Wrote
+      pub write_answered : AsksForOperation (write 13 (word_of w)) request → (a.said ≡ Refused NoMemory) ⊎ Wrote
       write_answered is_for =
           let makes = asked session request (write 13 (word_of w)) (SaidOut a) (machine_of old h) (machine_of new it.next) is_for it.makes in
           ⊎_elim
@@ -271,7 +271,7 @@ module _ {D : Type 0} (score : List ℕ → List ℕ) (disk : DiskOf D) (memory 
       pub as_listed : (Contains listed w × (is_found ≡ true) × (a.said ≡ Block (word_of w))) ⊎ (¬ Contains listed w × (is_found ≡ false) × (a.said ≡ Refused Absent))
       pub stays : Stays score disk memory h old new
 
-    pub read_answered : AsksFor (read (score (word_of w)) 13 MAX_BLOCK) request → (a.said ≡ Refused NoMemory) ⊎ Found
+    pub read_answered : AsksForOperation (read (score (word_of w)) 13 MAX_BLOCK) request → (a.said ≡ Refused NoMemory) ⊎ Found
     read_answered is_for =
         let m = read (score (word_of w)) 13 MAX_BLOCK in
         let makes = asked session request m (SaidOut a) (machine_of old h) (machine_of new it.next) is_for it.makes in
@@ -295,7 +295,7 @@ module _ {D : Type 0} (score : List ℕ → List ℕ) (disk : DiskOf D) (memory 
         (λ fails. inl (only_memory score disk memory session request m a h old new (machine_of new it.next) is_for steady (λ call is. absurd (cc)) makes.1 step fails))
         makes.2
 
-    pub read_stays : AsksFor (read (score (word_of w)) 13 MAX_BLOCK) request → Stays score disk memory h old new
+    pub read_stays : AsksForOperation (read (score (word_of w)) 13 MAX_BLOCK) request → Stays score disk memory h old new
     read_stays is_for =
         let m = read (score (word_of w)) 13 MAX_BLOCK in
         let makes = asked session request m (SaidOut a) (machine_of old h) (machine_of new it.next) is_for it.makes in
@@ -309,7 +309,7 @@ module _ {D : Type 0} (score : List ℕ → List ℕ) (disk : DiskOf D) (memory 
 
   -- a read is answered at once
   pub read_at_once : (apart : AreApart score) (w : ℕ) (below : w < 64) (session : ℕ) (request : Asked) (h : History) (listed : List ℕ) (has : HasWords h listed) (old new : CoreState D) → IsSteady score disk old h
-      → AsksFor (read (score (word_of w)) 13 MAX_BLOCK) request → Steps score disk (asked_by session request) NotYet old new → ⊥
+      → AsksForOperation (read (score (word_of w)) 13 MAX_BLOCK) request → Steps score disk (asked_by session request) NotYet old new → ⊥
   read_at_once apart w below session request h listed has old new steady is_for step =
       let m = read (score (word_of w)) 13 MAX_BLOCK in
       let it = stepped score disk memory (asked_by session request) NotYet h old new steady step in
@@ -322,7 +322,7 @@ module _ {D : Type 0} (score : List ℕ → List ℕ) (disk : DiskOf D) (memory 
   -- and so is a write: the queue and the shard have room for all words
   module _ (apart : AreApart score) (w : ℕ) (below : w < 64) (session : ℕ) (within : session < 3) (request : Asked) (h : History) (listed : List ℕ) (has : HasWords h listed)
       (old new : CoreState D) (steady : IsSteady score disk old h) (free : old.waiting ≡ none_waits)
-      (differ : (i : ℕ) (s : ShardState D) → slice_get old.shards i ≡ Some s → AllPairs (λ a b. a.key ≢ b.key) s.index.dirty) (is_for : AsksFor (write 13 (word_of w)) request)
+      (differ : (i : ℕ) (s : ShardState D) → slice_get old.shards i ≡ Some s → AllPairs (λ a b. a.key ≢ b.key) s.index.dirty) (is_for : AsksForOperation (write 13 (word_of w)) request)
       (step : Steps score disk (asked_by session request) NotYet old new) where
     lacks : ¬ Contains listed w
     lacks has_it =
@@ -332,12 +332,12 @@ module _ {D : Type 0} (score : List ℕ → List ℕ) (disk : DiskOf D) (memory 
 
     few : length h < 64
     few =
-        let e : Accepted = record { block = block_of w; arena = 0 } in
+        let e : Accepted = record { block = block_of_word w; arena = 0 } in
         let most = few_words (h ++ e ∷ []) (listed ++ w ∷ []) (push_words h listed w 0 below has lacks) in
         let long = length-append h (e ∷ []) in
         omega (arith, most, long)
 
-    no_room : (before tested : Parts D) → before.log ≡ old.log → slice_get old.shards (shard_of old (score (word_of w))) ≡ Some before.shard → KeepsRoom before tested → HasNoRoom tested → ⊥
+    no_room : (before tested : StoreParts D) → before.log ≡ old.log → slice_get old.shards (shard_of old (score (word_of w))) ≡ Some before.shard → KeepsRoom before tested → HasNoRoom tested → ⊥
     no_room before tested log shard kept full =
         let front = len_is score disk old h steady in
         let less = few in
@@ -354,8 +354,8 @@ module _ {D : Type 0} (score : List ℕ → List ℕ) (disk : DiskOf D) (memory 
 
     pub write_at_once : ⊥
     write_at_once =
-        let serves : Serves score disk session (write 13 (word_of w)) 0 NotYet old new =
-        subst (λ (m : Operation). Serves score disk session m 0 NotYet old new) is_for
+        let serves : AnswersOperation score disk session (write 13 (word_of w)) 0 NotYet old new =
+        subst (λ (m : Operation). AnswersOperation score disk session m 0 NotYet old new) is_for
         (step.does.serves (ap (λ (ws : List (Option ℕ)). slice_get ws session) free ∙ at_none 3 session within)) in
         let short = word_short w in
         let reaches : ReachesParts score (write 13 (word_of w)) = record { kind = refl; some = word_some w; most = omega (arith, short) } in
@@ -367,7 +367,7 @@ module _ {D : Type 0} (score : List ℕ → List ℕ) (disk : DiskOf D) (memory 
         key : Key
         key = record { score = record { 0 = score (word_of w) }; kind = 13 }
 
-        ends : (before tested : Parts D) (v : Result Verdict Why) → before.log ≡ old.log → slice_get old.shards (shard_of old (score (word_of w))) ≡ Some before.shard → KeepsRoom before tested
+        ends : (before tested : StoreParts D) (v : Result Verdict Why) → before.log ≡ old.log → slice_get old.shards (shard_of old (score (word_of w))) ≡ Some before.shard → KeepsRoom before tested
             → EndsWrite score key (word_of w) 0 v tested NotYet old new → ⊥
         ends before tested (Err why) log shard kept it = said_no (Refused why) it.0
         ends before tested (Ok Held) log shard kept it = said_no (Score key.score) it.0
@@ -376,11 +376,11 @@ module _ {D : Type 0} (score : List ℕ → List ℕ) (disk : DiskOf D) (memory 
             (λ rest. ⊎_elim (λ short. said_no (Refused NoMemory) short.1) (λ adds. said_no (Score key.score) adds.out_is) rest)
             it
 
-        tests : (zero : Bool) → MatchBool zero ((NotYet ≡ says (Refused Collision) old) × (new ≡ old)) (Writes score disk key (word_of w) 0 NotYet old new) → ⊥
+        tests : (zero : Bool) → MatchBool zero ((NotYet ≡ says (Refused Collision) old) × (new ≡ old)) (AnswersWriteOperation score disk key (word_of w) 0 NotYet old new) → ⊥
         tests true it = said_no (Refused Collision) it.0
         tests false it = ends it.before it.tested it.verdict it.looks.log it.looks.shard (test_keeps score disk it.may_have key (word_of w) it.verdict it.before it.tested it.tests) it.ends
 
-        goes : (o : Option ℕ) → stop_for score old (write 13 (word_of w)) ≡ o → Serves score disk session (write 13 (word_of w)) 0 NotYet old new → ReachesParts score (write 13 (word_of w)) → ⊥
+        goes : (o : Option ℕ) → stop_for score old (write 13 (word_of w)) ≡ o → AnswersOperation score disk session (write 13 (word_of w)) 0 NotYet old new → ReachesParts score (write 13 (word_of w)) → ⊥
         goes None is serves reaches = tests (bytes_eq (score (word_of w)) (score [])) (serves.performs reaches is)
         goes (Some call) is serves reaches = said_no (Refused (Stopped call)) (serves.stopped reaches call is).0
 
@@ -390,7 +390,7 @@ module _ {D : Type 0} (score : List ℕ → List ℕ) (disk : DiskOf D) (memory 
       → ((out ≡ Moved) × (owed new.log < owed old.log)) ⊎ ((out ≡ Nothing) × (queued old.log ≡ 0))
   log_gives out h old new steady step = by step.does.answer step.does.out_is step.does.step.advances
     where
-      by : (answer : Result Progress LogErr) → out ≡ out_of_progress answer → Advances answer old.log new.log → ((out ≡ Moved) × (owed new.log < owed old.log)) ⊎ ((out ≡ Nothing) × (queued old.log ≡ 0))
+      by : (answer : Result Progress LogErr) → out ≡ out_of_progress answer → LogAdvances answer old.log new.log → ((out ≡ Moved) × (owed new.log < owed old.log)) ⊎ ((out ≡ Nothing) × (queued old.log ≡ 0))
       by (Ok Idle) is it = inr (is, it.0)
       by (Ok LogStep) is it = inl (is, it.2)
       by (Ok (Durable n)) is it = inl (is, it.3)
@@ -415,7 +415,7 @@ module _ {D : Type 0} (score : List ℕ → List ℕ) (disk : DiskOf D) (memory 
     pub steady : IsSteady score disk new h
     pub waiting : new.waiting ≡ slice_set none_waits session (Some (length h))
 
-  sync_fails : (session : ℕ) (request : Asked) (a : Answer) (h : History) (old new : CoreState D) (after : Machine) → AsksFor sync request → IsSteady score disk old h → a.at ≡ length h
+  sync_fails : (session : ℕ) (request : Asked) (a : Answer) (h : History) (old new : CoreState D) (after : Machine) → AsksForOperation sync request → IsSteady score disk old h → a.at ≡ length h
       → Steps score disk (asked_by session request) (SaidOut a) old new → FailsIn score sync a.said (machine_of old h) after → ⊥
   sync_fails session request a h old new after is_for steady at step fails =
       by fails.0 (sym fails.1 ∙ only_memory score disk memory session request sync a h old new after is_for steady
@@ -427,7 +427,7 @@ module _ {D : Type 0} (score : List ℕ → List ℕ) (disk : DiskOf D) (memory 
       by (damaged site want found) is may = absurd (cc)
       by no_memory is may = may.1
 
-  pub sync_waits : (session : ℕ) (request : Asked) (out : Out) (h : History) (old new : CoreState D) → AsksFor sync request → IsSteady score disk old h → old.waiting ≡ none_waits
+  pub sync_waits : (session : ℕ) (request : Asked) (out : Out) (h : History) (old new : CoreState D) → AsksForOperation sync request → IsSteady score disk old h → old.waiting ≡ none_waits
       → Steps score disk (asked_by session request) out old new → WaitsFor session h out new
   sync_waits session request out h old new is_for steady free step =
       let it = stepped score disk memory (asked_by session request) out h old new steady step in
@@ -521,12 +521,12 @@ seal_most arena (w ∷ rest) = cond_most (w.arena == arena) 0 4 4 (omega arith) 
 
 pub owed_most : {D : Type 0} (score : List ℕ → List ℕ) (disk : DiskOf D) (k : CoreState D) (h : History) → IsSteady score disk k h → length h ≤ 64 → owed k.log ≤ 1024
 owed_most score disk k h steady few =
-    let staged : length (map (accepted_in k.log.committing) (added_by k.log.arena)) ≡ length k.log.arena.staged =
-    length-map (added_by k.log.arena) (accepted_in k.log.committing) ∙ length-map k.log.arena.staged stored_of in
+    let staged : length (map (accepted_in k.log.committing) (added_by_commit k.log.arena)) ≡ length k.log.arena.staged =
+    length-map (added_by_commit k.log.arena) (accepted_in k.log.committing) ∙ length-map k.log.arena.staged stored_of in
     let waiting : length (map waiting_block k.log.queue.waiting) ≡ length k.log.queue.waiting = length-map k.log.queue.waiting waiting_block in
     let all : length (drop k.log.durable h) ≡ length (queue_of k.log) = ap length steady.sound.log.queued in
-    let parts : length (queue_of k.log) ≡ length (map (accepted_in k.log.committing) (added_by k.log.arena)) + length (map waiting_block k.log.queue.waiting) =
-    length-append (map (accepted_in k.log.committing) (added_by k.log.arena)) (map waiting_block k.log.queue.waiting) in
+    let parts : length (queue_of k.log) ≡ length (map (accepted_in k.log.committing) (added_by_commit k.log.arena)) + length (map waiting_block k.log.queue.waiting) =
+    length-append (map (accepted_in k.log.committing) (added_by_commit k.log.arena)) (map waiting_block k.log.queue.waiting) in
     let rest = length-drop k.log.durable h in
     let left = left_most k.log.arena in
     let seal = cond_most k.log.arena.next.sealed 0 (seal_calls k.log.committing k.log.queue.waiting) 4 (omega arith) (seal_most k.log.committing k.log.queue.waiting) in

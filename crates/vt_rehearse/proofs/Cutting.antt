@@ -12,8 +12,8 @@ use Rattle.vt_memdisk.specs.declared.crash.CrashMode.{CrashMode}
 use Rattle.vt_rehearse.specs.declared.summary.Summary.{Summary}
 use Rattle.vt_rehearse.specs.Counts.{with_compared, with_crash}
 use Rattle.vt_rehearse.specs.Crashed.{KeepsSealed, Restarts}
-use Rattle.vt_rehearse.specs.Limits.{AreAtMost, Grows}
-use Rattle.vt_rehearse.specs.Rehearsal.{CrashesIn, Judges}
+use Rattle.vt_rehearse.specs.Limits.{AreAtMost, GrowsByRound}
+use Rattle.vt_rehearse.specs.Rehearsal.{CrashesIn, NotesWhether}
 use Rattle.vt_rehearse.specs.Stage.{AreAlike, HasWords, IsFilled, IsSteady, StageState, none_waits}
 use Rattle.vt_rehearse.proofs.Asking.{take_words}
 use Rattle.vt_rehearse.proofs.Limits.{more, more_compared, more_crash}
@@ -63,7 +63,7 @@ module _ {D : Type 0} (score : List ℕ → List ℕ) (disk : DiskOf D) where
   -- what is counted and listed of a crash
   module _ (Leaves : CrashMode → D → List ℕ → Type 0) (mode : CrashMode) (old : StageState D) (core : CoreState D) (alike : AreAlike score disk old) (cut : Cut old core)
       (synced left : ℕ) (synced_is : synced ≡ old.core.synced) (judged : StageState D)
-      (judges : Judges ((synced ≤ history_len core) × (history_len core ≤ length old.listed)) (record old { core = core }) judged) (left_is : left ≡ history_len judged.core) where
+      (judges : NotesWhether ((synced ≤ history_len core) × (history_len core ≤ length old.listed)) (record old { core = core }) judged) (left_is : left ≡ history_len judged.core) where
     judged_is : judged ≡ record old { core = core; summary = with_compared true old.summary }
     judged_is =
         let kept = cut.keeps in
@@ -101,7 +101,7 @@ module _ {D : Type 0} (score : List ℕ → List ℕ) (disk : DiskOf D) where
       pub alike_cut : AreAlike score disk new
       alike_cut = cut.alike new core_is (ap (λ (s : StageState D). s.listed) whole)
 
-      pub grows_cut : Grows old.summary new.summary
+      pub grows_cut : GrowsByRound old.summary new.summary
       grows_cut most it =
           let few = few_listed score disk old alike in
           let lost = length old.listed - history_len core in

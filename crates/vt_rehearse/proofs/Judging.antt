@@ -11,12 +11,12 @@ use Rattle.vt_base.specs.declared.answer.Said.{Said}
 use Rattle.vt_base.specs.declared.answer.Said.TheVariants.{Score, Block, Synced, Refused}
 use Rattle.vt_base.specs.declared.why.Why.{Why}
 use Rattle.vt_base.specs.declared.why.Why.TheVariants.{BadType, TooBig, TooSmall, Absent, Collision, IndexFull, ArenasFull, DiskFault, Stopped, Damaged, NoMemory}
-use Rattle.vt_base.specs.Protocol.{Operation, read, write, RMessage, r_read, r_write, r_refused, text_of}
+use Rattle.vt_base.specs.Protocol.{Operation, read, write, RMessage, r_read, r_write, r_refused, why_words}
 use Rattle.vt_model.specs.Answer.{Outcome, adds, answer, collides, lends, refuses, replies}
 use Rattle.vt_model.specs.History.{Accepted, History, held}
 use Rattle.vt_model.specs.Places.{Setup, bucket_count, bucket_of, crowd, next_arena}
 use Rattle.vt_model.specs.declared.TheConstants.{BUCKET_ROOM}
-use Rattle.vt_base.specs.Operations.{reply_of}
+use Rattle.vt_base.specs.Operations.{reply_saying}
 use Rattle.vt_core.specs.Events.{GivesAnswer}
 use Rattle.vt_core.specs.Machine.{Machine}
 use Rattle.vt_rehearse.specs.Stage.{HasWords}
@@ -87,19 +87,19 @@ module _ (score : List ℕ → List ℕ) (apart : AreApart score) (w : ℕ) (bel
 
 -- ---- what an answer says
 
-pub says_score : (said : Said) (s : List ℕ) → reply_of said ≡ r_write s → said ≡ Score (record { 0 = s })
+pub says_score : (said : Said) (s : List ℕ) → reply_saying said ≡ r_write s → said ≡ Score (record { 0 = s })
 says_score (Score given) s is = let same : given.0 ≡ s = cc in ap (λ (b : List ℕ). Score (record { 0 = b })) same
 says_score (Block b) s is = absurd (cc)
 says_score Synced s is = absurd (cc)
 says_score (Refused why) s is = absurd (cc)
 
-pub says_block : (said : Said) (bytes : List ℕ) → reply_of said ≡ r_read bytes → said ≡ Block bytes
+pub says_block : (said : Said) (bytes : List ℕ) → reply_saying said ≡ r_read bytes → said ≡ Block bytes
 says_block (Score given) bytes is = absurd (cc)
 says_block (Block b) bytes is = let same : b ≡ bytes = cc in ap (λ (x : List ℕ). Block x) same
 says_block Synced bytes is = absurd (cc)
 says_block (Refused why) bytes is = absurd (cc)
 
-why_absent : (why : Why) → text_of why ≡ text_of Absent → why ≡ Absent
+why_absent : (why : Why) → why_words why ≡ why_words Absent → why ≡ Absent
 why_absent Absent is = refl
 why_absent BadType is = let no : 8 ≡ 13 = ap length is in absurd (omega (arith, no))
 why_absent TooBig is = let no : 98 ≡ 110 = ap (λ (text : List ℕ). get_or text 0 0) is in absurd (omega (arith, no))
@@ -112,20 +112,20 @@ why_absent (Stopped call) is = let no : 115 ≡ 110 = ap (λ (text : List ℕ). 
 why_absent (Damaged site want found) is = let no : 98 ≡ 110 = ap (λ (text : List ℕ). get_or text 0 0) is in absurd (omega (arith, no))
 why_absent NoMemory is = let no : 9 ≡ 13 = ap length is in absurd (omega (arith, no))
 
-refused_so : (said : Said) (wanted : Why) → ((why : Why) → text_of why ≡ text_of wanted → why ≡ wanted) → reply_of said ≡ r_refused wanted → said ≡ Refused wanted
+refused_so : (said : Said) (wanted : Why) → ((why : Why) → why_words why ≡ why_words wanted → why ≡ wanted) → reply_saying said ≡ r_refused wanted → said ≡ Refused wanted
 refused_so (Score given) wanted only is = absurd (cc)
 refused_so (Block b) wanted only is = absurd (cc)
 refused_so Synced wanted only is = absurd (cc)
-refused_so (Refused why) wanted only is = let same : text_of why ≡ text_of wanted = cc in ap (λ (x : Why). Refused x) (only why same)
+refused_so (Refused why) wanted only is = let same : why_words why ≡ why_words wanted = cc in ap (λ (x : Why). Refused x) (only why same)
 
-pub says_absent : (said : Said) → reply_of said ≡ r_refused Absent → said ≡ Refused Absent
+pub says_absent : (said : Said) → reply_saying said ≡ r_refused Absent → said ≡ Refused Absent
 says_absent said is = refused_so said Absent why_absent is
 
 -- ---- what is given
 
 -- an answer that adds nothing
 pub given_reply : (score : List ℕ → List ℕ) (m : Operation) (said : Said) (old new : Machine) (reply : RMessage) → answer score old.setup old.history m ≡ replies reply
-    → GivesAnswer score m said old new → (reply_of said ≡ reply) × (new ≡ old)
+    → GivesAnswer score m said old new → (reply_saying said ≡ reply) × (new ≡ old)
 given_reply score m said old new reply is gives = ⊎_elim
     (λ accepts. let no : Some accepts.block ≡ None = ap (λ (o : Outcome). o.added) (sym accepts.answer_is ∙ is) in absurd (cc))
     (λ answers. (ap (λ (o : Outcome). o.reply) (sym answers.answer_is ∙ is), answers.same))
@@ -133,7 +133,7 @@ given_reply score m said old new reply is gives = ⊎_elim
 
 -- one that adds a block
 pub given_block : (score : List ℕ → List ℕ) (m : Operation) (said : Said) (old new : Machine) (reply : RMessage) (e : Accepted) → answer score old.setup old.history m ≡ record { reply = reply; added = Some e }
-    → GivesAnswer score m said old new → (reply_of said ≡ reply) × (new ≡ record old { history = old.history ++ e ∷ [] })
+    → GivesAnswer score m said old new → (reply_saying said ≡ reply) × (new ≡ record old { history = old.history ++ e ∷ [] })
 given_block score m said old new reply e is gives = ⊎_elim
     (λ accepts.
     let added : Some accepts.block ≡ Some e = ap (λ (o : Outcome). o.added) (sym accepts.answer_is ∙ is) in

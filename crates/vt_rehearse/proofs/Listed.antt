@@ -15,7 +15,7 @@ use Rattle.std.specs.Str.{bytes_eq}
 use Rattle.vt_model.specs.Answer.{collides}
 use Rattle.vt_model.specs.History.{Accepted, Block, History, has_key, held}
 use Rattle.vt_rehearse.specs.Stage.{HasWords}
-use Rattle.vt_rehearse.specs.Words.{AreApart, block_of, word_of}
+use Rattle.vt_rehearse.specs.Words.{AreApart, block_of_word, word_of}
 
 -- ---- the first word of a list
 
@@ -37,7 +37,7 @@ few_listed listed words once =
     (λ q is. All-contains (λ w. w < 64) listed q words (Contains-from_any {eq = eqb} eqb-true q listed is))
 
 pub same_many : (h : History) (listed : List ℕ) → HasWords h listed → length h ≡ length listed
-same_many h listed has = sym (length-map h (λ (e : Accepted). e.block)) ∙ ap length has.blocks ∙ length-map listed block_of
+same_many h listed has = sym (length-map h (λ (e : Accepted). e.block)) ∙ ap length has.blocks ∙ length-map listed block_of_word
 
 pub few_words : (h : History) (listed : List ℕ) → HasWords h listed → length h ≤ 64
 few_words h listed has =
@@ -47,10 +47,10 @@ few_words h listed has =
 
 -- ---- one block
 
-block_head : (e : Accepted) (es : History) (v : ℕ) (vs : List ℕ) → map (λ (x : Accepted). x.block) (e ∷ es) ≡ map block_of (v ∷ vs) → e.block ≡ block_of v
+block_head : (e : Accepted) (es : History) (v : ℕ) (vs : List ℕ) → map (λ (x : Accepted). x.block) (e ∷ es) ≡ map block_of_word (v ∷ vs) → e.block ≡ block_of_word v
 block_head e es v vs same = ap (λ (bs : List Block). get_or bs 0 e.block) same
 
-block_tail : (e : Accepted) (es : History) (v : ℕ) (vs : List ℕ) → map (λ (x : Accepted). x.block) (e ∷ es) ≡ map block_of (v ∷ vs) → map (λ (x : Accepted). x.block) es ≡ map block_of vs
+block_tail : (e : Accepted) (es : History) (v : ℕ) (vs : List ℕ) → map (λ (x : Accepted). x.block) (e ∷ es) ≡ map block_of_word (v ∷ vs) → map (λ (x : Accepted). x.block) es ≡ map block_of_word vs
 block_tail e es v vs same = ap (λ (bs : List Block). drop 1 bs) same
 
 words_head : (v : ℕ) (vs : List ℕ) → All (λ w. w < 64) (v ∷ vs) → v < 64
@@ -64,13 +64,13 @@ module _ (score : List ℕ → List ℕ) (apart : AreApart score) (w : ℕ) (bel
   key_of e = has_key score (score (word_of w)) 13 e
 
   -- the block of this word has its key, and that of another one hasn't
-  hit : (e : Accepted) → e.block ≡ block_of w → has_key score (score (word_of w)) 13 e ≡ true
+  hit : (e : Accepted) → e.block ≡ block_of_word w → has_key score (score (word_of w)) 13 e ≡ true
   hit e is =
       let bytes = bytes_eq-Decides (score e.block.bytes) (score (word_of w)) in
       ap (λ (b : Block). bytes_eq (score b.bytes) (score (word_of w)) && b.kind == 13) is
       ∙ ap (λ (b : Bool). b && true) ((bytes_eq-Decides (score (word_of w)) (score (word_of w))).1 refl)
 
-  miss : (e : Accepted) (v : ℕ) → v < 64 → v ≢ w → e.block ≡ block_of v → has_key score (score (word_of w)) 13 e ≡ false
+  miss : (e : Accepted) (v : ℕ) → v < 64 → v ≢ w → e.block ≡ block_of_word v → has_key score (score (word_of w)) 13 e ≡ false
   miss e v small other is =
       ap (λ (b : Block). bytes_eq (score b.bytes) (score (word_of w)) && b.kind == 13) is
       ∙ ap (λ (b : Bool). b && true) (differs (bytes_eq (score (word_of v)) (score (word_of w))) refl)
@@ -79,22 +79,22 @@ module _ (score : List ℕ → List ℕ) (apart : AreApart score) (w : ℕ) (bel
       differs false is = refl
       differs true is = absurd (other (apart.scores v w small below ((bytes_eq-Decides (score (word_of v)) (score (word_of w))).0 is)))
 
-  find_word : (h : History) (listed : List ℕ) → map (λ (x : Accepted). x.block) h ≡ map block_of listed → All (λ v. v < 64) listed → Contains listed w
+  find_word : (h : History) (listed : List ℕ) → map (λ (x : Accepted). x.block) h ≡ map block_of_word listed → All (λ v. v < 64) listed → Contains listed w
       → option_map (λ (e : Accepted). e.block.bytes) (find (has_key score (score (word_of w)) 13) h) ≡ Some (word_of w)
   find_word [] [] same words (k, lt, is) = absurd (omega (arith, lt))
   find_word [] (v ∷ vs) same words has = absurd (cc)
   find_word (e ∷ es) [] same words has = absurd (cc)
   find_word (e ∷ es) (v ∷ vs) same words has = ⊎_elim
-      (λ own. ap (λ (b : Bool). option_map (λ (x : Accepted). x.block.bytes) (cond b (Some e) (find (has_key score (score (word_of w)) 13) es))) (hit e (head ∙ ap block_of own))
-      ∙ ap (λ (b : Block). Some b.bytes) (head ∙ ap block_of own))
+      (λ own. ap (λ (b : Bool). option_map (λ (x : Accepted). x.block.bytes) (cond b (Some e) (find (has_key score (score (word_of w)) 13) es))) (hit e (head ∙ ap block_of_word own))
+      ∙ ap (λ (b : Block). Some b.bytes) (head ∙ ap block_of_word own))
       (λ other. ap (λ (b : Bool). option_map (λ (x : Accepted). x.block.bytes) (cond b (Some e) (find (has_key score (score (word_of w)) 13) es))) (miss e v (words_head v vs words) other head)
       ∙ find_word es vs (block_tail e es v vs same) (words_tail v vs words) (⊎_elim (λ own. absurd (other own)) (λ it. it) (first_is v w vs has)))
       (cases_eq v w)
     where
-      head : e.block ≡ block_of v
+      head : e.block ≡ block_of_word v
       head = block_head e es v vs same
 
-  find_none : (h : History) (listed : List ℕ) → map (λ (x : Accepted). x.block) h ≡ map block_of listed → All (λ v. v < 64) listed → ¬ Contains listed w
+  find_none : (h : History) (listed : List ℕ) → map (λ (x : Accepted). x.block) h ≡ map block_of_word listed → All (λ v. v < 64) listed → ¬ Contains listed w
       → option_map (λ (e : Accepted). e.block.bytes) (find (has_key score (score (word_of w)) 13) h) ≡ None
   find_none [] listed same words lacks = refl
   find_none (e ∷ es) [] same words lacks = absurd (cc)
@@ -121,7 +121,7 @@ module _ (score : List ℕ → List ℕ) (apart : AreApart score) (w : ℕ) (bel
       ∙ find_none h listed has.blocks has.words it
 
   -- no block has its score with other bytes
-  same_bytes : (e : Accepted) (v : ℕ) → v < 64 → e.block ≡ block_of v → (bytes_eq (score e.block.bytes) (score (word_of w)) && not (bytes_eq e.block.bytes (word_of w))) ≡ false
+  same_bytes : (e : Accepted) (v : ℕ) → v < 64 → e.block ≡ block_of_word v → (bytes_eq (score e.block.bytes) (score (word_of w)) && not (bytes_eq e.block.bytes (word_of w))) ≡ false
   same_bytes e v small is = ap (λ (b : Block). bytes_eq (score b.bytes) (score (word_of w)) && not (bytes_eq b.bytes (word_of w))) is
       ∙ by (bytes_eq (score (word_of v)) (score (word_of w))) refl
     where
@@ -129,7 +129,7 @@ module _ (score : List ℕ → List ℕ) (apart : AreApart score) (w : ℕ) (bel
       by false is = refl
       by true is = ap (λ (b : Bool). not b) ((bytes_eq-Decides (word_of v) (word_of w)).1 (ap word_of (apart.scores v w small below ((bytes_eq-Decides (score (word_of v)) (score (word_of w))).0 is))))
 
-  none_differs : (h : History) (listed : List ℕ) → map (λ (x : Accepted). x.block) h ≡ map block_of listed → All (λ v. v < 64) listed
+  none_differs : (h : History) (listed : List ℕ) → map (λ (x : Accepted). x.block) h ≡ map block_of_word listed → All (λ v. v < 64) listed
       → list_any (λ e. bytes_eq (score e.block.bytes) (score (word_of w)) && not (bytes_eq e.block.bytes (word_of w))) h ≡ false
   none_differs [] listed same words = refl
   none_differs (e ∷ es) [] same words = absurd (cc)

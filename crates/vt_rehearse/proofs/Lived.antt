@@ -10,7 +10,7 @@ use Rattle.vt_core.specs.Crashing.{Act, Lives, crashes, happens}
 use Rattle.vt_core.specs.Steps.{Runs, Steps}
 use Rattle.vt_rehearse.specs.declared.rounds.Round.{Round}
 use Rattle.vt_rehearse.specs.declared.rounds.Round.TheVariants.{Write, Read, Sync, Commit, Begin, Advance, Evict, Crash}
-use Rattle.vt_rehearse.specs.Rehearsal.{CommitsAll, LooksUpAll, Makes, MakesAll}
+use Rattle.vt_rehearse.specs.Rehearsal.{CommitsAll, LooksUpAll, MakesRound, MakesAll}
 use Rattle.vt_rehearse.specs.Stage.{StageState}
 
 module _ {D : Type 0} (score : List ℕ → List ℕ) (disk : DiskOf D) where
@@ -39,7 +39,7 @@ module _ {D : Type 0} (score : List ℕ → List ℕ) (disk : DiskOf D) where
   runs (event ∷ events) (out ∷ outs) old new (mid, step, rest) = both old mid new (one event out old mid step) (runs events outs mid new rest)
 
   module _ (Leaves : CrashMode → D → List ℕ → Type 0) where
-    makes : (round : Round) (old new : StageState D) → Makes score disk Leaves round old new → Lived old.core new.core
+    makes : (round : Round) (old new : StageState D) → MakesRound score disk Leaves round old new → Lived old.core new.core
     makes (Write session word) old new it = one _ _ old.core new.core it.writes.tells.steps
     makes (Read session word) old new it = one _ _ old.core new.core it.reads.tells.steps
     makes (Sync session) old new it = both old.core it.waiting new.core (one _ _ old.core it.waiting it.waits)

@@ -9,12 +9,12 @@ use Rattle.vt_base.specs.declared.why.Why.TheVariants.{Absent}
 use Rattle.vt_rehearse.specs.Counts.{with_compared, with_write}
 use Rattle.vt_core.specs.Core.{CoreState, history_len}
 use Rattle.vt_disk.specs.Members.{DiskOf}
-use Rattle.vt_rehearse.specs.Rehearsal.{AsksToWrite, IsRead, IsWritten, Judges, LooksUp, ReadsWord, WritesWord, listed_after}
+use Rattle.vt_rehearse.specs.Rehearsal.{AsksToWrite, IsWordRead, IsWritten, NotesWhether, LooksUpWord, ReadsWord, WritesWord, listed_after}
 use Rattle.vt_rehearse.specs.Stage.{StageState}
 use Rattle.vt_rehearse.specs.Words.{word_of}
 
 -- what is right was compared, and found to be so
-pub found_right : {D : Type 0} (right : Type 0) (old new : StageState D) → Judges right old new → right → new ≡ record old { summary = with_compared true old.summary }
+pub found_right : {D : Type 0} (right : Type 0) (old new : StageState D) → NotesWhether right old new → right → new ≡ record old { summary = with_compared true old.summary }
 found_right {D} right old new (is_right, judged, same) holds = same ∙ ap (λ (b : Bool). record old { summary = with_compared b old.summary }) (judged.1 holds)
 
 -- the store has no block more exactly where it held the word
@@ -26,7 +26,7 @@ held_told own word listed is_held said before after is = ⊎_elim
 
 module _ {D : Type 0} (score : List ℕ → List ℕ) (disk : DiskOf D) (session word : ℕ) (old mid judged : StageState D) (said : Said) (before : ℕ) (before_is : before ≡ history_len old.core)
     (same : mid ≡ record old { core = mid.core })
-    (judges : Judges ((h : Bool) × IsWritten (score (word_of word)) word mid.listed h said before (history_len mid.core)) mid judged) where
+    (judges : NotesWhether ((h : Bool) × IsWritten (score (word_of word)) word mid.listed h said before (history_len mid.core)) mid judged) where
   module _ (is_held : Bool) (it : AsksToWrite score disk session word old.listed is_held old.core mid.core) (told : it.said ≡ said) where
     listed_is : mid.listed ≡ old.listed
     listed_is = ap (λ (s : StageState D). s.listed) same
@@ -63,7 +63,7 @@ module _ {D : Type 0} (score : List ℕ → List ℕ) (disk : DiskOf D) (session
         }
 
 -- a block is told exactly where one is found
-block_told : (word : ℕ) (listed : List ℕ) (is_found : Bool) (said : Said) (b : Bool) → IsRead word listed is_found said → IsTrue b ↔ ((bytes : List ℕ) × (said ≡ Block bytes)) → b ≡ is_found
+block_told : (word : ℕ) (listed : List ℕ) (is_found : Bool) (said : Said) (b : Bool) → IsWordRead word listed is_found said → IsTrue b ↔ ((bytes : List ℕ) × (said ≡ Block bytes)) → b ≡ is_found
 block_told word listed is_found said b is tells = ⊎_elim
     (λ found. tells.1 (_, found.2) ∙ sym found.1)
     (λ none. by b refl none tells)
@@ -75,12 +75,12 @@ block_told word listed is_found said b is tells = ⊎_elim
 
 module _ {D : Type 0} (score : List ℕ → List ℕ) (disk : DiskOf D) (session word : ℕ) (old mid new : StageState D) (said : Said) (is_found b : Bool) where
   pub looked_up : (it : ReadsWord score disk session word old.listed is_found old.core mid.core) → it.said ≡ said → mid ≡ record old { core = mid.core }
-      → Judges ((f : Bool) × IsRead word mid.listed f said) mid new → IsTrue b ↔ ((bytes : List ℕ) × (said ≡ Block bytes)) → LooksUp score disk session word b old new
+      → NotesWhether ((f : Bool) × IsWordRead word mid.listed f said) mid new → IsTrue b ↔ ((bytes : List ℕ) × (said ≡ Block bytes)) → LooksUpWord score disk session word b old new
   looked_up it told same judges tells =
       let listed : mid.listed ≡ old.listed = ap (λ (s : StageState D). s.listed) same in
-      let here : IsRead word old.listed is_found said = subst (λ (x : Said). IsRead word old.listed is_found x) told it.as_listed in
-      let right = subst (λ (l : List ℕ). IsRead word l is_found said) (sym listed) here in
-      let found = found_right ((f : Bool) × IsRead word mid.listed f said) mid new judges (is_found, right) in
+      let here : IsWordRead word old.listed is_found said = subst (λ (x : Said). IsWordRead word old.listed is_found x) told it.as_listed in
+      let right = subst (λ (l : List ℕ). IsWordRead word l is_found said) (sym listed) here in
+      let found = found_right ((f : Bool) × IsWordRead word mid.listed f said) mid new judges (is_found, right) in
       let core : new.core ≡ mid.core = ap (λ (s : StageState D). s.core) found in
       let b_is : b ≡ is_found = block_told word old.listed is_found said b here tells in
       record {

@@ -9,23 +9,23 @@ use Rattle.vt_disk.specs.Disk.{Only}
 use Rattle.vt_disk.specs.Members.{DiskOf}
 use Rattle.vt_memdisk.specs.declared.crash.CrashMode.{CrashMode}
 use Rattle.vt_isect.specs.Layout.{buckets_in}
-use Rattle.vt_log.specs.Sound.{AreImages as AreImagesOf, AreWithinCall as AreWithinCallOf}
+use Rattle.vt_log.specs.Sound.{AreImagesOf, AreWithinCallOf}
 use Rattle.vt_model.specs.History.{History}
 use Rattle.vt_model.specs.Places.{Setup}
 use Rattle.vt_part.specs.Parts.{disk_of, table_of, tables_of}
-use Rattle.vt_part.specs.Table.{Table, end_of}
+use Rattle.vt_part.specs.Table.{Table, arenas_end}
 use Rattle.vt_part.specs.declared.part.Part.{Part}
 use Rattle.vt_core.specs.Crashing.{AreLeftOf, LeftByCrash}
-use Rattle.vt_core.specs.Files.{AreImages, Files, PerDevice, all_of}
+use Rattle.vt_core.specs.Files.{AreImages, DeviceFiles, PerDevice, all_of}
 use Rattle.vt_core.specs.Mounting.{EachStands, IsSetupOf}
 use Rattle.vt_core.specs.Stands.{StandForPrefix}
-use Rattle.vt_rehearse.specs.Crashed.{IsLeft, IsLeftMounted}
+use Rattle.vt_rehearse.specs.Crashed.{IsImageLeft, IsLeftMounted}
 
 module _ {D : Type 0} (disk : DiskOf D) (Leaves : CrashMode → D → List ℕ → Type 0) (mode : CrashMode) where
   -- ---- one device
 
   -- a read of it changes nothing
-  pub left_read : (before made after : D) → IsLeft disk Leaves mode before made → OnlyReads disk 1 made after → IsLeft disk Leaves mode before after
+  pub left_read : (before made after : D) → IsImageLeft disk Leaves mode before made → OnlyReads disk 1 made after → IsImageLeft disk Leaves mode before after
   left_read before made after left reads = record {
     left = subst (λ (f : List ℕ). Leaves mode before f) (sym reads.bytes) left.left;
     image = subst (λ (f : List ℕ). disk.images before f) (sym reads.bytes) left.image;
@@ -35,31 +35,31 @@ module _ {D : Type 0} (disk : DiskOf D) (Leaves : CrashMode → D → List ℕ �
 
   -- ---- one kind of devices
 
-  pub left_images : (xs ys : List D) → AllZip (IsLeft disk Leaves mode) xs ys → AreImagesOf disk xs (map disk.bytes ys)
+  pub left_images : (xs ys : List D) → AllZip (IsImageLeft disk Leaves mode) xs ys → AreImagesOf disk xs (map disk.bytes ys)
   left_images xs ys zip = record { many = many xs ys zip; each = each xs ys zip }
     where
-      many : (xs ys : List D) → AllZip (IsLeft disk Leaves mode) xs ys → length (map disk.bytes ys) ≡ length xs
+      many : (xs ys : List D) → AllZip (IsImageLeft disk Leaves mode) xs ys → length (map disk.bytes ys) ≡ length xs
       many [] [] zip = refl
       many [] (y ∷ ys) zip = absurd zip
       many (x ∷ xs) [] zip = absurd zip
       many (x ∷ xs) (y ∷ ys) zip = ap (λ (n : ℕ). suc n) (many xs ys zip.1)
 
-      each : (xs ys : List D) → AllZip (IsLeft disk Leaves mode) xs ys → (i : ℕ) (d : D) (file : List ℕ) → slice_get xs i ≡ Some d → slice_get (map disk.bytes ys) i ≡ Some file → disk.images d file
+      each : (xs ys : List D) → AllZip (IsImageLeft disk Leaves mode) xs ys → (i : ℕ) (d : D) (file : List ℕ) → slice_get xs i ≡ Some d → slice_get (map disk.bytes ys) i ≡ Some file → disk.images d file
       each [] ys zip i d file at is = absurd (cc)
       each (x ∷ xs) [] zip i d file at is = absurd zip
       each (x ∷ xs) (y ∷ ys) zip zero d file at is =
           subst (λ (f : List ℕ). disk.images d f) (same_Some (disk.bytes y) file is) (subst (λ (e : D). disk.images e (disk.bytes y)) (same_Some x d at) zip.0.image)
       each (x ∷ xs) (y ∷ ys) zip (suc i) d file at is = each xs ys zip.1 i d file at is
 
-  pub left_within : (xs ys : List D) → AllZip (IsLeft disk Leaves mode) xs ys → AreWithinCallOf disk xs xs (map disk.bytes ys)
+  pub left_within : (xs ys : List D) → AllZip (IsImageLeft disk Leaves mode) xs ys → AreWithinCallOf disk xs xs (map disk.bytes ys)
   left_within xs ys zip =
       let images = left_images xs ys zip in
       record { many = images.many; each = λ i before after file at then is. inl (images.each i before file at is) }
 
-  pub left_are : (xs ys : List D) → AllZip (IsLeft disk Leaves mode) xs ys → AreLeftOf disk (map disk.bytes ys) ys
+  pub left_are : (xs ys : List D) → AllZip (IsImageLeft disk Leaves mode) xs ys → AreLeftOf disk (map disk.bytes ys) ys
   left_are xs ys zip = record { many = sym (length-map ys disk.bytes); each = each xs ys zip }
     where
-      each : (xs ys : List D) → AllZip (IsLeft disk Leaves mode) xs ys → (i : ℕ) (d : D) (file : List ℕ) → slice_get ys i ≡ Some d → slice_get (map disk.bytes ys) i ≡ Some file
+      each : (xs ys : List D) → AllZip (IsImageLeft disk Leaves mode) xs ys → (i : ℕ) (d : D) (file : List ℕ) → slice_get ys i ≡ Some d → slice_get (map disk.bytes ys) i ≡ Some file
           → (disk.bytes d ≡ file) × Only file (disk.images d)
       each xs [] zip i d file at is = absurd (cc)
       each [] (y ∷ ys) zip i d file at is = absurd zip
@@ -69,13 +69,13 @@ module _ {D : Type 0} (disk : DiskOf D) (Leaves : CrashMode → D → List ℕ �
           (sym (ap disk.bytes one) ∙ two, subst (λ (f : List ℕ). Only f (disk.images d)) two (subst (λ (e : D). Only (disk.bytes y) (disk.images e)) one zip.0.only))
       each (x ∷ xs) (y ∷ ys) zip (suc i) d file at is = each xs ys zip.1 i d file at is
 
-  pub left_mode : (xs ys : List D) → AllZip (IsLeft disk Leaves mode) xs ys → AllZip (Leaves mode) xs (map disk.bytes ys)
+  pub left_mode : (xs ys : List D) → AllZip (IsImageLeft disk Leaves mode) xs ys → AllZip (Leaves mode) xs (map disk.bytes ys)
   left_mode [] [] zip = tt
   left_mode [] (y ∷ ys) zip = absurd zip
   left_mode (x ∷ xs) [] zip = absurd zip
   left_mode (x ∷ xs) (y ∷ ys) zip = (zip.0.left, left_mode xs ys zip.1)
 
-  pub left_sizes : (xs ys : List D) → AllZip (IsLeft disk Leaves mode) xs ys → map disk.size ys ≡ map disk.size xs
+  pub left_sizes : (xs ys : List D) → AllZip (IsImageLeft disk Leaves mode) xs ys → map disk.size ys ≡ map disk.size xs
   left_sizes [] [] zip = refl
   left_sizes [] (y ∷ ys) zip = absurd zip
   left_sizes (x ∷ xs) [] zip = absurd zip
@@ -102,7 +102,7 @@ module _ {D : Type 0} (disk : DiskOf D) (Leaves : CrashMode → D → List ℕ �
 
   -- ---- partitions
 
-  pub left_disks : (xs ys : List (Part D)) → AllZip (IsLeftMounted disk Leaves mode) xs ys → AllZip (IsLeft disk Leaves mode) (map (λ p. disk_of p) xs) (map (λ p. disk_of p) ys)
+  pub left_disks : (xs ys : List (Part D)) → AllZip (IsLeftMounted disk Leaves mode) xs ys → AllZip (IsImageLeft disk Leaves mode) (map (λ p. disk_of p) xs) (map (λ p. disk_of p) ys)
   left_disks [] [] zip = tt
   left_disks [] (y ∷ ys) zip = absurd zip
   left_disks (x ∷ xs) [] zip = absurd zip
@@ -114,10 +114,10 @@ module _ {D : Type 0} (disk : DiskOf D) (Leaves : CrashMode → D → List ℕ �
   left_tables (x ∷ xs) [] zip = absurd zip
   left_tables (x ∷ xs) (y ∷ ys) zip = ap (λ (t : Table). t ∷ tables_of ys) zip.0.table ∙ ap (λ (ts : List Table). table_of x ∷ ts) (left_tables xs ys zip.1)
 
-  pub left_rooms : (xs ys : List (Part D)) → AllZip (IsLeftMounted disk Leaves mode) xs ys → All (λ part. end_of (table_of part) ≤ disk.size (disk_of part)) ys
+  pub left_rooms : (xs ys : List (Part D)) → AllZip (IsLeftMounted disk Leaves mode) xs ys → All (λ part. arenas_end (table_of part) ≤ disk.size (disk_of part)) ys
   left_rooms xs ys zip i d lt = by xs ys zip i d lt
     where
-      by : (xs ys : List (Part D)) → AllZip (IsLeftMounted disk Leaves mode) xs ys → All (λ part. end_of (table_of part) ≤ disk.size (disk_of part)) ys
+      by : (xs ys : List (Part D)) → AllZip (IsLeftMounted disk Leaves mode) xs ys → All (λ part. arenas_end (table_of part) ≤ disk.size (disk_of part)) ys
       by xs [] zip i d lt = absurd (omega (arith, lt))
       by [] (y ∷ ys) zip i d lt = absurd zip
       by (x ∷ xs) (y ∷ ys) zip zero d lt = zip.0.room
@@ -126,9 +126,9 @@ module _ {D : Type 0} (disk : DiskOf D) (Leaves : CrashMode → D → List ℕ �
   -- ---- all devices
 
   pub record AllLeft (old new : PerDevice D) : Type 0 where
-    pub partitions : AllZip (IsLeft disk Leaves mode) old.partitions new.partitions
-    pub sections : AllZip (IsLeft disk Leaves mode) old.sections new.sections
-    pub filter : AllZip (IsLeft disk Leaves mode) old.filter new.filter
+    pub partitions : AllZip (IsImageLeft disk Leaves mode) old.partitions new.partitions
+    pub sections : AllZip (IsImageLeft disk Leaves mode) old.sections new.sections
+    pub filter : AllZip (IsImageLeft disk Leaves mode) old.filter new.filter
 
   zip_append : {X Y : Type 0} (R : X → Y → Type 0) (xs us : List X) (ys vs : List Y) → AllZip R xs ys → AllZip R us vs → AllZip R (xs ++ us) (ys ++ vs)
   zip_append R [] us [] vs first second = second
@@ -171,7 +171,7 @@ module _ {D : Type 0} (disk : DiskOf D) (Leaves : CrashMode → D → List ℕ �
         → StandForPrefix score c tables least (record { partitions = map disk.bytes new.partitions; sections = map disk.bytes new.sections; filter = map disk.bytes new.filter }) h
         → EachStands score disk c tables 0 new h
     left_stands score c tables h least stands more images =
-        let P : Files → Type 0 = λ fs. StandForPrefix score c tables 0 fs h in
+        let P : DeviceFiles → Type 0 = λ fs. StandForPrefix score c tables 0 fs h in
         let partitions = left_again new.partitions more.partitions (left_are old.partitions new.partitions all.partitions) images.partitions in
         let sections = left_again new.sections more.sections (left_are old.sections new.sections all.sections) images.sections in
         let filter = left_again new.filter more.filter (left_are old.filter new.filter all.filter) images.filter in

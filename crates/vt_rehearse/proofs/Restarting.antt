@@ -12,19 +12,19 @@ use Rattle.vt_model.specs.History.{History}
 use Rattle.vt_model.specs.Places.{Setup}
 use Rattle.vt_part.specs.declared.layout.ArenaRegion.{ArenaRegion}
 use Rattle.vt_part.specs.Parts.{disk_of, table_of, tables_of}
-use Rattle.vt_part.specs.Table.{IsPartition, Table, end_of}
+use Rattle.vt_part.specs.Table.{IsPartition, Table, arenas_end}
 use Rattle.vt_part.specs.declared.part.Part.{Part}
 use Rattle.vt_recover.specs.declared.devices.Devices.{Devices}
 use Rattle.vt_core.specs.Core.{CoreState, devices_of, machine_of, setup_of}
 use Rattle.vt_core.specs.Crashing.{MayTurnInto, Recovers}
-use Rattle.vt_core.specs.Files.{AreImages, Files, PerDevice}
+use Rattle.vt_core.specs.Files.{AreImages, DeviceFiles, PerDevice}
 use Rattle.vt_core.specs.Machine.{Crashes}
-use Rattle.vt_core.specs.Mounting.{IsLogOf, KeepsLimits, Mounts, devices_in, tables_in}
+use Rattle.vt_core.specs.Mounting.{IsLogOf, KeepsLimits, MountsStore, devices_in, tables_in}
 use Rattle.vt_core.specs.Sound.{IsSound}
 use Rattle.vt_core.specs.Stands.{StandForPrefix}
 use Rattle.vt_recover.proofs.Lists.{at_map}
 use Rattle.vt_rehearse.specs.declared.TheConstants.{SESSIONS}
-use Rattle.vt_rehearse.specs.Crashed.{CanBeMounted, IsLeft, IsLeftMounted, KeepsSealed, Restarts}
+use Rattle.vt_rehearse.specs.Crashed.{CanBeMounted, IsImageLeft, IsLeftMounted, KeepsSealed, Restarts}
 use Rattle.vt_rehearse.specs.Shape.{the_sizes}
 use Rattle.vt_rehearse.specs.Stage.{IsSteady, none_waits}
 use Rattle.vt_rehearse.proofs.Recovering.{AllLeft, all_images, all_left, all_modes, left_disks, left_rooms, left_setup, left_stands, left_tables}
@@ -49,8 +49,8 @@ module _ {D : Type 0} (score : List ℕ → List ℕ) (disk : DiskOf D) (Leaves 
     (old : CoreState D) (h : History) (steady : IsSteady score disk old h) (before after : Devices D)
     (devices : devices_in before ≡ devices_of old) (tables : tables_in before ≡ old.log.tables)
     (parts : AllZip (IsLeftMounted disk Leaves mode) before.parts.items after.parts.items)
-    (sections : AllZip (IsLeft disk Leaves mode) before.sections.items after.sections.items)
-    (filter : AllZip (IsLeft disk Leaves mode) (option_to_list before.filter) (option_to_list after.filter)) where
+    (sections : AllZip (IsImageLeft disk Leaves mode) before.sections.items after.sections.items)
+    (filter : AllZip (IsImageLeft disk Leaves mode) (option_to_list before.filter) (option_to_list after.filter)) where
   abbrev left : AllLeft disk Leaves mode (devices_of old) (devices_in after)
   left = subst (λ (ds : PerDevice D). AllLeft disk Leaves mode ds (devices_in after)) devices
       (record { partitions = left_disks disk Leaves mode before.parts.items after.parts.items parts; sections = sections; filter = filter })
@@ -71,10 +71,10 @@ module _ {D : Type 0} (score : List ℕ → List ℕ) (disk : DiskOf D) (Leaves 
   pub some_arena : 0 < arena_count (tables_in after)
   some_arena = subst (λ (ts : List Table). 0 < arena_count ts) (sym tables_are) steady.arenas
 
-  pub rooms : All (λ part. end_of (table_of part) ≤ disk.size (disk_of part)) after.parts.items
+  pub rooms : All (λ part. arenas_end (table_of part) ≤ disk.size (disk_of part)) after.parts.items
   rooms = left_rooms disk Leaves mode before.parts.items after.parts.items parts
 
-  module _ (gives : (score : List ℕ → List ℕ) (k : CoreState D) (h : History) (files : Files) → IsSound score disk k h → AreImages disk (devices_of k) files
+  module _ (gives : (score : List ℕ → List ℕ) (k : CoreState D) (h : History) (files : DeviceFiles) → IsSound score disk k h → AreImages disk (devices_of k) files
       → StandForPrefix score (setup_of k) k.log.tables k.log.durable files h) where
     prefix : StandForPrefix score (setup_of old) old.log.tables old.log.durable (all_left disk Leaves mode (devices_of old) (devices_in after) left).files h
     prefix = gives score old h _ steady.sound (all_images disk Leaves mode (devices_of old) (devices_in after) left)
@@ -97,7 +97,7 @@ module _ {D : Type 0} (score : List ℕ → List ℕ) (disk : DiskOf D) (Leaves 
       can_be_mounted = record { c = setup_of old; h = h; g = take read.n h; base = read.base; log = log_of; limits = subst (λ (ts : List Table). KeepsLimits ts (setup_of old)) (sym tables_are) steady.limits }
 
       -- what is mounted has that log
-      pub keeps_blocks : (new : CoreState D) (g : History) → Mounts score disk (tables_in after) (devices_in after) the_sizes SESSIONS new → IsSound score disk new g → KeepsSealed new.log.base h g
+      pub keeps_blocks : (new : CoreState D) (g : History) → MountsStore score disk (tables_in after) (devices_in after) the_sizes SESSIONS new → IsSound score disk new g → KeepsSealed new.log.base h g
       keeps_blocks new g mounts sound =
           let recalls = mounts.recalls (setup_of old) h (take read.n h) read.base tells log_of in
           let base : new.log.base ≡ read.base = ap (λ (c : Setup). c.base) recalls.setup in
@@ -110,7 +110,7 @@ module _ {D : Type 0} (score : List ℕ → List ℕ) (disk : DiskOf D) (Leaves 
 
     -- ---- and is
 
-    module _ (new : CoreState D) (mounts : Mounts score disk (tables_in after) (devices_in after) the_sizes SESSIONS new) where
+    module _ (new : CoreState D) (mounts : MountsStore score disk (tables_in after) (devices_in after) the_sizes SESSIONS new) where
       abbrev recovers : Recovers score disk old old new
       recovers = record {
         left = devices_in after;
@@ -122,7 +122,7 @@ module _ {D : Type 0} (score : List ℕ → List ℕ) (disk : DiskOf D) (Leaves 
         retried = refl;
         sizes = the_sizes;
         sessions = SESSIONS;
-        mounts = subst (λ (ts : List Table). Mounts score disk ts (devices_in after) the_sizes SESSIONS new) tables_are mounts;
+        mounts = subst (λ (ts : List Table). MountsStore score disk ts (devices_in after) the_sizes SESSIONS new) tables_are mounts;
       }
 
       pub restarts : Restarts score disk Leaves mode old new

@@ -15,7 +15,7 @@ use Rattle.vt_model.proofs.Prefixes.{lengths_in-append}
 use Rattle.vt_model.proofs.Room.{needed_for, needed_is}
 use Rattle.vt_model.proofs.Spots.{if_in, sum_by-lengths_in}
 use Rattle.vt_rehearse.specs.Stage.{HasWords, IsFilled}
-use Rattle.vt_rehearse.specs.Words.{WORD_MOST, block_of, word_of}
+use Rattle.vt_rehearse.specs.Words.{WORD_MOST, block_of_word, word_of}
 use Rattle.vt_rehearse.proofs.Judging.{word_short}
 
 -- ---- the blocks of an arena
@@ -168,12 +168,12 @@ two_arenas f (e ∷ es) =
     by false false is was = omega arith
 
 -- the blocks of a history of words take what its words take
-words_taken : (f : ℕ → ℕ) (h : History) (listed : List ℕ) → map (λ e. e.block) h ≡ map block_of listed → sum_by (λ e. f (length e.block.bytes)) h ≡ sum_by (λ w. f (length (word_of w))) listed
+words_taken : (f : ℕ → ℕ) (h : History) (listed : List ℕ) → map (λ e. e.block) h ≡ map block_of_word listed → sum_by (λ e. f (length e.block.bytes)) h ≡ sum_by (λ w. f (length (word_of w))) listed
 words_taken f [] [] same = refl
 words_taken f [] (w ∷ ws) same = absurd (cc)
 words_taken f (e ∷ es) [] same = absurd (cc)
 words_taken f (e ∷ es) (w ∷ ws) same =
-    let head : e.block ≡ block_of w = ap (λ (bs : List Block). get_or bs 0 e.block) same in
+    let head : e.block ≡ block_of_word w = ap (λ (bs : List Block). get_or bs 0 e.block) same in
     let own : f (length e.block.bytes) ≡ f (length (word_of w)) = ap (λ (b : Block). f (length b.bytes)) head in
     let rest = words_taken f es ws (ap (λ (bs : List Block). drop 1 bs) same) in
     let first = sum_by-cons (λ (x : Accepted). f (length x.block.bytes)) e es in

@@ -10,7 +10,7 @@ use Rattle.vt_disk.specs.Members.{DiskOf}
 use Rattle.vt_model.specs.History.{Accepted, History}
 use Rattle.vt_part.specs.declared.layout.ArenaRegion.{ArenaRegion}
 use Rattle.vt_arena.specs.declared.head.Found.{Found}
-use Rattle.vt_arena.specs.Arena.{added_by, next_content}
+use Rattle.vt_arena.specs.Arena.{added_by_commit, next_content}
 use Rattle.vt_arena.specs.Layout.{Content, IsArena}
 use Rattle.vt_arena.specs.Sound.{HasBegunSelector}
 use Rattle.vt_arena.proofs.Commits.{arena_gives}
@@ -18,9 +18,9 @@ use Rattle.vt_arena.proofs.Regions.{arena_in_region}
 use Rattle.vt_log.specs.declared.filling.Filling.{Filling}
 use Rattle.vt_log.specs.declared.queue.Waiting.{Waiting}
 use Rattle.vt_log.specs.Log.{LogState, with_room_taken}
-use Rattle.vt_log.specs.Logs.{IsLog, accepted, blocks_from}
+use Rattle.vt_log.specs.Logs.{IsLog, accepted_in, blocks_from}
 use Rattle.vt_log.specs.Queue.{WaitsFor, waiting_block}
-use Rattle.vt_log.specs.Sound.{AreImages, IsAt, IsSound, IsSplit}
+use Rattle.vt_log.specs.Sound.{AreImagesOf, IsArenaAt, IsSoundLog, IsSplit}
 use Rattle.vt_log.specs.Whole.{Fill, turned_to}
 use Rattle.vt_log.proofs.Fill.{turned_arena}
 use Rattle.vt_log.proofs.IsSplit.{blocks_set, longer_prefix, split_order, split_sealed, split_set}
@@ -62,12 +62,12 @@ pub record LeavesLog {D : Type 0} (score : List ℕ → List ℕ) (l : LogState 
   pub log : IsLog score l.layout files (take n h) base
   pub others : All (λ e. base ≤ e.arena) (drop n h)
 
-module _ {D : Type 0} (score : List ℕ → List ℕ) (disk : DiskOf D) (l : LogState D) (h : History) (files : List (List ℕ)) (sound : IsSound score disk l h) (images : AreImages disk l.disks files) where
+module _ {D : Type 0} (score : List ℕ → List ℕ) (disk : DiskOf D) (l : LogState D) (h : History) (files : List (List ℕ)) (sound : IsSoundLog score disk l h) (images : AreImagesOf disk l.disks files) where
   -- an arena with this content is there
   abbrev Holds : (i : ℕ) → Content → Type 0
   Holds i a = (r : ArenaRegion) → slice_get l.layout i ≡ Some r → (file : List ℕ) × (slice_get files r.part ≡ Some file) × IsArena score r.region r.number a file
 
-  file_of : (i : ℕ) (r : ArenaRegion) (device : D) → IsAt l i r device → (file : List ℕ) × (slice_get files r.part ≡ Some file) × disk.images device file
+  file_of : (i : ℕ) (r : ArenaRegion) (device : D) → IsArenaAt l i r device → (file : List ℕ) × (slice_get files r.part ≡ Some file) × disk.images device file
   file_of i r device at =
       let file = slice_get_other files l.disks r.part device (sym images.many) at.disk_is in
       (file.0, file.1, images.each r.part device file.0 at.disk_is file.1)
@@ -122,7 +122,7 @@ module _ {D : Type 0} (score : List ℕ → List ℕ) (disk : DiskOf D) (l : Log
       }
 
   abbrev added : History
-  added = map (accepted l.committing) (added_by l.arena)
+  added = map (accepted_in l.committing) (added_by_commit l.arena)
 
   abbrev waiting : History
   waiting = map waiting_block l.queue.waiting
@@ -145,7 +145,7 @@ module _ {D : Type 0} (score : List ℕ → List ℕ) (disk : DiskOf D) (l : Log
       (cases_eq i l.committing))
       (subst (All (λ e. l.committing ≤ e.arena)) (sym queued)
       (All-append (λ (e : Accepted). l.committing ≤ e.arena) added waiting
-      (All-map (λ (e : Accepted). l.committing ≤ e.arena) (accepted l.committing) (added_by l.arena) (λ i s lt. omega arith)) none_before))
+      (All-map (λ (e : Accepted). l.committing ≤ e.arena) (accepted_in l.committing) (added_by_commit l.arena) (λ i s lt. omega arith)) none_before))
 
   -- where it is
   module _ (a : Content) (is : slice_get sound.contents l.committing ≡ Some a) (there_is : l.committing < length sound.contents) (current : Holds l.committing (next_content l.arena a)) where
@@ -171,8 +171,8 @@ module _ {D : Type 0} (score : List ℕ → List ℕ) (disk : DiskOf D) (l : Log
     history : take n h ≡ blocks_from 0 cs
     history = longer_prefix h l.durable added waiting inside queued
         ∙ ap (λ (q : History). q ++ added) sound.committed
-        ∙ ap (λ (k : ℕ). blocks_from 0 sound.contents ++ map (accepted k) (added_by l.arena)) (let e : l.committing ≡ 0 + l.committing = omega arith in e)
-        ∙ sym (blocks_set 0 l.committing sound.contents a next (added_by l.arena) is sound.split.behind refl)
+        ∙ ap (λ (k : ℕ). blocks_from 0 sound.contents ++ map (accepted_in k) (added_by_commit l.arena)) (let e : l.committing ≡ 0 + l.committing = omega arith in e)
+        ∙ sym (blocks_set 0 l.committing sound.contents a next (added_by_commit l.arena) is sound.split.behind refl)
 
     rest : drop n h ≡ waiting
     rest = sym (drop-drop (length added) l.durable h) ∙ ap (drop (length added)) queued ∙ drop-append_seam added waiting

@@ -13,7 +13,7 @@ use Rattle.vt_core.specs.Steps.{Runs, Steps}
 use Rattle.vt_rehearse.specs.declared.TheConstants.{SESSIONS, SHARDS}
 use Rattle.vt_rehearse.specs.declared.summary.Summary.{Summary}
 use Rattle.vt_rehearse.specs.Counts.{with_events}
-use Rattle.vt_rehearse.specs.Rehearsal.{CommitsAll, Works}
+use Rattle.vt_rehearse.specs.Rehearsal.{CommitsAll, RunsEvents}
 use Rattle.vt_rehearse.specs.Stage.{AreAlike, HasWords, IsFilled, IsMemory, IsNoRequest, StageState}
 use Rattle.vt_rehearse.proofs.Listed.{few_words, same_many}
 use Rattle.vt_rehearse.proofs.Asking.{owed_most}
@@ -65,13 +65,13 @@ module _ {D : Type 0} (score : List ℕ → List ℕ) (disk : DiskOf D) (memory 
   alike_worked event out summary old new own alike step same =
       alike_still old new alike (worked score disk memory event out alike.history old.core new.core own alike.store step) (ap (λ (s : StageState D). s.listed) same)
 
-  pub one_work : (event : Event) (out : Out) (old new : StageState D) → Steps score disk event out old.core new.core → new ≡ record old { core = new.core; summary = with_events 1 old.summary } → Works score disk (event ∷ []) old new
+  pub one_work : (event : Event) (out : Out) (old new : StageState D) → Steps score disk event out old.core new.core → new ≡ record old { core = new.core; summary = with_events 1 old.summary } → RunsEvents score disk (event ∷ []) old new
   one_work event out old new step same = record { outs = out ∷ []; runs = (new.core, step, refl); same = same }
 
-  pub two_works : (first second : Event) (old mid new : StageState D) → Works score disk (first ∷ []) old mid → Works score disk (second ∷ []) mid new → Works score disk (first ∷ second ∷ []) old new
+  pub two_works : (first second : Event) (old mid new : StageState D) → RunsEvents score disk (first ∷ []) old mid → RunsEvents score disk (second ∷ []) mid new → RunsEvents score disk (first ∷ second ∷ []) old new
   two_works first second old mid new a b = by a.outs b.outs a.runs b.runs
     where
-      by : (xs ys : List Out) → Runs score disk (first ∷ []) xs old.core mid.core → Runs score disk (second ∷ []) ys mid.core new.core → Works score disk (first ∷ second ∷ []) old new
+      by : (xs ys : List Out) → Runs score disk (first ∷ []) xs old.core mid.core → Runs score disk (second ∷ []) ys mid.core new.core → RunsEvents score disk (first ∷ second ∷ []) old new
       by (x ∷ []) (y ∷ []) (k, step, is) (l, then, was) = record {
         outs = x ∷ y ∷ [];
         runs = (k, step, (l, subst (λ (m : CoreState D). Steps score disk second y m l) is then, was));

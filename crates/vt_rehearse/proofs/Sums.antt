@@ -11,7 +11,7 @@ use Rattle.vt_rehearse.specs.declared.rounds.Round.{Round}
 use Rattle.vt_rehearse.specs.declared.rounds.Round.TheVariants.{Write, Read, Sync, Commit, Begin, Advance, Evict, Crash}
 use Rattle.vt_rehearse.specs.declared.summary.Summary.{Summary}
 use Rattle.vt_rehearse.specs.Counts.{nothing_done, with_compared, with_crash, with_events, with_read, with_synced, with_write}
-use Rattle.vt_rehearse.specs.Rehearsal.{CrashesIn, LooksUpAll, Makes, MakesAll, WritesWord, listed_after}
+use Rattle.vt_rehearse.specs.Rehearsal.{CrashesIn, LooksUpAll, MakesRound, MakesAll, WritesWord, listed_after}
 use Rattle.vt_rehearse.specs.Stage.{StageState}
 use Rattle.vt_rehearse.specs.Summary.{AddsUp, is_crash, is_read, is_sync, is_write}
 
@@ -132,7 +132,7 @@ module _ {D : Type 0} (score : List ℕ → List ℕ) (disk : DiskOf D) (Leaves 
       on behind w r s c first = sums_then w r s c (count_by is_write rounds) (count_by is_read rounds) (count_by is_sync rounds) (count_by is_crash rounds)
           (length old.listed) (length mid.listed) (length new.listed) old.summary mid.summary new.summary first behind
 
-      by : (round : Round) → Makes score disk Leaves round old mid → SumsOf rounds mid new
+      by : (round : Round) → MakesRound score disk Leaves round old mid → SumsOf rounds mid new
           → Sums (cond (is_write round) 1 0 + count_by is_write rounds) (cond (is_read round) 1 0 + count_by is_read rounds) (cond (is_sync round) 1 0 + count_by is_sync rounds)
           (cond (is_crash round) 1 0 + count_by is_crash rounds) (length old.listed) (length new.listed) old.summary new.summary
       by (Write session word) it behind = on behind 1 0 0 0 (of_write session word old mid it)

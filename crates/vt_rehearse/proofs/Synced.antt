@@ -16,7 +16,7 @@ use Rattle.vt_core.specs.declared.event.Out.TheVariants.{Said as SaidOut, Waits,
 use Rattle.vt_core.specs.Core.{CoreState, history_len, setup_of}
 use Rattle.vt_core.specs.Steps.{Steps}
 use Rattle.vt_rehearse.specs.Counts.{with_compared, with_events, with_synced}
-use Rattle.vt_rehearse.specs.Rehearsal.{AsksFor, CommitsAll, Judges, SyncsAll, asked_by}
+use Rattle.vt_rehearse.specs.Rehearsal.{AsksForOperation, CommitsAll, NotesWhether, SyncsSession, asked_by}
 use Rattle.vt_rehearse.specs.Stage.{AreAlike, HasWords, IsFilled, IsMemory, IsSteady, StageState, none_waits}
 use Rattle.vt_rehearse.proofs.Asking.{IsEnded, owed_most, sync_ends, sync_waits}
 use Rattle.vt_rehearse.proofs.Listed.{few_words, same_many}
@@ -44,7 +44,7 @@ commits_keep : {D : Type 0} (score : List ℕ → List ℕ) (disk : DiskOf D) (c
 commits_keep {D} score disk zero old new is = ap (λ (k : CoreState D). setup_of k) is
 commits_keep score disk (suc calls) old new (moved, less, step, rest) = commits_keep score disk calls moved new rest ∙ step.goes_on.store.setup
 
-module _ {D : Type 0} (score : List ℕ → List ℕ) (disk : DiskOf D) (memory : IsMemory disk) (session : ℕ) (within : session < 3) (request : Asked) (is_for : AsksFor sync request)
+module _ {D : Type 0} (score : List ℕ → List ℕ) (disk : DiskOf D) (memory : IsMemory disk) (session : ℕ) (within : session < 3) (request : Asked) (is_for : AsksForOperation sync request)
     (old asked : StageState D) (alike : AreAlike score disk old) (out : Out) (asks : Steps score disk (asked_by session request) out old.core asked.core)
     (asked_is : asked ≡ record old { core = asked.core; summary = with_events 1 old.summary }) where
   pub steady_asked : IsSteady score disk asked.core alike.history
@@ -92,12 +92,12 @@ module _ {D : Type 0} (score : List ℕ → List ℕ) (disk : DiskOf D) (memory 
         let at : answer.at ≡ length old.listed = ap at_of same in
         (said_so, at ∙ sym listed)
 
-    pub noted_is : (answer : Answer) (judged new : StageState D) → said ≡ SaidOut answer → Judges ((answer.said ≡ Synced) × (answer.at ≡ length told.listed)) told judged
+    pub noted_is : (answer : Answer) (judged new : StageState D) → said ≡ SaidOut answer → NotesWhether ((answer.said ≡ Synced) × (answer.at ≡ length told.listed)) told judged
         → new ≡ record judged { summary = with_synced judged.summary } → new ≡ record told { summary = with_synced (with_compared true told.summary) }
     noted_is answer judged new is judges noted =
         noted ∙ ap (λ (s : StageState D). record s { summary = with_synced s.summary }) (found_right ((answer.said ≡ Synced) × (answer.at ≡ length told.listed)) told judged judges (judged_right answer is))
 
-    pub syncs_all : (new : StageState D) → new ≡ record told { summary = with_synced (with_compared true told.summary) } → SyncsAll score disk session old new
+    pub syncs_all : (new : StageState D) → new ≡ record told { summary = with_synced (with_compared true told.summary) } → SyncsSession score disk session old new
     syncs_all new is =
         let core : new.core ≡ told.core = ap (λ (s : StageState D). s.core) is in
         let waits = (sync_waits score disk memory session request out alike.history old.core asked.core is_for alike.store alike.free asks).out_is in

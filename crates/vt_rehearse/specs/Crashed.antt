@@ -12,12 +12,12 @@ use Rattle.vt_model.specs.History.{History}
 use Rattle.vt_model.specs.Places.{Setup}
 use Rattle.vt_part.specs.declared.part.Part.{Part}
 use Rattle.vt_part.specs.Parts.{disk_of, table_of}
-use Rattle.vt_part.specs.Table.{Table, end_of}
+use Rattle.vt_part.specs.Table.{Table, arenas_end}
 use Rattle.vt_rehearse.specs.declared.TheConstants.{SESSIONS}
 use Rattle.vt_rehearse.specs.Shape.{the_sizes}
 
 -- one of the images of a disk is left, and this mode leaves it; a second crash leaves just that
-pub record IsLeft {D : Type 0} (disk : DiskOf D) (Leaves : CrashMode → D → List ℕ → Type 0)
+pub record IsImageLeft {D : Type 0} (disk : DiskOf D) (Leaves : CrashMode → D → List ℕ → Type 0)
     (mode : CrashMode) (before after : D) : Type 0 where
   pub left : Leaves mode before (disk.bytes after)
   pub image : disk.images before (disk.bytes after)
@@ -27,9 +27,9 @@ pub record IsLeft {D : Type 0} (disk : DiskOf D) (Leaves : CrashMode → D → L
 -- the same of a partition, which was mounted again
 pub record IsLeftMounted {D : Type 0} (disk : DiskOf D) (Leaves : CrashMode → D → List ℕ → Type 0)
     (mode : CrashMode) (before after : Part D) : Type 0 where
-  pub disks : IsLeft disk Leaves mode (disk_of before) (disk_of after)
+  pub disks : IsImageLeft disk Leaves mode (disk_of before) (disk_of after)
   pub table : table_of after ≡ table_of before
-  pub room : end_of (table_of after) ≤ disk.size (disk_of after)
+  pub room : arenas_end (table_of after) ≤ disk.size (disk_of after)
 
 -- these devices hold a store, and no want of room keeps it from being mounted
 pub record CanBeMounted {D : Type 0} (score : List ℕ → List ℕ) (disk : DiskOf D)

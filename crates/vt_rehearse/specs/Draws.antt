@@ -2,9 +2,9 @@
 -- high bits are taken.
 use Rattle.std.specs.Prelude.{ℕ, ◌+◌, ◌*◌, ◌/◌, ◌%◌, ◌^◌}
 
-abbrev pub next_of : ℕ → ℕ
-next_of x = (x * 6364136223846793005 + 1442695040888963407) % 2 ^ 64
+abbrev pub next_draw : ℕ → ℕ
+next_draw x = (x * 6364136223846793005 + 1442695040888963407) % 2 ^ 64
 
 -- what is drawn at x
 abbrev pub drawn : (x below : ℕ) → ℕ
-drawn x below = next_of x / 2 ^ 33 % below
+drawn x below = next_draw x / 2 ^ 33 % below

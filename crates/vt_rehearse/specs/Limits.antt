@@ -19,14 +19,15 @@ abbrev pub LIMIT : ℕ
 LIMIT = 2 ^ 64 - 2 ^ 8
 
 -- all its numbers together
-abbrev pub total : Summary → ℕ
-total s = s.events + s.writes + s.accepted + s.held + s.reads + s.found + s.missing + s.syncs
+abbrev pub summary_total : Summary → ℕ
+summary_total s =
+    s.events + s.writes + s.accepted + s.held + s.reads + s.found + s.missing + s.syncs
     + s.crashes + s.lost + s.compared
 
 -- its numbers are this together at most, and so is each of them
 abbrev pub AreAtMost : (most : ℕ) → Summary → Type 0
-AreAtMost most s = total s ≤ most
+AreAtMost most s = summary_total s ≤ most
 
 -- by no more do they rise in a round
-abbrev pub Grows : (old new : Summary) → Type 0
-Grows old new = (most : ℕ) → AreAtMost most old → AreAtMost (most + 2 * EVENTS_MOST) new
+abbrev pub GrowsByRound : (old new : Summary) → Type 0
+GrowsByRound old new = (most : ℕ) → AreAtMost most old → AreAtMost (most + 2 * EVENTS_MOST) new

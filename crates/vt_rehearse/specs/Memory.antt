@@ -9,8 +9,8 @@ use Rattle.vt_memdisk.specs.Crashes.{IsLeftBy}
 use Rattle.vt_memdisk.specs.Memory.{memory_bytes, memory_pending, memory_plan, memory_synced}
 
 -- a disk in memory, of which no call fails
-abbrev pub memory : DiskOf (MemDisk Never)
-memory = record {
+abbrev pub memory_disk : DiskOf (MemDisk Never)
+memory_disk = record {
   tells = true;
   size = λ disk. length (memory_bytes disk);
   bytes = memory_bytes;

@@ -26,20 +26,20 @@ use Rattle.vt_rehearse.specs.Words.{word_of}
 -- ---- requests
 
 -- a request for this operation
-abbrev pub AsksFor : Operation → Asked → Type 0
-AsksFor m request = operation_of request ≡ m
+abbrev pub AsksForOperation : Operation → Asked → Type 0
+AsksForOperation m request = operation_of request ≡ m
 
 -- a session asks for something, at time 0
 abbrev pub asked_by : (session : ℕ) → Asked → Event
 asked_by session request = Ask session request 0
 
 -- it is compared whether this is so, and nothing else changes
-abbrev pub Judges : {D : Type 0} → (right : Type 0) → (old new : StageState D) → Type 0
-Judges right old new = (is_right : Bool) × (IsTrue is_right ↔ right)
+abbrev pub NotesWhether : {D : Type 0} → (right : Type 0) → (old new : StageState D) → Type 0
+NotesWhether right old new = (is_right : Bool) × (IsTrue is_right ↔ right)
     × (new ≡ record old { summary = with_compared is_right old.summary })
 
 -- the store says this
-pub record Tells {D : Type 0} (score : List ℕ → List ℕ) (disk : DiskOf D) (event : Event)
+pub record StoreTells {D : Type 0} (score : List ℕ → List ℕ) (disk : DiskOf D) (event : Event)
     (said : Said) (old new : CoreState D) : Type 0 where
   pub at : ℕ
   pub steps : Steps score disk event (SaidOut (record { said = said; at = at })) old new
@@ -58,9 +58,9 @@ IsWritten own word listed is_held said before after = (said ≡ Score (record { 
 pub record AsksToWrite {D : Type 0} (score : List ℕ → List ℕ) (disk : DiskOf D)
     (session word : ℕ) (listed : List ℕ) (is_held : Bool) (old new : CoreState D) : Type 0 where
   pub request : Asked
-  pub is_for : AsksFor (write 13 (word_of word)) request
+  pub is_for : AsksForOperation (write 13 (word_of word)) request
   pub said : Said
-  pub tells : Tells score disk (asked_by session request) said old new
+  pub tells : StoreTells score disk (asked_by session request) said old new
   pub as_listed : IsWritten (score (word_of word)) word listed is_held said (history_len old)
       (history_len new)
 
@@ -82,21 +82,21 @@ pub record WritesWord {D : Type 0} (score : List ℕ → List ℕ) (disk : DiskO
 -- ---- a read
 
 -- A word is found exactly where the list has it.
-abbrev pub IsRead : (word : ℕ) → (listed : List ℕ) → (is_found : Bool) → Said → Type 0
-IsRead word listed is_found said =
+abbrev pub IsWordRead : (word : ℕ) → (listed : List ℕ) → (is_found : Bool) → Said → Type 0
+IsWordRead word listed is_found said =
     (Contains listed word × (is_found ≡ true) × (said ≡ Block (word_of word)))
     ⊎ ((¬ Contains listed word) × (is_found ≡ false) × (said ≡ Refused Absent))
 
 pub record ReadsWord {D : Type 0} (score : List ℕ → List ℕ) (disk : DiskOf D)
     (session word : ℕ) (listed : List ℕ) (is_found : Bool) (old new : CoreState D) : Type 0 where
   pub request : Asked
-  pub is_for : AsksFor (read (score (word_of word)) 13 MAX_BLOCK) request
+  pub is_for : AsksForOperation (read (score (word_of word)) 13 MAX_BLOCK) request
   pub said : Said
-  pub tells : Tells score disk (asked_by session request) said old new
-  pub as_listed : IsRead word listed is_found said
+  pub tells : StoreTells score disk (asked_by session request) said old new
+  pub as_listed : IsWordRead word listed is_found said
 
 -- what is said is compared
-pub record LooksUp {D : Type 0} (score : List ℕ → List ℕ) (disk : DiskOf D)
+pub record LooksUpWord {D : Type 0} (score : List ℕ → List ℕ) (disk : DiskOf D)
     (session word : ℕ) (is_found : Bool) (old new : StageState D) : Type 0 where
   pub reads : ReadsWord score disk session word old.listed is_found old.core new.core
   pub same : new ≡ record old { core = new.core; summary = with_compared true old.summary }
@@ -122,10 +122,10 @@ CommitsAll {D} score disk (suc calls) old new = (moved : CoreState D)
     × CommitsAll score disk calls moved new
 
 -- a session waits, the log makes all blocks durable, and the session is told so
-pub record SyncsAll {D : Type 0} (score : List ℕ → List ℕ) (disk : DiskOf D) (session : ℕ)
+pub record SyncsSession {D : Type 0} (score : List ℕ → List ℕ) (disk : DiskOf D) (session : ℕ)
     (old new : StageState D) : Type 0 where
   pub request : Asked
-  pub is_for : AsksFor sync request
+  pub is_for : AsksForOperation sync request
   pub waiting : CoreState D
   pub waits : Steps score disk (asked_by session request) Waits old.core waiting
   pub calls : ℕ
@@ -142,7 +142,7 @@ pub record SyncsAll {D : Type 0} (score : List ℕ → List ℕ) (disk : DiskOf 
 -- ---- the store's own work, and crashes
 
 -- these events, whatever they give
-pub record Works {D : Type 0} (score : List ℕ → List ℕ) (disk : DiskOf D) (events : List Event)
+pub record RunsEvents {D : Type 0} (score : List ℕ → List ℕ) (disk : DiskOf D) (events : List Event)
     (old new : StageState D) : Type 0 where
   pub outs : List Out
   pub runs : Runs score disk events outs old.core new.core
@@ -166,30 +166,33 @@ pub record CrashesIn {D : Type 0} (score : List ℕ → List ℕ) (disk : DiskOf
 -- ---- rounds
 
 -- what a round does
-abbrev pub Makes : {D : Type 0} → (List ℕ → List ℕ) → DiskOf D
+abbrev pub MakesRound : {D : Type 0} → (List ℕ → List ℕ) → DiskOf D
     → (Leaves : CrashMode → D → List ℕ → Type 0) → Round → (old new : StageState D) → Type 0
-Makes score disk Leaves (Write session word) old new = WritesWord score disk session word old new
-Makes score disk Leaves (Read session word) old new = CountsRead score disk session word old new
-Makes score disk Leaves (Sync session) old new = SyncsAll score disk session old new
-Makes score disk Leaves Commit old new = Works score disk (LogAdvance ∷ []) old new
-Makes score disk Leaves (Begin shard) old new = Works score disk (FileBegin shard ∷ []) old new
-Makes score disk Leaves (Advance shard) old new =
-    Works score disk (FileAdvance shard ∷ []) old new
-Makes score disk Leaves (Evict shard) old new =
-    Works score disk (EvictLump shard ∷ EvictIndex shard ∷ []) old new
-Makes score disk Leaves (Crash mode) old new = CrashesIn score disk Leaves mode old new
+MakesRound score disk Leaves (Write session word) old new =
+    WritesWord score disk session word old new
+MakesRound score disk Leaves (Read session word) old new =
+    CountsRead score disk session word old new
+MakesRound score disk Leaves (Sync session) old new = SyncsSession score disk session old new
+MakesRound score disk Leaves Commit old new = RunsEvents score disk (LogAdvance ∷ []) old new
+MakesRound score disk Leaves (Begin shard) old new =
+    RunsEvents score disk (FileBegin shard ∷ []) old new
+MakesRound score disk Leaves (Advance shard) old new =
+    RunsEvents score disk (FileAdvance shard ∷ []) old new
+MakesRound score disk Leaves (Evict shard) old new =
+    RunsEvents score disk (EvictLump shard ∷ EvictIndex shard ∷ []) old new
+MakesRound score disk Leaves (Crash mode) old new = CrashesIn score disk Leaves mode old new
 
 -- rounds one after another
 abbrev pub MakesAll : {D : Type 0} → (List ℕ → List ℕ) → DiskOf D
     → (Leaves : CrashMode → D → List ℕ → Type 0) → List Round → (old new : StageState D) → Type 0
 MakesAll score disk Leaves [] old new = new ≡ old
 MakesAll {D} score disk Leaves (round ∷ rounds) old new = (mid : StageState D)
-    × Makes score disk Leaves round old mid × MakesAll score disk Leaves rounds mid new
+    × MakesRound score disk Leaves round old mid × MakesAll score disk Leaves rounds mid new
 
 -- words looked up one after another
 abbrev pub LooksUpAll : {D : Type 0} → (List ℕ → List ℕ) → DiskOf D → (words : List ℕ)
     → (old new : StageState D) → Type 0
 LooksUpAll score disk [] old new = new ≡ old
 LooksUpAll {D} score disk (word ∷ words) old new = (mid : StageState D)
-    × ((is_found : Bool) × LooksUp score disk 0 word is_found old mid)
+    × ((is_found : Bool) × LooksUpWord score disk 0 word is_found old mid)
     × LooksUpAll score disk words mid new

@@ -6,7 +6,7 @@ use Rattle.vt_rehearse.specs.declared.rounds.Round.{Round}
 use Rattle.vt_rehearse.specs.declared.rounds.Round.TheVariants.{Write, Read, Sync, Commit, Begin, Advance, Evict, Crash}
 use Rattle.vt_rehearse.specs.declared.TheConstants.{SESSIONS, SHARDS}
 use Rattle.vt_rehearse.specs.declared.words.TheConstants.{WORDS}
-use Rattle.vt_rehearse.specs.Draws.{drawn, next_of}
+use Rattle.vt_rehearse.specs.Draws.{drawn, next_draw}
 
 abbrev pub mode_of : ℕ → CrashMode
 mode_of n = if n == 0 then Synced else if n == 1 then Written
@@ -17,8 +17,8 @@ mode_of n = if n == 0 then Synced else if n == 1 then Written
 -- crash its mode.
 abbrev pub round_of : (kind x : ℕ) → Round
 round_of kind x =
-    if nat_lt kind 6 then Write (drawn x 3) (drawn (next_of x) 64)
-    else if nat_lt kind 9 then Read (drawn x 3) (drawn (next_of x) 64)
+    if nat_lt kind 6 then Write (drawn x 3) (drawn (next_draw x) 64)
+    else if nat_lt kind 9 then Read (drawn x 3) (drawn (next_draw x) 64)
     else if kind == 9 then Sync (drawn x 3)
     else if nat_lt kind 12 then Commit
     else if kind == 12 then Begin (drawn x 2)
@@ -29,17 +29,17 @@ round_of kind x =
 -- from where the next round is drawn
 abbrev pub behind : (kind x : ℕ) → ℕ
 behind kind x =
-    if nat_lt kind 9 then next_of (next_of x)
-    else if kind == 9 then next_of x
+    if nat_lt kind 9 then next_draw (next_draw x)
+    else if kind == 9 then next_draw x
     else if nat_lt kind 12 then x
-    else next_of x
+    else next_draw x
 
 -- the round that is drawn at x, its kind first
 abbrev pub round_at : (x : ℕ) → Round
-round_at x = round_of (drawn x 16) (next_of x)
+round_at x = round_of (drawn x 16) (next_draw x)
 
 abbrev pub behind_round : (x : ℕ) → ℕ
-behind_round x = behind (drawn x 16) (next_of x)
+behind_round x = behind (drawn x 16) (next_draw x)
 
 -- its sessions, words and shards are those that there are
 abbrev pub IsDrawn : Round → Type 0

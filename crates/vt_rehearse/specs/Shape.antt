@@ -1,5 +1,5 @@
 -- The store of a rehearsal.
-use Rattle.vt_fresh.specs.declared.shape.Shape.{Shape}
+use Rattle.vt_empty.specs.declared.shape.Shape.{Shape}
 use Rattle.vt_shard.specs.declared.mounting.Sizes.{Sizes}
 
 -- three arenas, which have room for 8,192 bytes each; two sections of one bucket; and a filter of

@@ -2,7 +2,7 @@
 use Rattle.std.specs.Prelude.{◌≡◌, ◌≢◌, ℕ, ◌<◌, ⊤, IsTrue, false, Option, None, List, [], ◌∷◌, ◌++◌, length, map, replicate}
 use Rattle.std.specs.List.{All, AllPairs}
 use Rattle.vt_disk.specs.Members.{DiskOf}
-use Rattle.vt_fresh.specs.Shape.{setup_for}
+use Rattle.vt_empty.specs.Shape.{setup_for}
 use Rattle.vt_log.specs.Logs.{arena_count}
 use Rattle.vt_model.specs.History.{History}
 use Rattle.vt_model.specs.Places.{Setup, current_arena, fits, lengths_in}
@@ -12,7 +12,7 @@ use Rattle.vt_core.specs.Core.{CoreState, setup_of, stops_of}
 use Rattle.vt_core.specs.Mounting.{KeepsLimits}
 use Rattle.vt_core.specs.Sound.{IsSound}
 use Rattle.vt_rehearse.specs.Shape.{the_shape}
-use Rattle.vt_rehearse.specs.Words.{WORD_MOST, block_of}
+use Rattle.vt_rehearse.specs.Words.{WORD_MOST, block_of_word}
 use Rattle.vt_rehearse.specs.declared.TheConstants.{SESSIONS, SHARDS}
 use Rattle.vt_rehearse.specs.declared.summary.Summary.{Summary}
 use Rattle.vt_rehearse.specs.declared.words.TheConstants.{WORDS}
@@ -45,7 +45,7 @@ none_waits = replicate SESSIONS None
 
 -- the blocks of a history are those of these words, each of which stands there once
 pub record HasWords (h : History) (listed : List ℕ) : Type 0 where
-  pub blocks : map (λ e. e.block) h ≡ map block_of listed
+  pub blocks : map (λ e. e.block) h ≡ map block_of_word listed
   pub words : All (λ w. w < WORDS) listed
   pub once : AllPairs (λ v w. v ≢ w) listed
 

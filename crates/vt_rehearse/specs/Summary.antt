@@ -2,10 +2,10 @@
 use Rattle.std.specs.Prelude.{◌≡◌, ℕ, ◌+◌, Bool, true, false, List, [], count_by}
 use Rattle.sha1.specs.Sha1.{sha1}
 use Rattle.vt_core.specs.Core.{history_len}
-use Rattle.vt_core.specs.Mounting.{Mounts, devices_in, tables_in}
+use Rattle.vt_core.specs.Mounting.{MountsStore, devices_in, tables_in}
 use Rattle.vt_recover.specs.declared.devices.Devices.{Devices}
 use Rattle.vt_disk.specs.Members.{DiskOf}
-use Rattle.vt_fresh.specs.Store.{AreFresh}
+use Rattle.vt_empty.specs.Store.{AreFresh}
 use Rattle.vt_memdisk.specs.declared.crash.CrashMode.{CrashMode}
 use Rattle.vt_rehearse.specs.declared.TheConstants.{SESSIONS}
 use Rattle.vt_rehearse.specs.declared.rounds.Round.{Round}
@@ -13,7 +13,7 @@ use Rattle.vt_rehearse.specs.declared.rounds.Round.TheVariants.{Write, Read, Syn
 use Rattle.vt_rehearse.specs.declared.summary.Summary.{Summary}
 use Rattle.vt_rehearse.specs.declared.words.TheConstants.{WORDS}
 use Rattle.vt_rehearse.specs.Counts.{nothing_done}
-use Rattle.vt_rehearse.specs.Memory.{LeavesMemory, memory}
+use Rattle.vt_rehearse.specs.Memory.{LeavesMemory, memory_disk}
 use Rattle.vt_rehearse.specs.Rehearsal.{LooksUpAll, MakesAll}
 use Rattle.vt_rehearse.specs.Rounds.{rounds_from}
 use Rattle.vt_rehearse.specs.Shape.{the_shape, the_sizes}
@@ -27,7 +27,7 @@ pub record IsRehearsal {D : Type 0} (score : List ℕ → List ℕ) (disk : Disk
   pub devices : Devices D
   pub fresh : AreFresh disk the_shape devices
   pub first : StageState D
-  pub mounts : Mounts score disk (tables_in devices) (devices_in devices) the_sizes SESSIONS
+  pub mounts : MountsStore score disk (tables_in devices) (devices_in devices) the_sizes SESSIONS
       first.core
   pub unlisted : first.listed ≡ []
   pub uncounted : first.summary ≡ nothing_done
@@ -39,7 +39,7 @@ pub record IsRehearsal {D : Type 0} (score : List ℕ → List ℕ) (disk : Disk
 
 -- the same on disks in memory, with scores by SHA-1
 abbrev pub IsRehearsalOf : (seed count : ℕ) → Summary → Type 0
-IsRehearsalOf = IsRehearsal sha1 memory LeavesMemory
+IsRehearsalOf = IsRehearsal sha1 memory_disk LeavesMemory
 
 -- ---- how the numbers of a summary fit together
 

@@ -17,8 +17,8 @@ abbrev pub WORD_MOST : ℕ
 WORD_MOST = 200
 
 -- its block, of the type of data
-abbrev pub block_of : (w : ℕ) → Block
-block_of w = record { kind = 13; bytes = word_of w }
+abbrev pub block_of_word : (w : ℕ) → Block
+block_of_word w = record { kind = 13; bytes = word_of w }
 
 -- no two words have one score, and none has the zero score
 pub record AreApart (score : List ℕ → List ℕ) : Type 0 where

@@ -8,8 +8,8 @@ ghost use Rattle.vt_core.specs.Machine.{Crashes};
 ghost use Rattle.vt_model.specs.History.{History};
 ghost use Rattle.vt_part.specs.Parts.{disk_of, table_of};
 ghost use Rattle.vt_part.specs.Table.{IsPartition};
-ghost use Rattle.vt_rehearse.specs.Limits.{AreAtMost, Grows, MOST};
-ghost use Rattle.vt_rehearse.specs.Crashed.{IsLeft, IsLeftMounted, KeepsSealed, Restarts};
+ghost use Rattle.vt_rehearse.specs.Limits.{AreAtMost, GrowsByRound, MOST};
+ghost use Rattle.vt_rehearse.specs.Crashed.{IsImageLeft, IsLeftMounted, KeepsSealed, Restarts};
 ghost use Rattle.vt_rehearse.specs.Rehearsal.{CrashesIn};
 ghost use Rattle.vt_rehearse.specs.Stage.{AreAlike, IsMemory, IsSteady, none_waits};
 
@@ -63,7 +63,7 @@ pub(crate) fn crash<D: Crashable, S: Scorer + Copy + Drop>(
     requires most { AreAtMost MOST stage.summary }
     ensures crashes { IfOk result (CrashesIn S.score_of D.Disk D.leaves mode stage) }
     ensures alike { IfOk result (AreAlike S.score_of D.Disk) }
-    ensures grows { IfOk result (λ it. Grows stage.summary it.summary) }
+    ensures grows { IfOk result (λ it. GrowsByRound stage.summary it.summary) }
 {
     let Stage {
         core,
@@ -151,7 +151,8 @@ fn crash_part<D: Crashable>(part: Part<D>, mode: CrashMode) -> Part<D>
 
 /// What a crash leaves of a disk, if there is one.
 fn crash_one<D: Crashable>(disk: Option<D>, mode: CrashMode) -> Option<D>
-    ensures { AllZip (IsLeft D.Disk D.leaves mode) (option_to_list disk) (option_to_list result) }
+    ensures { AllZip (IsImageLeft D.Disk D.leaves mode) (option_to_list disk)
+        (option_to_list result) }
 {
     match disk {
         Some(disk) => Some(disk.crashed(mode)),
@@ -165,7 +166,8 @@ fn crash_all<D: Crashable>(
     disks: Vec<D>,
     mode: CrashMode,
 ) -> Result<Vec<D>, AllocError>
-    ensures { IfOk result (λ left. AllZip (IsLeft D.Disk D.leaves mode) disks.items left.items) }
+    ensures { IfOk result
+        (λ left. AllZip (IsImageLeft D.Disk D.leaves mode) disks.items left.items) }
 {
     let mut left = Vec::with_capacity(alloc, disks.len())?;
     for disk in disks {

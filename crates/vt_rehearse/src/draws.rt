@@ -1,7 +1,7 @@
 //! Numbers that follow from a number.
 
 ghost use Rattle.std.specs.Prelude.{◌≡◌, ◌<◌, ℕ};
-ghost use Rattle.vt_rehearse.specs.Draws.{drawn, next_of};
+ghost use Rattle.vt_rehearse.specs.Draws.{drawn, next_draw};
 
 use std::marker::Model;
 
@@ -33,7 +33,7 @@ impl Draws {
         requires { 0 < below }
         ensures drawn { result ≡ drawn self.old below }
         ensures within { result < below }
-        ensures next { self.new ≡ next_of self.old }
+        ensures next { self.new ≡ next_draw self.old }
     {
         self.x = self
             .x

@@ -2,10 +2,10 @@
 
 ghost use Rattle.std.specs.Prelude.{◌+◌, ◌^◌, ◌<◌, ◌≤◌, All, IfOk, length};
 ghost use Rattle.vt_base.specs.declared.mount.MountBad.{MountBad};
-ghost use Rattle.vt_core.specs.Mounting.{Mounts, devices_in, tables_in};
+ghost use Rattle.vt_core.specs.Mounting.{MountsStore, devices_in, tables_in};
 ghost use Rattle.vt_log.specs.Logs.{arena_count};
 ghost use Rattle.vt_part.specs.Parts.{disk_of, table_of};
-ghost use Rattle.vt_part.specs.Table.{end_of};
+ghost use Rattle.vt_part.specs.Table.{arenas_end};
 ghost use Rattle.vt_rehearse.specs.Crashed.{CanBeMounted};
 ghost use Rattle.vt_rehearse.specs.Shape.{the_sizes};
 ghost use Rattle.vt_rehearse.specs.Stage.{IsMemory};
@@ -16,7 +16,7 @@ use std::alloc::{AllocError, Global};
 use vt_base::{MountBad, Scorer};
 use vt_core::Core;
 use vt_disk::Disk;
-use vt_fresh::Shape;
+use vt_empty::Shape;
 use vt_recover::Devices;
 use vt_shard::Sizes;
 
@@ -44,12 +44,12 @@ pub(crate) fn open<D: Disk + Drop, S: Scorer + Drop>(
 ) -> Result<Core<D, S>, AllocError>
     requires memory { IsMemory D.Disk }
     requires many { length devices.parts.items + length devices.sections.items + 1 < 2 ^ 32 }
-    requires rooms { All (λ part. end_of (table_of part) ≤ D.size (disk_of part))
+    requires rooms { All (λ part. arenas_end (table_of part) ≤ D.size (disk_of part))
         devices.parts.items }
     requires some_arena { 0 < arena_count (tables_in devices) }
     requires some_section { 0 < length devices.sections.items }
     requires log { CanBeMounted S.score_of D.Disk (tables_in devices) (devices_in devices) }
-    ensures { IfOk result (Mounts S.score_of D.Disk (tables_in devices) (devices_in devices)
+    ensures { IfOk result (MountsStore S.score_of D.Disk (tables_in devices) (devices_in devices)
         the_sizes SESSIONS) }
 {
     match Core::mount(alloc, devices, SIZES, SESSIONS, scorer) {

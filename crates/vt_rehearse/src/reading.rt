@@ -3,8 +3,8 @@
 ghost use Rattle.std.specs.Prelude.{◌≡◌, ◌≢◌, ◌<◌, IfOk, OnOk, Bool};
 ghost use Rattle.vt_base.specs.declared.answer.Said.{Said};
 ghost use Rattle.vt_base.specs.declared.why.Why.{Why};
-ghost use Rattle.vt_rehearse.specs.Limits.{AreAtMost, Grows, MOST, ROUNDS_MOST};
-ghost use Rattle.vt_rehearse.specs.Rehearsal.{CountsRead, LooksUp, LooksUpAll, ReadsWord};
+ghost use Rattle.vt_rehearse.specs.Limits.{AreAtMost, GrowsByRound, MOST, ROUNDS_MOST};
+ghost use Rattle.vt_rehearse.specs.Rehearsal.{CountsRead, LooksUpWord, LooksUpAll, ReadsWord};
 ghost use Rattle.vt_rehearse.specs.Stage.{AreAlike, IsMemory};
 ghost use Rattle.vt_rehearse.specs.Words.{AreApart, all_words};
 ghost use Rattle.vt_rehearse.specs.declared.TheConstants.{SESSIONS};
@@ -34,7 +34,7 @@ pub(crate) fn read<D: Disk, S: Scorer>(
     ensures reads { OnOk result
         (CountsRead S.score_of D.Disk session word stage.old stage.new) }
     ensures alike { OnOk result (AreAlike S.score_of D.Disk stage.new) }
-    ensures grows { OnOk result (Grows stage.old.summary stage.new.summary) }
+    ensures grows { OnOk result (GrowsByRound stage.old.summary stage.new.summary) }
 {
     let is_found = look_up(stage, alloc, session, word)?;
     stage.note_read(is_found);
@@ -73,7 +73,7 @@ fn look_up<D: Disk, S: Scorer>(
     requires alike { AreAlike S.score_of D.Disk stage.old }
     requires most { AreAtMost MOST stage.old.summary }
     ensures looks { IfOk result (λ is_found.
-        LooksUp S.score_of D.Disk session word is_found stage.old stage.new) }
+        LooksUpWord S.score_of D.Disk session word is_found stage.old stage.new) }
     ensures alike { IfOk result (λ _. AreAlike S.score_of D.Disk stage.new) }
 {
     let said = ask_to_read(stage, alloc, session, word);

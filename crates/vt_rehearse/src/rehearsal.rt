@@ -2,10 +2,10 @@
 
 ghost use Rattle.sha1.specs.Sha1.{sha1};
 ghost use Rattle.std.specs.Prelude.{◌≡◌, IfOk};
-ghost use Rattle.vt_fresh.specs.Store.{AreFresh};
+ghost use Rattle.vt_empty.specs.Store.{AreFresh};
 ghost use Rattle.vt_rehearse.specs.Counts.{nothing_done};
-ghost use Rattle.vt_rehearse.specs.Limits.{AreAtMost, Grows, ROUNDS_MOST};
-ghost use Rattle.vt_rehearse.specs.Rehearsal.{Makes, MakesAll};
+ghost use Rattle.vt_rehearse.specs.Limits.{AreAtMost, GrowsByRound, ROUNDS_MOST};
+ghost use Rattle.vt_rehearse.specs.Rehearsal.{MakesRound, MakesAll};
 ghost use Rattle.vt_rehearse.specs.Rounds.{IsDrawn, rounds_from};
 ghost use Rattle.vt_rehearse.specs.Shape.{the_shape};
 ghost use Rattle.vt_rehearse.specs.Stage.{AreAlike, IsMemory};
@@ -25,7 +25,7 @@ use crate::writing::write;
 use std::alloc::{AllocError, Global};
 use vt_base::{Scorer, Sha1Scorer};
 use vt_core::Event;
-use vt_fresh::fresh_devices;
+use vt_empty::fresh_devices;
 use vt_out::Progress;
 use vt_recover::Devices;
 
@@ -120,9 +120,9 @@ fn make<D: Crashable, S: Scorer + Copy + Drop>(
     requires round { IsDrawn round }
     requires alike { AreAlike S.score_of D.Disk stage }
     requires most { AreAtMost ROUNDS_MOST stage.summary }
-    ensures makes { IfOk result (Makes S.score_of D.Disk D.leaves round stage) }
+    ensures makes { IfOk result (MakesRound S.score_of D.Disk D.leaves round stage) }
     ensures alike { IfOk result (AreAlike S.score_of D.Disk) }
-    ensures grows { IfOk result (λ it. Grows stage.summary it.summary) }
+    ensures grows { IfOk result (λ it. GrowsByRound stage.summary it.summary) }
 {
     match round {
         Round::Write { session, word } => {

@@ -8,7 +8,7 @@ ghost use Rattle.vt_core.specs.Events.{IsFor};
 ghost use Rattle.vt_core.specs.Steps.{Steps};
 ghost use Rattle.vt_rehearse.specs.Counts.{with_compared, with_crash, with_events, with_read, with_synced, with_write};
 ghost use Rattle.vt_rehearse.specs.Limits.{AreAtMost, LIMIT};
-ghost use Rattle.vt_rehearse.specs.Rehearsal.{IsRead, IsWritten, Judges, listed_after};
+ghost use Rattle.vt_rehearse.specs.Rehearsal.{IsWordRead, IsWritten, NotesWhether, listed_after};
 ghost use Rattle.vt_rehearse.specs.Words.{word_of};
 ghost use Rattle.vt_rehearse.specs.declared.TheConstants.{SHARDS};
 ghost use Rattle.vt_rehearse.specs.declared.words.TheConstants.{WORDS};
@@ -118,7 +118,8 @@ impl<D: Disk, S: Scorer> Stage<D, S> {
     pub(crate) fn judge_read(&mut self, word: u32, said: &Said)
         requires word { word < WORDS }
         requires most { AreAtMost LIMIT self.old.summary }
-        ensures { Judges ((is_found : Bool) × IsRead word self.old.listed is_found said.now)
+        ensures { NotesWhether ((is_found : Bool)
+            × IsWordRead word self.old.listed is_found said.now)
             self.old self.new }
     {
         let is_right = is_read_right(&self.listed, word, said);
@@ -129,7 +130,7 @@ impl<D: Disk, S: Scorer> Stage<D, S> {
     pub(crate) fn judge_write(&mut self, word: u32, said: &Said, before: u64)
         requires word { word < WORDS }
         requires most { AreAtMost LIMIT self.old.summary }
-        ensures { Judges ((is_held : Bool) × IsWritten (S.score_of (word_of word)) word
+        ensures { NotesWhether ((is_held : Bool) × IsWritten (S.score_of (word_of word)) word
             self.old.listed is_held said.now before (history_len self.old.core)) self.old self.new }
     {
         let own = self.score(Word::new(word).as_slice());
@@ -141,7 +142,7 @@ impl<D: Disk, S: Scorer> Stage<D, S> {
     /// Compares what a session was told that had asked for a sync.
     pub(crate) fn judge_sync(&mut self, answer: &Answer)
         requires { AreAtMost LIMIT self.old.summary }
-        ensures { Judges ((answer.now.said ≡ Said.Synced)
+        ensures { NotesWhether ((answer.now.said ≡ Said.Synced)
             × (answer.now.at ≡ length self.old.listed)) self.old self.new }
     {
         let is_right = is_sync_right(answer, self.listed_len());
@@ -151,7 +152,7 @@ impl<D: Disk, S: Scorer> Stage<D, S> {
     /// Compares how many blocks the store has behind a crash, before which so many were synced.
     pub(crate) fn judge_crash(&mut self, synced: u64)
         requires { AreAtMost LIMIT self.old.summary }
-        ensures { Judges ((synced ≤ history_len self.old.core)
+        ensures { NotesWhether ((synced ≤ history_len self.old.core)
             × (history_len self.old.core ≤ length self.old.listed)) self.old self.new }
     {
         let left = self.history_len();

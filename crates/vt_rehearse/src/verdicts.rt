@@ -3,7 +3,7 @@
 ghost use Rattle.std.specs.Prelude.{◌≡◌, ◌↔◌, ◌+◌, ◌<◌, ℕ, Bool, IsTrue, List, if◌then◌else◌};
 ghost use Rattle.vt_base.specs.declared.answer.Said.{Said};
 ghost use Rattle.vt_base.specs.declared.why.Why.{Why};
-ghost use Rattle.vt_rehearse.specs.Rehearsal.{IsRead, IsWritten};
+ghost use Rattle.vt_rehearse.specs.Rehearsal.{IsWordRead, IsWritten};
 ghost use Rattle.vt_rehearse.specs.declared.words.TheConstants.{WORDS};
 
 use crate::words::Word;
@@ -12,7 +12,7 @@ use vt_base::{Answer, Said, Score, Why};
 /// Whether a reader of a word is told its bytes where the list has it, and else that it is absent.
 pub(crate) fn is_read_right(listed: &[u32], word: u32, said: &Said) -> bool
     requires { word < WORDS }
-    ensures { IsTrue result ↔ ((is_found : Bool) × IsRead word listed.now is_found said.now) }
+    ensures { IsTrue result ↔ ((is_found : Bool) × IsWordRead word listed.now is_found said.now) }
 {
     let is_listed = listed.contains(&word);
     match said {

@@ -6,8 +6,8 @@ ghost use Rattle.vt_core.specs.Events.{IsFor};
 ghost use Rattle.vt_log.specs.Owed.{owed};
 ghost use Rattle.vt_model.specs.History.{History};
 ghost use Rattle.vt_rehearse.specs.Counts.{with_events};
-ghost use Rattle.vt_rehearse.specs.Limits.{AreAtMost, EVENTS_MOST, Grows, MOST};
-ghost use Rattle.vt_rehearse.specs.Rehearsal.{CommitsAll, SyncsAll, Works};
+ghost use Rattle.vt_rehearse.specs.Limits.{AreAtMost, EVENTS_MOST, GrowsByRound, MOST};
+ghost use Rattle.vt_rehearse.specs.Rehearsal.{CommitsAll, SyncsSession, RunsEvents};
 ghost use Rattle.vt_rehearse.specs.Stage.{AreAlike, IsMemory, IsNoRequest, IsSteady};
 ghost use Rattle.vt_rehearse.specs.declared.TheConstants.{SESSIONS, SHARDS};
 
@@ -23,9 +23,9 @@ pub(crate) fn sync<D: Disk, S: Scorer>(stage: &mut Stage<D, S>, alloc: Global, s
     requires session { session < SESSIONS }
     requires alike { AreAlike S.score_of D.Disk stage.old }
     requires most { AreAtMost MOST stage.old.summary }
-    ensures syncs { SyncsAll S.score_of D.Disk session stage.old stage.new }
+    ensures syncs { SyncsSession S.score_of D.Disk session stage.old stage.new }
     ensures alike { AreAlike S.score_of D.Disk stage.new }
-    ensures grows { Grows stage.old.summary stage.new.summary }
+    ensures grows { GrowsByRound stage.old.summary stage.new.summary }
 {
     let operation = Operation::Sync;
     let event = Event::Ask {
@@ -77,9 +77,9 @@ pub(crate) fn work<D: Disk, S: Scorer>(
     requires event { IsFor SESSIONS SHARDS event }
     requires alike { AreAlike S.score_of D.Disk stage }
     requires most { AreAtMost MOST stage.summary }
-    ensures works { Works S.score_of D.Disk (event.entry ∷ []) stage result }
+    ensures works { RunsEvents S.score_of D.Disk (event.entry ∷ []) stage result }
     ensures alike { AreAlike S.score_of D.Disk result }
-    ensures grows { Grows stage.summary result.summary }
+    ensures grows { GrowsByRound stage.summary result.summary }
 {
     stage.step(alloc, event);
     stage

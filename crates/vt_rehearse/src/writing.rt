@@ -3,7 +3,7 @@
 ghost use Rattle.std.specs.Prelude.{◌≡◌, ◌≢◌, ◌<◌, Bool, OnOk};
 ghost use Rattle.vt_base.specs.declared.answer.Said.{Said};
 ghost use Rattle.vt_base.specs.declared.why.Why.{Why};
-ghost use Rattle.vt_rehearse.specs.Limits.{AreAtMost, Grows, MOST};
+ghost use Rattle.vt_rehearse.specs.Limits.{AreAtMost, GrowsByRound, MOST};
 ghost use Rattle.vt_rehearse.specs.Rehearsal.{AsksToWrite, WritesWord, listed_after};
 ghost use Rattle.vt_rehearse.specs.Stage.{AreAlike, IsMemory};
 ghost use Rattle.vt_rehearse.specs.Words.{AreApart};
@@ -35,7 +35,7 @@ pub(crate) fn write<D: Disk, S: Scorer>(
     ensures writes { OnOk result
         (WritesWord S.score_of D.Disk session word stage.old stage.new) }
     ensures alike { OnOk result (AreAlike S.score_of D.Disk stage.new) }
-    ensures grows { OnOk result (Grows stage.old.summary stage.new.summary) }
+    ensures grows { OnOk result (GrowsByRound stage.old.summary stage.new.summary) }
 {
     let before = stage.history_len();
     let said = ask_to_write(stage, alloc, session, word);

@@ -5,19 +5,19 @@ use Rattle.std.proofs.lemmas.List.{take_all}
 use Rattle.vt_base.specs.Protocol.{TMessage, RMessage, t_ask, t_goodbye, t_hello, read, write, sync, r_hello, r_read, r_write, r_sync}
 use Rattle.vt_base.specs.declared.TheConstants.{MAX_BLOCK}
 use Rattle.vt_base.specs.declared.score.Score.{Score}
-use Rattle.vt_client.specs.declared.err.ClientErr.{ClientErr}
-use Rattle.vt_client.specs.declared.err.Parted.{Parted}
-use Rattle.vt_client.specs.Clients.{Asks, ClientState, SaysGoodbye, block_of, committing, next_tag, spent_by, taking_in}
-use Rattle.vt_client.specs.Exchanges.{Answers, Exchanges, Moves, Traffic, Wanted, traffic_of}
-use Rattle.vt_client.specs.Greetings.{Begins, Greets, welcome}
+use Rattle.vt_client.specs.declared.error.ClientErr.{ClientErr}
+use Rattle.vt_client.specs.declared.error.LinkError.{LinkError}
+use Rattle.vt_client.specs.Clients.{AsksRequest, ClientState, SaysGoodbye, wanted_block, committing, next_tag, spent_by, taking_in}
+use Rattle.vt_client.specs.Exchanges.{AnswersCall, Exchanges, MovesBytes, Traffic, Wanted, traffic_of}
+use Rattle.vt_client.specs.Greetings.{ExchangesLines, Greets, welcome}
 use Rattle.vt_wire.specs.Messages.{asked}
 use Rattle.vt_remote.specs.Exchanged.{Exchanged, ExchangesEach}
 use Rattle.vt_remote.specs.Members.{LinkOf}
-use Rattle.vt_remote.specs.Remote.{AsksForBlock, Meets, PutsBlock, Talks, link_in}
+use Rattle.vt_remote.specs.Remote.{AsksForBlock, Meets, PutsAndSyncs, TalksToServer, link_in}
 
 module _ {L : Type 0} (link : LinkOf L) (score_of : List ℕ → List ℕ) (told : IsTrue link.tells) where
   exchanged_by : {T : Type 0} (w : Wanted T) (tag : ℕ) (before after : Traffic) (value : T)
-      → Answers score_of tag w before after (Ok value)
+      → AnswersCall score_of tag w before after (Ok value)
       → Exchanges before after tag w.request (w.reply value)
   exchanged_by w tag before after value (inl (reply, exchanges, judged)) =
       subst (λ (r : RMessage). Exchanges before after tag w.request r) judged.0 exchanges
@@ -31,7 +31,7 @@ module _ {L : Type 0} (link : LinkOf L) (score_of : List ℕ → List ℕ) (told
     pub tag : next.tag ≡ next_tag c.tag
 
   pub step : {T : Type 0} (w : Wanted T) (c next : ClientState L) (value : T) → c.spent ≡ false
-      → Asks link score_of w c next (Ok value) → Step w c next value
+      → AsksRequest link score_of w c next (Ok value) → Step w c next value
   step w c next value unspent asks =
       let same = asks.goes_on unspent in
       record {
@@ -42,13 +42,13 @@ module _ {L : Type 0} (link : LinkOf L) (score_of : List ℕ → List ℕ) (told
       }
 
   -- a goodbye goes out whole, or a front of it
-  parts : (c : ClientState L) (parted : Result L (Parted L)) → c.spent ≡ false
+  parts : (c : ClientState L) (parted : Result L (LinkError L)) → c.spent ≡ false
       → SaysGoodbye link c parted
-      → (n : ℕ) × Moves (traffic_of link c.link) (traffic_of link (link_in parted))
+      → (n : ℕ) × MovesBytes (traffic_of link c.link) (traffic_of link (link_in parted))
       (take n (asked c.tag t_goodbye)) []
   parts c (Ok l) unspent says = (
     length (asked c.tag t_goodbye),
-    subst (λ (out : List ℕ). Moves (traffic_of link c.link) (traffic_of link l) out [])
+    subst (λ (out : List ℕ). MovesBytes (traffic_of link c.link) (traffic_of link l) out [])
         (sym (take_all (length (asked c.tag t_goodbye)) (asked c.tag t_goodbye)
         (omega arith))) (says.2 told),
   )
@@ -57,13 +57,13 @@ module _ {L : Type 0} (link : LinkOf L) (score_of : List ℕ → List ℕ) (told
       (λ failed. failed.3 told) says
 
   greeted : (before after : Traffic) → Greets score_of before after (Ok tt)
-      → (between : Traffic) × Begins before between
+      → (between : Traffic) × ExchangesLines before between
       × Exchanges between after 0 (t_hello (codes "02")) r_hello
   greeted before after (inl never) = absurd never
   greeted before after (inr (between, begins, answers)) =
       (between, begins, exchanged_by welcome 0 between after tt answers)
 
-  module _ {Does : (c c' : ClientState L) → Type 0} (back : L) (x : Talks link score_of Does back)
+  module _ {Does : (c c' : ClientState L) → Type 0} (back : L) (x : TalksToServer link score_of Does back)
       (calls : List (TMessage × RMessage)) where
     pub all_of : ExchangesEach 1 calls (traffic_of link x.met.link) (traffic_of link x.last.link)
         → x.last.spent ≡ false → x.last.tag ≡ (1 + length calls) % 256
@@ -84,9 +84,9 @@ module _ {L : Type 0} (link : LinkOf L) (score_of : List ℕ → List ℕ) (told
           each = each;
           goodbye = (
             goodbye.0,
-            subst (λ (t : ℕ). Moves (traffic_of link x.last.link) (traffic_of link back)
+            subst (λ (t : ℕ). MovesBytes (traffic_of link x.last.link) (traffic_of link back)
                 (take goodbye.0 (asked t t_goodbye)) []) tag
-                (subst (λ (l : L). Moves (traffic_of link x.last.link) (traffic_of link l)
+                (subst (λ (l : L). MovesBytes (traffic_of link x.last.link) (traffic_of link l)
                 (take goodbye.0 (asked x.last.tag t_goodbye)) []) (sym x.back_is) goodbye.1),
           );
         }
@@ -98,10 +98,10 @@ module _ {L : Type 0} (link : LinkOf L) (score_of : List ℕ → List ℕ) (told
     fresh_tag = ap (λ (s : ClientState L). s.tag) x.meets.client
 
   pub block_read : (kind : ℕ) (s bytes : List ℕ) (back : L)
-      → Talks link score_of (AsksForBlock link score_of kind s (Ok bytes)) back
+      → TalksToServer link score_of (AsksForBlock link score_of kind s (Ok bytes)) back
       → Exchanged ((t_ask (read s kind MAX_BLOCK), r_read bytes) ∷ []) (traffic_of link back)
   block_read kind s bytes back x =
-      let did = step (block_of s kind) x.met x.last bytes (fresh_spent back x []) x.does in
+      let did = step (wanted_block s kind) x.met x.last bytes (fresh_spent back x []) x.does in
       all_of back x ((t_ask (read s kind MAX_BLOCK), r_read bytes) ∷ []) (
         traffic_of link x.last.link,
         subst (λ (t : ℕ). Exchanges (traffic_of link x.met.link)
@@ -112,7 +112,7 @@ module _ {L : Type 0} (link : LinkOf L) (score_of : List ℕ → List ℕ) (told
       did.unspent (did.tag ∙ ap next_tag (fresh_tag back x []))
 
   pub block_written : (kind : ℕ) (bytes : List ℕ) (given : Score) (back : L)
-      → Talks link score_of (PutsBlock link score_of kind bytes (Ok given)) back
+      → TalksToServer link score_of (PutsAndSyncs link score_of kind bytes (Ok given)) back
       → Exchanged ((t_ask (write kind bytes), r_write given.0) ∷ (t_ask sync, r_sync) ∷ [])
       (traffic_of link back)
   block_written kind bytes given back x =

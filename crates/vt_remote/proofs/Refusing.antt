@@ -2,14 +2,14 @@
 use Rattle.std.proofs.Common.{◌≡◌, ⊎_elim, inl, inr, ℕ, ◌<◌, Bool, true, false, Result, Ok, Err, List, refl, sym, ◌∙◌, ap, subst, arith}
 use Rattle.vt_base.specs.Faults.{HasRisen}
 use Rattle.vt_base.specs.declared.score.Score.{Score}
-use Rattle.vt_client.specs.declared.err.ClientErr.{ClientErr}
-use Rattle.vt_client.specs.declared.err.ClientErr.TheVariants as errs
-use Rattle.vt_client.specs.declared.err.Parted.{Parted}
-use Rattle.vt_client.specs.Clients.{Asks, ClientState, SaysGoodbye, block_of, committing, spends, taking_in}
+use Rattle.vt_client.specs.declared.error.ClientErr.{ClientErr}
+use Rattle.vt_client.specs.declared.error.ClientErr.TheVariants as errs
+use Rattle.vt_client.specs.declared.error.LinkError.{LinkError}
+use Rattle.vt_client.specs.Clients.{AsksRequest, ClientState, SaysGoodbye, wanted_block, committing, spends, taking_in}
 use Rattle.vt_client.specs.Exchanges.{Wanted}
 use Rattle.vt_remote.specs.Members.{LinkOf}
 use Rattle.vt_remote.specs.Refused.{HasCauseOver}
-use Rattle.vt_remote.specs.Remote.{AsksForBlock, Meets, MeetsInVain, PutsBlock, Talks, link_in}
+use Rattle.vt_remote.specs.Remote.{AsksForBlock, Meets, MeetsInVain, PutsAndSyncs, TalksToServer, link_in}
 
 some : (old new : ℕ) → HasRisen old new → 0 < new
 some old new rose = omega (arith, rose)
@@ -17,7 +17,7 @@ some old new rose = omega (arith, rose)
 module _ {L : Type 0} (link : LinkOf L) (score_of : List ℕ → List ℕ) where
   -- of one request
   pub of_request : {T : Type 0} (w : Wanted T) (c c' : ClientState L) (why : ClientErr)
-      → c.spent ≡ false → Asks link score_of w c c' (Err why) → HasCauseOver link why c'.link
+      → c.spent ≡ false → AsksRequest link score_of w c c' (Err why) → HasCauseOver link why c'.link
   of_request w c c' errs.ReadFault unspent asks = some _ _ asks.sides.reads
   of_request w c c' errs.WriteFault unspent asks = some _ _ asks.sides.writes
   of_request w c c' (errs.WrongScore want found) unspent asks = asks.refuses.1
@@ -30,19 +30,19 @@ module _ {L : Type 0} (link : LinkOf L) (score_of : List ℕ → List ℕ) where
   of_request w c c' errs.NoMemory unspent asks = tt
 
   pub spent_behind : {T : Type 0} (w : Wanted T) (c c' : ClientState L) (why : ClientErr)
-      → c.spent ≡ false → Asks link score_of w c c' (Err why) → c'.spent ≡ spends why
+      → c.spent ≡ false → AsksRequest link score_of w c c' (Err why) → c'.spent ≡ spends why
   spent_behind w c c' why unspent asks = ap (λ (s : ClientState L). s.spent) (asks.goes_on unspent)
 
   -- a client that is spent gives its link back as it is
-  gives_back : (c : ClientState L) (parted : Result L (Parted L)) → c.spent ≡ true
+  gives_back : (c : ClientState L) (parted : Result L (LinkError L)) → c.spent ≡ true
       → SaysGoodbye link c parted → link_in parted ≡ c.link
   gives_back c (Ok l) spent says = let no : true ≡ false = sym spent ∙ says.0 in absurd (cc)
   gives_back c (Err parted) spent says = ⊎_elim
-      (λ untouched. ap (λ (p : Parted L). p.link) untouched.1)
+      (λ untouched. ap (λ (p : LinkError L). p.link) untouched.1)
       (λ failed. let no : true ≡ false = sym spent ∙ failed.0 in absurd (cc)) says
 
   -- the same when it is parted from
-  pub behind : (why : ClientErr) (c : ClientState L) (parted : Result L (Parted L))
+  pub behind : (why : ClientErr) (c : ClientState L) (parted : Result L (LinkError L))
       → c.spent ≡ spends why → SaysGoodbye link c parted → HasCauseOver link why c.link
       → HasCauseOver link why (link_in parted)
   behind errs.ReadFault c parted spent says cause =
@@ -73,17 +73,17 @@ module _ {L : Type 0} (link : LinkOf L) (score_of : List ℕ → List ℕ) where
   met_in_vain errs.NoMemory back it = tt
 
   pub unread : (kind : ℕ) (s : List ℕ) (why : ClientErr) (back : L)
-      → Talks link score_of (AsksForBlock link score_of kind s (Err why)) back
+      → TalksToServer link score_of (AsksForBlock link score_of kind s (Err why)) back
       → HasCauseOver link why back
   unread kind s why back x =
-      let w = block_of s kind in
+      let w = wanted_block s kind in
       let fresh = unspent x.met x.meets in
       subst (λ (l : L). HasCauseOver link why l) (sym x.back_is)
       (behind why x.last x.parted (spent_behind w x.met x.last why fresh x.does) x.says
       (of_request w x.met x.last why fresh x.does))
 
   pub unwritten : (kind : ℕ) (bytes : List ℕ) (why : ClientErr) (back : L)
-      → Talks link score_of (PutsBlock link score_of kind bytes (Err why)) back
+      → TalksToServer link score_of (PutsAndSyncs link score_of kind bytes (Err why)) back
       → HasCauseOver link why back
   unwritten kind bytes why back x =
       let put = taking_in score_of kind bytes in

@@ -3,8 +3,8 @@
 use Rattle.std.specs.Prelude.{ℕ, ◌≡◌, ◌+◌, ◌%◌, List, [], ◌∷◌, length, take, codes}
 use Rattle.vt_base.specs.Protocol.{TMessage, RMessage, r_hello, t_goodbye, t_hello}
 use Rattle.vt_client.specs.Clients.{next_tag}
-use Rattle.vt_client.specs.Exchanges.{Traffic, Exchanges, Moves}
-use Rattle.vt_client.specs.Greetings.{Begins}
+use Rattle.vt_client.specs.Exchanges.{Traffic, Exchanges, MovesBytes}
+use Rattle.vt_client.specs.Greetings.{ExchangesLines}
 use Rattle.vt_wire.specs.Messages.{asked}
 
 -- each request went out, under one tag behind another, and its reply came in before the next one
@@ -22,9 +22,10 @@ pub record Exchanged (calls : List (TMessage × RMessage)) (back : Traffic) : Ty
   pub unsent : before.sent ≡ []
   pub untaken : before.came ≡ []
   pub between : Traffic
-  pub begins : Begins before between
+  pub begins : ExchangesLines before between
   pub greeted : Traffic
   pub hello : Exchanges between greeted 0 (t_hello (codes "02")) r_hello
   pub last : Traffic
   pub each : ExchangesEach 1 calls greeted last
-  pub goodbye : (n : ℕ) × Moves last back (take n (asked ((1 + length calls) % 256) t_goodbye)) []
+  pub goodbye : (n : ℕ)
+      × MovesBytes last back (take n (asked ((1 + length calls) % 256) t_goodbye)) []

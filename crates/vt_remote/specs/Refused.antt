@@ -1,7 +1,7 @@
 -- Why a server didn't answer.
 use Rattle.std.specs.Prelude.{ℕ, ◌≢◌, ◌<◌, ⊤}
-use Rattle.vt_client.specs.declared.err.ClientErr.{ClientErr}
-use Rattle.vt_client.specs.declared.err.ClientErr.TheVariants as errs
+use Rattle.vt_client.specs.declared.error.ClientErr.{ClientErr}
+use Rattle.vt_client.specs.declared.error.ClientErr.TheVariants as errs
 use Rattle.vt_remote.specs.Members.{LinkOf}
 
 -- The link that is back counts a failed read, or a failed write, where one is told; and two scores

@@ -3,36 +3,37 @@
 use Rattle.std.specs.Prelude.{ℕ, ◌≡◌, ◌⊎◌, ⊤, false, None, IsTrue, Result, Ok, Err, List}
 use Rattle.vt_base.specs.Faults.{HasRisen}
 use Rattle.vt_base.specs.declared.score.Score.{Score}
-use Rattle.vt_client.specs.Clients.{Asks, ClientState, CountsSides, SaysGoodbye, block_of, committing, taking_in}
+use Rattle.vt_client.specs.Clients.{AsksRequest, ClientState, CountsSides, SaysGoodbye, wanted_block, committing, taking_in}
 use Rattle.vt_client.specs.Exchanges.{traffic_of}
 use Rattle.vt_client.specs.Greetings.{Greets, MayEndGreeting}
-use Rattle.vt_client.specs.declared.err.ClientErr.{ClientErr}
-use Rattle.vt_client.specs.declared.err.Parted.{Parted}
+use Rattle.vt_client.specs.declared.error.ClientErr.{ClientErr}
+use Rattle.vt_client.specs.declared.error.LinkError.{LinkError}
 use Rattle.vt_conf.specs.declared.address.Address.{Address}
-use Rattle.vt_dial.specs.Dialled.{Dialled, IsFresh, with_back, with_link}
+use Rattle.vt_dial.specs.Dialled.{Dialled, IsFreshLink, with_back, with_link}
 use Rattle.vt_remote.specs.Members.{LinkOf}
-use Rattle.vt_remote.specs.declared.remote.RemoteBad.{RemoteBad}
-use Rattle.vt_remote.specs.declared.remote.RemoteBad.TheVariants.{Undialled, Refused}
+use Rattle.vt_remote.specs.declared.remote.RemoteError.{RemoteError}
+use Rattle.vt_remote.specs.declared.remote.RemoteError.TheVariants.{Undialled, Refused}
 
 -- ---- what is asked
 
 -- the server is asked for a block
 abbrev pub AsksForBlock : {L : Type 0} → LinkOf L → (score_of : List ℕ → List ℕ) → (kind : ℕ)
     (s : List ℕ) → Result (List ℕ) ClientErr → (c c' : ClientState L) → Type 0
-AsksForBlock link score_of kind s result c c' = Asks link score_of (block_of s kind) c c' result
+AsksForBlock link score_of kind s result c c' =
+    AsksRequest link score_of (wanted_block s kind) c c' result
 
 -- A block is put, and behind its reply the server is asked to commit: the score is told where both
 -- are answered. Where the block is refused, it isn't asked to.
-abbrev pub PutsBlock : {L : Type 0} → LinkOf L → (score_of : List ℕ → List ℕ) → (kind : ℕ)
+abbrev pub PutsAndSyncs : {L : Type 0} → LinkOf L → (score_of : List ℕ → List ℕ) → (kind : ℕ)
     (bytes : List ℕ) → Result Score ClientErr → (c c' : ClientState L) → Type 0
-PutsBlock {L} link score_of kind bytes (Ok given) c c' = (mid : ClientState L)
-    × Asks link score_of (taking_in score_of kind bytes) c mid (Ok given)
-    × Asks link score_of committing mid c' (Ok tt)
-PutsBlock {L} link score_of kind bytes (Err why) c c' =
-    Asks link score_of (taking_in score_of kind bytes) c c' (Err why)
+PutsAndSyncs {L} link score_of kind bytes (Ok given) c c' = (mid : ClientState L)
+    × AsksRequest link score_of (taking_in score_of kind bytes) c mid (Ok given)
+    × AsksRequest link score_of committing mid c' (Ok tt)
+PutsAndSyncs {L} link score_of kind bytes (Err why) c c' =
+    AsksRequest link score_of (taking_in score_of kind bytes) c c' (Err why)
     ⊎ ((mid : ClientState L) × (given : Score)
-    × Asks link score_of (taking_in score_of kind bytes) c mid (Ok given)
-    × Asks link score_of committing mid c' (Err why))
+    × AsksRequest link score_of (taking_in score_of kind bytes) c mid (Ok given)
+    × AsksRequest link score_of committing mid c' (Err why))
 
 -- ---- meeting and parting
 
@@ -51,7 +52,7 @@ fresh_client link = record {
 pub record Meets {L : Type 0} (link : LinkOf L) (score_of : List ℕ → List ℕ) (c : ClientState L)
     : Type 0 where
   pub made : L
-  pub fresh : IsFresh link made
+  pub fresh : IsFreshLink link made
   pub greets : IsTrue link.tells
       → Greets score_of (traffic_of link made) (traffic_of link c.link) (Ok tt)
   pub sides : CountsSides {T = Unit {0}} link made c.link (Ok tt)
@@ -61,7 +62,7 @@ pub record Meets {L : Type 0} (link : LinkOf L) (score_of : List ℕ → List �
 pub record MeetsInVain {L : Type 0} (link : LinkOf L) (score_of : List ℕ → List ℕ)
     (why : ClientErr) (back : L) : Type 0 where
   pub made : L
-  pub fresh : IsFresh link made
+  pub fresh : IsFreshLink link made
   pub greets : IsTrue link.tells
       → Greets score_of (traffic_of link made) (traffic_of link back) (Err why)
   pub sides : CountsSides {T = Unit {0}} link made back (Err why)
@@ -73,41 +74,41 @@ abbrev pub IsBack : {L : Type 0} → (told : Type 0) → Address → (link : L) 
 IsBack told address link old new = told → new ≡ with_back link (with_link address old)
 
 -- no server was met: no link was made, or it was greeted in vain
-abbrev pub AsksNothing : {L : Type 0} → LinkOf L → (score_of : List ℕ → List ℕ) → (told : Type 0)
-    → Address → (old new : Dialled L) → (faults faults' : ℕ) → RemoteBad → Type 0
-AsksNothing link score_of told address old new faults faults' Undialled =
+abbrev pub MeetsNoServer : {L : Type 0} → LinkOf L → (score_of : List ℕ → List ℕ) → (told : Type 0)
+    → Address → (old new : Dialled L) → (faults faults' : ℕ) → RemoteError → Type 0
+MeetsNoServer link score_of told address old new faults faults' Undialled =
     (told → new ≡ old) × HasRisen faults faults'
-AsksNothing {L} link score_of told address old new faults faults' (Refused why) =
+MeetsNoServer {L} link score_of told address old new faults faults' (Refused why) =
     (back : L) × MeetsInVain link score_of why back × IsBack told address back old new
     × (faults' ≡ faults)
 
 -- the link, given back by a goodbye or beside its refusal
-abbrev pub link_in : {L : Type 0} → Result L (Parted L) → L
+abbrev pub link_in : {L : Type 0} → Result L (LinkError L) → L
 link_in (Ok link) = link
 link_in (Err parted) = parted.link
 
 -- the client said goodbye, if it could, and its link was taken back
-pub record Parts {L : Type 0} (link : LinkOf L) (told : Type 0) (c : ClientState L)
+pub record PartsFromServer {L : Type 0} (link : LinkOf L) (told : Type 0) (c : ClientState L)
     (old new : Dialled L) : Type 0 where
-  pub parted : Result L (Parted L)
+  pub parted : Result L (LinkError L)
   pub says : SaysGoodbye link c parted
   pub back : told → new ≡ with_back (link_in parted) old
 
 -- ---- a whole link
 
 -- the server was met, this was asked of it, and it was parted from, whatever it answered
-pub record Talks {L : Type 0} (link : LinkOf L) (score_of : List ℕ → List ℕ)
+pub record TalksToServer {L : Type 0} (link : LinkOf L) (score_of : List ℕ → List ℕ)
     (Does : (c c' : ClientState L) → Type 0) (back : L) : Type 0 where
   pub met : ClientState L
   pub last : ClientState L
   pub meets : Meets link score_of met
   pub does : Does met last
-  pub parted : Result L (Parted L)
+  pub parted : Result L (LinkError L)
   pub says : SaysGoodbye link last parted
   pub back_is : back ≡ link_in parted
 
 -- what a server that was met answered
-abbrev pub as_remote : {T : Type 0} → Result T ClientErr → Result T RemoteBad
+abbrev pub as_remote : {T : Type 0} → Result T ClientErr → Result T RemoteError
 as_remote (Ok value) = Ok value
 as_remote (Err why) = Err (Refused why)
 
@@ -115,13 +116,15 @@ as_remote (Err why) = Err (Refused why)
 -- greeted in vain.
 abbrev pub AsksServer : {L T : Type 0} → LinkOf L → (score_of : List ℕ → List ℕ)
     → (Does : Result T ClientErr → (c c' : ClientState L) → Type 0) → (told : Type 0) → Address
-    → (old new : Dialled L) → (faults faults' : ℕ) → Result T RemoteBad → Type 0
+    → (old new : Dialled L) → (faults faults' : ℕ) → Result T RemoteError → Type 0
 AsksServer {L} link score_of Does told address old new faults faults' (Ok value) =
-    (back : L) × Talks link score_of (Does (Ok value)) back × IsBack told address back old new
+    (back : L) × TalksToServer link score_of (Does (Ok value)) back
+    × IsBack told address back old new
     × (faults' ≡ faults)
 AsksServer {L} link score_of Does told address old new faults faults' (Err Undialled) =
-    AsksNothing link score_of told address old new faults faults' Undialled
+    MeetsNoServer link score_of told address old new faults faults' Undialled
 AsksServer {L} link score_of Does told address old new faults faults' (Err (Refused why)) =
-    AsksNothing link score_of told address old new faults faults' (Refused why)
-    ⊎ ((back : L) × Talks link score_of (Does (Err why)) back × IsBack told address back old new
+    MeetsNoServer link score_of told address old new faults faults' (Refused why)
+    ⊎ ((back : L) × TalksToServer link score_of (Does (Err why)) back
+    × IsBack told address back old new
     × (faults' ≡ faults))

@@ -7,5 +7,5 @@ mod remote;
 mod talk;
 
 pub use laws::{answered_blocks_are_exchanged, refusals_have_causes};
-pub use remote::{RemoteBad, read_remote, write_remote};
+pub use remote::{RemoteError, read_remote, write_remote};
 pub use talk::{meet, part};

@@ -2,7 +2,7 @@
 
 ghost use Rattle.std.specs.Prelude.{◌≡◌, ◌≤◌, IfOk, IsTrue, length};
 ghost use Rattle.vt_base.specs.declared.TheConstants.{MAX_BLOCK};
-ghost use Rattle.vt_remote.specs.Remote.{AsksForBlock, AsksServer, PutsBlock, as_remote};
+ghost use Rattle.vt_remote.specs.Remote.{AsksForBlock, AsksServer, PutsAndSyncs, as_remote};
 
 use crate::talk::{meet, part};
 use std::alloc::Global;
@@ -14,7 +14,7 @@ use vt_out::Link;
 
 /// Why a block of a server wasn't read or written.
 #[derive(Debug, Drop)]
-pub enum RemoteBad {
+pub enum RemoteError {
     /// No link to the address is made.
     Undialled,
     /// The server said no, or something other than what was asked; or the link failed.
@@ -30,7 +30,7 @@ pub fn read_remote<D: Dialer, S: Scorer + Drop>(
     scorer: S,
     kind: Kind,
     score: &Score,
-) -> Result<Bytes, RemoteBad>
+) -> Result<Bytes, RemoteError>
     ensures asks { AsksServer D.Link.Link S.score_of
         (AsksForBlock D.Link.Link S.score_of kind score.now.0) (IsTrue D.tells) address.now
         (D.dialled dialer.old) (D.dialled dialer.new) (D.faults dialer.old) (D.faults dialer.new)
@@ -53,10 +53,10 @@ pub fn write_remote<D: Dialer, S: Scorer + Drop>(
     scorer: S,
     kind: Kind,
     bytes: &[u8],
-) -> Result<Score, RemoteBad>
+) -> Result<Score, RemoteError>
     requires { length bytes.now ≤ MAX_BLOCK }
     ensures asks { AsksServer D.Link.Link S.score_of
-        (PutsBlock D.Link.Link S.score_of kind bytes.now) (IsTrue D.tells) address.now
+        (PutsAndSyncs D.Link.Link S.score_of kind bytes.now) (IsTrue D.tells) address.now
         (D.dialled dialer.old) (D.dialled dialer.new) (D.faults dialer.old) (D.faults dialer.new)
         result }
     ensures scored { IfOk result (λ score. score.0 ≡ S.score_of bytes.now) }
@@ -75,7 +75,7 @@ fn put<L: Link, S: Scorer + Drop>(
     bytes: &[u8],
 ) -> Result<Score, ClientErr>
     requires { length bytes.now ≤ MAX_BLOCK }
-    ensures puts { PutsBlock L.Link S.score_of kind bytes.now result client.old client.new }
+    ensures puts { PutsAndSyncs L.Link S.score_of kind bytes.now result client.old client.new }
     ensures scored { IfOk result (λ score. score.0 ≡ S.score_of bytes.now) }
 {
     let score = Client::put(client, alloc, kind, bytes)?;
@@ -84,11 +84,11 @@ fn put<L: Link, S: Scorer + Drop>(
 }
 
 /// What a server that was met answered.
-fn as_remote<T>(answer: Result<T, ClientErr>) -> Result<T, RemoteBad>
+fn as_remote<T>(answer: Result<T, ClientErr>) -> Result<T, RemoteError>
     ensures { result ≡ as_remote answer }
 {
     match answer {
         Ok(value) => Ok(value),
-        Err(why) => Err(RemoteBad::Refused(why)),
+        Err(why) => Err(RemoteError::Refused(why)),
     }
 }

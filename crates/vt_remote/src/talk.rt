@@ -2,12 +2,12 @@
 
 ghost use Rattle.std.specs.Prelude.{◌≡◌, IsTrue, MatchResult};
 ghost use Rattle.vt_dial.specs.Dialled.{with_link};
-ghost use Rattle.vt_remote.specs.Remote.{AsksNothing, Meets, Parts, link_in};
+ghost use Rattle.vt_remote.specs.Remote.{MeetsNoServer, Meets, PartsFromServer, link_in};
 
-use crate::remote::RemoteBad;
+use crate::remote::RemoteError;
 use std::alloc::Global;
 use vt_base::Scorer;
-use vt_client::{Client, Parted};
+use vt_client::{Client, LinkError};
 use vt_conf::Address;
 use vt_dial::Dialer;
 use vt_out::Link;
@@ -18,30 +18,30 @@ pub fn meet<D: Dialer, S: Scorer + Drop>(
     dialer: &mut D,
     address: &Address,
     scorer: S,
-) -> Result<Client<D::Link, S>, RemoteBad>
+) -> Result<Client<D::Link, S>, RemoteError>
     ensures { MatchResult result
         (λ client. Meets D.Link.Link S.score_of client
         × (IsTrue D.tells → D.dialled dialer.new ≡ with_link address.now (D.dialled dialer.old))
         × (D.faults dialer.new ≡ D.faults dialer.old))
-        (λ bad. AsksNothing D.Link.Link S.score_of (IsTrue D.tells) address.now
+        (λ bad. MeetsNoServer D.Link.Link S.score_of (IsTrue D.tells) address.now
         (D.dialled dialer.old) (D.dialled dialer.new) (D.faults dialer.old)
         (D.faults dialer.new) bad) }
 {
     let Ok(link) = dialer.dial(address) else {
-        return Err(RemoteBad::Undialled);
+        return Err(RemoteError::Undialled);
     };
     match Client::greet(alloc, link, scorer) {
         Ok(client) => Ok(client),
         Err(parted) => {
             dialer.done(parted.link);
-            Err(RemoteBad::Refused(parted.why))
+            Err(RemoteError::Refused(parted.why))
         }
     }
 }
 
 /// Says goodbye to a server, if it still listens, and closes the link to it.
 pub fn part<D: Dialer, S: Scorer + Drop>(dialer: &mut D, client: Client<D::Link, S>)
-    ensures parts { Parts D.Link.Link (IsTrue D.tells) client (D.dialled dialer.old)
+    ensures parts { PartsFromServer D.Link.Link (IsTrue D.tells) client (D.dialled dialer.old)
         (D.dialled dialer.new) }
     ensures faults { D.faults dialer.new ≡ D.faults dialer.old }
 {
@@ -49,7 +49,7 @@ pub fn part<D: Dialer, S: Scorer + Drop>(dialer: &mut D, client: Client<D::Link,
 }
 
 /// The link that a goodbye gave back, be it beside a refusal.
-fn link_in<L: Link + Drop>(parted: Result<L, Parted<L>>) -> L
+fn link_in<L: Link + Drop>(parted: Result<L, LinkError<L>>) -> L
     ensures { result ≡ link_in parted }
 {
     match parted {

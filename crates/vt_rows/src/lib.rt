@@ -4,12 +4,12 @@
 /// The rows that a test compared: the first of them that didn't hold.
 #[derive(Clone, Copy)]
 pub struct Rows {
-    wrong: Option<Wrong>,
+    wrong: Option<RowError>,
 }
 
 /// A row that didn't hold: what it compared, and its number in its table, from 0.
 #[derive(Clone, Copy, Debug)]
-pub struct Wrong {
+pub struct RowError {
     pub what: &'static str,
     pub row: usize,
 }
@@ -27,12 +27,12 @@ impl Rows {
     /// Notes whether a comparison of this row of a table holds.
     pub fn nth(&mut self, row: usize, what: &'static str, holds: bool) {
         if !holds && self.wrong.is_none() {
-            self.wrong = Some(Wrong { what, row });
+            self.wrong = Some(RowError { what, row });
         }
     }
 
     /// Refuses with the first comparison that didn't hold.
-    pub fn all(&self) -> Result<(), Wrong> {
+    pub fn all(&self) -> Result<(), RowError> {
         match self.wrong {
             None => Ok(()),
             Some(wrong) => Err(wrong),

@@ -18,7 +18,7 @@ use Rattle.vt_wire.proofs.RequestForms.{known_type, body_read}
 use Rattle.vt_wire.proofs.WholeLines.{line_stays, whole_is}
 use Rattle.vt_session.specs.declared.Ended.{Ended}
 use Rattle.vt_session.specs.declared.Ended.TheVariants.{Goodbye, Closed, Cut, Malformed}
-use Rattle.vt_session.specs.Heard.{Item, item_of, Means, unknown, misspelled, spelled, greets, end_of, Hears, Unheard, HearsRest, HearsBehind, Heard}
+use Rattle.vt_session.specs.Heard.{Item, heard_item, Means, unknown, misspelled, spelled, greets, end_of, Hears, Unheard, HearsRest, HearsBehind, Heard}
 use Rattle.vt_session.specs.Hearing.{Hearing, going_on, over, HearsOn, IsHeard, behind_frame}
 use Rattle.vt_session.specs.Talk.{EndsByInput}
 
@@ -38,7 +38,7 @@ means_one (spelled m x) (unknown p) = let k = ap is_request_type x.type_is ∙ k
     absurd (cc)
 means_one (spelled m x) (misspelled q n) = absurd (n m x)
 means_one {offered} {greeted} {type} {tag} {parameters} (spelled m x) (spelled n y) =
-    ap (item_of offered greeted tag) (body_one m n type parameters x y)
+    ap (heard_item offered greeted tag) (body_one m n type parameters x y)
 
 -- what is said of the frames behind one that means this
 abbrev pub HearsBehindFrame : Bool → Bool → ℕ → List (List ℕ) → List ℕ → List Item → Ended

@@ -8,7 +8,7 @@ use Rattle.std.proofs.lemmas.List.Elements.{All-from_recursion}
 use Rattle.vt_model.specs.History.{Accepted, History}
 use Rattle.vt_model.specs.Places.{Setup}
 use Rattle.vt_session.specs.Turns.{Turn, told, served, failed, added_of, added_numbers}
-use Rattle.vt_session.specs.Answered.{StandsAt, number_after, AnsweredBy}
+use Rattle.vt_session.specs.Answered.{IsAddedAt, number_after, AnsweredBy}
 use Rattle.vt_session.proofs.Turns.{get_within}
 
 abbrev IsWithin : ℕ → ℕ → ℕ → Type 0
@@ -37,7 +37,7 @@ record AreNumbers (h : History) (low : ℕ) (numbers : List ℕ) (blocks : List 
 
 -- what an operation added, and what came behind it
 numbers_joined : (h : History) (low n : ℕ) (added : Option Accepted) (numbers : List ℕ)
-    (blocks : List Accepted) → low ≤ n → StandsAt h n added
+    (blocks : List Accepted) → low ≤ n → IsAddedAt h n added
     → AreNumbers h (number_after n added) numbers blocks
     → AreNumbers h low (map (λ _. n) (option_to_list added) ++ numbers)
     (option_to_list added ++ blocks)

@@ -9,15 +9,15 @@ use Rattle.vt_base.specs.Protocol.{TMessage, r_error}
 use Rattle.vt_wire.specs.Frames.{size_width, framed, IsBody, IsFrame, IsPartial, Splits}
 use Rattle.vt_wire.specs.Messages.{Spells}
 use Rattle.vt_wire.specs.Rules.{rule_words}
-use Rattle.vt_wire.specs.declared.rule.Rule.{Rule}
+use Rattle.vt_wire.specs.declared.protocol_cause.ProtocolCause.{ProtocolCause}
 use Rattle.vt_wire.proofs.Frames.{one_body, splits}
 use Rattle.vt_session.specs.declared.Ended.{Ended}
 use Rattle.vt_session.specs.declared.Ended.TheVariants.{Goodbye, Malformed}
 use Rattle.vt_session.specs.declared.parsed.Next.{Next}
 use Rattle.vt_session.specs.declared.parsed.Next.TheVariants.{Hello, Ping, Ask, Refused, End}
-use Rattle.vt_session.specs.Heard.{Item, settled, item_of, Means, spelled, greets, end_of, Unheard, HearsRest}
-use Rattle.vt_session.specs.Hearing.{going_on, behind_frame, MatchNext, Gives}
-use Rattle.vt_session.specs.Parsed.{is_hello, RulesGive, HearsFrame, EndsAtFrame, FrameGives, IsFront}
+use Rattle.vt_session.specs.Heard.{Item, settled, heard_item, Means, spelled, greets, end_of, Unheard, HearsRest}
+use Rattle.vt_session.specs.Hearing.{going_on, behind_frame, MatchNext, HearsNext}
+use Rattle.vt_session.specs.Parsed.{is_hello, RulesGive, HearsFrame, EndsAtFrame, FrameGives, IsFrontFrame}
 
 -- ---- a frame
 
@@ -49,7 +49,7 @@ short_end left (type ∷ tag ∷ parameters) short bodies rest = absurd (omega a
 
 -- a frame that is refused by a rule
 pub rule_frame : (left : Unheard) (frame : List ℕ) (type tag : ℕ) (parameters : List ℕ)
-    (rule : Rule)
+    (rule : ProtocolCause)
     → IsFrame frame (drop size_width frame) → IsFrame frame (type ∷ tag ∷ parameters)
     → Means left.offered left.greeted type tag parameters
     (Some (settled tag (r_error (rule_words rule))))
@@ -78,7 +78,7 @@ pub rules_frame : (left : Unheard) (frame body : List ℕ) (tag : ℕ) (m : TMes
 rules_frame left frame body tag m next first x gives =
     let is = one_body frame body _ first x.frame in
     let means : Means left.offered left.greeted _ tag x.parameters
-    (item_of left.offered left.greeted tag m) =
+    (heard_item left.offered left.greeted tag m) =
     spelled m (record { type_is = refl; parameters_are = x.parameters_are }) in
     next_weaker
     (λ item same. means_item left body _ tag x.parameters is item
@@ -94,7 +94,7 @@ rules_frame left frame body tag m next first x gives =
 pub front_at : (left : Unheard) (len : ℕ) (frame : List ℕ) (next : Next) → len ≤ length left.bytes
     → IsFrame (take len left.bytes) (drop size_width (take len left.bytes))
     → frame ≡ take len left.bytes → FrameGives left (drop size_width frame) next
-    → IsFront left next len
+    → IsFrontFrame left next len
 front_at left len frame next enough first is gives = record {
   body = drop size_width (take len left.bytes);
   behind = drop len left.bytes;
@@ -104,7 +104,7 @@ front_at left len frame next enough first is gives = record {
   gives = subst (λ f. FrameGives left (drop size_width f) next) is gives;
 }
 
-module _ (left : Unheard) (next : Next) (len : ℕ) (x : IsFront left next len) where
+module _ (left : Unheard) (next : Next) (len : ℕ) (x : IsFrontFrame left next len) where
   pub front_frame : IsFrame (framed x.body) x.body
   front_frame = record { counted = x.counted; is = refl }
 
@@ -155,7 +155,7 @@ module _ (left : Unheard) (frame behind body : List ℕ) (first : IsFrame frame 
 
     pub next_given : (next : Next) → ((ended : Ended) → next ≡ End ended → ⊥)
         → greeted ≡ (left.greeted || is_hello next) → FrameGives left body next
-        → Gives next (going_on left) (going_on new)
+        → HearsNext next (going_on left) (going_on new)
     next_given (Hello tag) item kept gives = item_given _ kept gives
     next_given (Ping tag) item kept gives = item_given _ kept gives
     next_given (Ask tag operation) item kept gives = item_given _ kept gives

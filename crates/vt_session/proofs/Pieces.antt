@@ -3,7 +3,7 @@ use Rattle.std.proofs.Common.{◌≡◌, ℕ, ◌≤◌, List, [], ◌∷◌, �
 use Rattle.std.specs.Prelude.{map}
 use Rattle.std.specs.List.{flat_map}
 use Rattle.std.proofs.lemmas.Bool.{cases_lt}
-use Rattle.vt_session.specs.Turns.{Turn, spelled_turn, server_line, output_of, pieces_of}
+use Rattle.vt_session.specs.Turns.{Turn, spelled_turn, server_line, output_of, said_pieces}
 use Rattle.vt_session.specs.Talk.{EndsInLast}
 
 -- of two ways to cut a list, the one with the shorter front
@@ -36,7 +36,7 @@ cut_from piece (t ∷ turns) output unsaid h = elim (cases_lt (length piece) (le
 
 pub turns_cut : (turns : List Turn) (output unsaid : List ℕ) → output_of turns ≡ output ++ unsaid
     → (front : List Turn) × (behind : List Turn) × (turns ≡ front ++ behind)
-    × EndsInLast (pieces_of front) output
+    × EndsInLast (said_pieces front) output
 turns_cut turns output unsaid h = cut_from server_line turns output unsaid h
 
 reply_cut : (piece : List ℕ) (turns : List Turn) (t : Turn) (said unsaid : List ℕ)
@@ -50,5 +50,5 @@ reply_cut piece (u ∷ turns) t said unsaid h =
 
 pub last_cut : (turns : List Turn) (t : Turn) (said unsaid : List ℕ)
     → spelled_turn t ≡ said ++ unsaid
-    → EndsInLast (pieces_of (turns ++ t ∷ [])) (output_of turns ++ said)
+    → EndsInLast (said_pieces (turns ++ t ∷ [])) (output_of turns ++ said)
 last_cut turns t said unsaid h = reply_cut server_line turns t said unsaid h

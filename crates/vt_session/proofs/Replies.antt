@@ -10,7 +10,7 @@ use Rattle.vt_base.specs.declared.TheConstants.{MAX_BLOCK}
 use Rattle.vt_base.specs.declared.why.Why.{Why}
 use Rattle.vt_base.specs.declared.why.Why.TheVariants.{BadType, TooBig, TooSmall, Absent, Collision, IndexFull, ArenasFull}
 use Rattle.vt_base.specs.Protocol.{Operation, ping, read, write, sync, RMessage, r_read, r_write, r_error, r_refused}
-use Rattle.vt_wire.specs.Messages.{FitsReply, spelled}
+use Rattle.vt_wire.specs.Messages.{FitsReply, spelled_reply}
 use Rattle.vt_wire.proofs.Frames.{same_front}
 use Rattle.vt_wire.proofs.Messages.{spelled_one}
 use Rattle.vt_wire.proofs.Texts.{why_fits}
@@ -21,7 +21,7 @@ use Rattle.vt_model.specs.Legal.{IsLegal}
 use Rattle.vt_session.specs.declared.Ended.{Ended}
 use Rattle.vt_session.specs.declared.Ended.TheVariants.{Goodbye, Closed, Cut, Malformed, Spent, ReadFault, WriteFault, NoMemory}
 use Rattle.vt_model.specs.Causes.{Cause, disk_fault, stopped, damaged, no_memory, why_of}
-use Rattle.vt_session.specs.Turns.{Turn, told, served, failed, spelled_turn, items_of, server_line}
+use Rattle.vt_session.specs.Turns.{Turn, told, served, failed, spelled_turn, items_of_turns, server_line}
 use Rattle.vt_session.specs.Answered.{AnsweredAlone, Faults}
 use Rattle.vt_session.specs.Talk.{Carries, Alone, HasScores}
 use Rattle.vt_session.proofs.Talks.{IsAnswered, is_answered, same_items}
@@ -131,7 +131,7 @@ module _ (score : List ℕ → List ℕ) (c : Setup) (scores : HasScores score)
   not_both : (h : History) (operation : Operation) (outcome : Outcome) (cause : Cause)
       (tag tag' : ℕ) (x y : List ℕ) → IsLegal score c h
       → outcome ≡ answer score c h operation
-      → spelled tag outcome.reply ++ x ≡ spelled tag' (r_refused (why_of cause)) ++ y → ⊥
+      → spelled_reply tag outcome.reply ++ x ≡ spelled_reply tag' (r_refused (why_of cause)) ++ y → ⊥
   not_both h operation outcome cause tag tag' x y legal is same =
       let s : IsServed outcome.reply =
       subst (λ (o : Outcome). IsServed o.reply) (sym is)
@@ -145,7 +145,7 @@ module _ (score : List ℕ → List ℕ) (c : Setup) (scores : HasScores score)
       cc
 
   turns_history : (before : History) (turns turns' : List Turn) (after after' : History)
-      → IsLegal score c before → items_of turns ≡ items_of turns'
+      → IsLegal score c before → items_of_turns turns ≡ items_of_turns turns'
       → spoken turns ≡ spoken turns' → AnsweredAlone score c before turns after
       → AnsweredAlone score c before turns' after' → after ≡ after'
   turns_history before [] [] after after' legal same out x y = x ∙ sym y
@@ -155,8 +155,8 @@ module _ (score : List ℕ → List ℕ) (c : Setup) (scores : HasScores score)
       (told tag' reply' ∷ turns') after after' legal same out x y =
       let tags : tag ≡ tag' = cc in
       let says : reply ≡ reply' = cc in
-      let frames : spelled tag reply ≡ spelled tag' reply' = cc in
-      let rest = same_front (spelled tag reply) (spelled tag' reply') (spoken turns)
+      let frames : spelled_reply tag reply ≡ spelled_reply tag' reply' = cc in
+      let rest = same_front (spelled_reply tag reply) (spelled_reply tag' reply') (spoken turns)
       (spoken turns') (ap length frames) out in
       turns_history before turns turns' after after' legal (cc) rest.1 x y
   turns_history before (served tag operation n outcome ∷ turns)
@@ -164,10 +164,10 @@ module _ (score : List ℕ → List ℕ) (c : Setup) (scores : HasScores score)
       let tags : tag ≡ tag' = cc in
       let operations : operation ≡ operation' = cc in
       let outcomes : outcome ≡ outcome' = x.1 ∙ ap (answer score c before) operations ∙ sym y.1 in
-      let frames : spelled tag outcome.reply ≡ spelled tag' outcome'.reply =
-      ap (λ (o : Outcome). spelled tag o.reply) outcomes
-      ∙ ap (λ t. spelled t outcome'.reply) tags in
-      let rest = same_front (spelled tag outcome.reply) (spelled tag' outcome'.reply)
+      let frames : spelled_reply tag outcome.reply ≡ spelled_reply tag' outcome'.reply =
+      ap (λ (o : Outcome). spelled_reply tag o.reply) outcomes
+      ∙ ap (λ t. spelled_reply t outcome'.reply) tags in
+      let rest = same_front (spelled_reply tag outcome.reply) (spelled_reply tag' outcome'.reply)
       (spoken turns) (spoken turns') (ap length frames) out in
       let next : IsLegal score c (with_added before outcome.added) =
       subst (λ (o : Outcome). IsLegal score c (with_added before o.added)) (sym x.1)

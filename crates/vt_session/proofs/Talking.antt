@@ -21,10 +21,10 @@ use Rattle.vt_session.specs.declared.talker.Phase.{Phase}
 use Rattle.vt_session.specs.declared.talker.Phase.TheVariants.{AtLine, BehindLine, Over}
 use Rattle.vt_session.specs.Heard.{Item, greets, end_of, Hears, Unheard, HearsRest, HearsBehind, Heard}
 use Rattle.vt_session.specs.Hearing.{going_on, over, MatchNext}
-use Rattle.vt_session.specs.Parsed.{is_hello, HearsFrame, EndsAtFrame, FrameGives, IsFront}
-use Rattle.vt_session.specs.Talker.{stage_of, HoldsIn, IsBehind}
+use Rattle.vt_session.specs.Parsed.{is_hello, HearsFrame, EndsAtFrame, FrameGives, IsFrontFrame}
+use Rattle.vt_session.specs.Talker.{stage_of, HoldsIn, IsPhaseBehind}
 use Rattle.vt_session.specs.Talk.{spent_len}
-use Rattle.vt_session.specs.Talking.{Stage, at_line, behind_line, Talking, fed, room, HearsStage, IsHeardStage, stage_with, line_heard, fed_stage, needs_more, IsOpen, ended_at, EndsAnyhow, IsNext, PassesItem, PassesEnd, Passes}
+use Rattle.vt_session.specs.Talking.{Stage, at_line, behind_line, Talking, fed, room, HearsStage, IsHeardStage, stage_with, line_heard, fed_stage, needs_more, IsOpen, ended_at, EndsAnyhow, IsNextHeard, PassesItem, PassesEnd, Passes}
 use Rattle.vt_session.proofs.Hearings.{HearsBehindFrame, hears_one, going_on_heard, heard_some, line_more}
 use Rattle.vt_session.proofs.Parsing.{front_frame, front_behind, rest_end, rest_partial, next_weaker, item_given}
 
@@ -171,8 +171,8 @@ module _ (left : Unheard) (body : List ℕ) where
         (λ ended. EndsAtFrame left body ended × Q ended) → MatchNext other P Q
     each_next next x = by_next by_item by_end next x
 
-same_body : (left : Unheard) (next other : Next) (len len' : ℕ) (x : IsFront left next len)
-    (y : IsFront left other len') → y.body ≡ x.body
+same_body : (left : Unheard) (next other : Next) (len len' : ℕ) (x : IsFrontFrame left next len)
+    (y : IsFrontFrame left other len') → y.body ≡ x.body
 same_body left next other len len' x y =
     (same_framed y.body x.body y.behind x.behind y.counted x.counted
     (sym y.bytes_are ∙ x.bytes_are)).0
@@ -192,14 +192,14 @@ frame_ends left (type ∷ tag ∷ parameters) ended x =
       | Some item ↦ λ is. let e = is.1 in absurd (cc)
     ] h.2
 
-pub front_ends : (left : Unheard) (next : Next) (len : ℕ) (ended : Ended) → IsFront left next len
+pub front_ends : (left : Unheard) (next : Next) (len : ℕ) (ended : Ended) → IsFrontFrame left next len
     → next ≡ End ended → EndsAnyhow ended
 front_ends left next len ended x is =
     frame_ends left x.body ended (subst (FrameGives left x.body) is x.gives)
 
 -- ---- behind it
 
-module _ (left : Unheard) (next : Next) (len : ℕ) (x : IsFront left next len) where
+module _ (left : Unheard) (next : Next) (len : ℕ) (x : IsFrontFrame left next len) where
   pub front_whole : nat_lt (length left.bytes) (frame_len left.bytes) ≡ false
   front_whole = le-ltb (length left.bytes) (frame_len left.bytes) (omega (
     arith,
@@ -258,7 +258,7 @@ module _ (left : Unheard) (next : Next) (len : ℕ) (x : IsFront left next len) 
 
     passes_item : ((ended : Ended) → next ≡ End ended → ⊥)
         → greeted ≡ (left.greeted || is_hello next)
-        → (other : Next) → IsNext (behind_line (going_on left)) other
+        → (other : Next) → IsNextHeard (behind_line (going_on left)) other
         → Passes other (behind_line (going_on left)) (behind_line (going_on now))
     passes_item item kept other it =
         each_next left x.body
@@ -269,7 +269,7 @@ module _ (left : Unheard) (next : Next) (len : ℕ) (x : IsFront left next len) 
 
   -- the end
   passes_end : (ended : Ended) → next ≡ End ended → AreBytes left.bytes
-      → (other : Next) → IsNext (behind_line (going_on left)) other
+      → (other : Next) → IsNextHeard (behind_line (going_on left)) other
       → Passes other (behind_line (going_on left)) (behind_line (over ended))
   passes_end ended is are other it =
       let ends : EndsAtFrame left x.body ended =
@@ -289,8 +289,8 @@ module _ (left : Unheard) (next : Next) (len : ℕ) (x : IsFront left next len) 
         ),
       )
 
-  pub behind_passes : (phase : Phase) → IsBehind left next phase → AreBytes left.bytes
-      → (other : Next) → IsNext (behind_line (going_on left)) other
+  pub behind_passes : (phase : Phase) → IsPhaseBehind left next phase → AreBytes left.bytes
+      → (other : Next) → IsNextHeard (behind_line (going_on left)) other
       → Passes other (behind_line (going_on left))
       (stage_of phase (left.place + len) (drop len left.bytes))
   behind_passes AtLine is are other it = absurd is
@@ -300,7 +300,7 @@ module _ (left : Unheard) (next : Next) (len : ℕ) (x : IsFront left next len) 
       (passes_item greeted (left.place + len) (drop len left.bytes) refl refl is.0 is.2 other it)
   behind_passes (Over ended) is are other it = passes_end ended is are other it
 
-  pub behind_holds : (phase : Phase) → IsBehind left next phase → (place : ℕ) (bytes : List ℕ)
+  pub behind_holds : (phase : Phase) → IsPhaseBehind left next phase → (place : ℕ) (bytes : List ℕ)
       → HoldsIn phase place bytes
   behind_holds AtLine is place bytes = absurd is
   behind_holds (BehindLine offered greeted) is place bytes = tt
@@ -309,7 +309,7 @@ module _ (left : Unheard) (next : Next) (len : ℕ) (x : IsFront left next len) 
 -- nothing was cut off
 pub idle_passes : (phase : Phase) (place : ℕ) (bytes : List ℕ)
     → ((offered greeted : Bool) → phase ≡ BehindLine offered greeted → ⊥)
-    → (other : Next) → IsNext (stage_of phase place bytes) other
+    → (other : Next) → IsNextHeard (stage_of phase place bytes) other
     → Passes other (stage_of phase place bytes) (stage_of phase place bytes)
 idle_passes AtLine place bytes idle other is = absurd is
 idle_passes (BehindLine offered greeted) place bytes idle other is =

@@ -8,7 +8,7 @@ use Rattle.vt_model.specs.Answer.{answer, with_added}
 use Rattle.vt_session.specs.declared.Ended.{Ended}
 use Rattle.vt_session.specs.declared.Ended.TheVariants.{Goodbye, Closed, Cut, Malformed, Spent, ReadFault, WriteFault, NoMemory}
 use Rattle.vt_session.specs.Heard.{Item, settled, asked, Heard}
-use Rattle.vt_session.specs.Turns.{Turn, told, served, failed, items_of, output_of, added_of, cause_of, causes_of}
+use Rattle.vt_session.specs.Turns.{Turn, told, served, failed, items_of_turns, output_of, added_of, cause_of, causes_of}
 use Rattle.vt_model.specs.Causes.{NoneFell}
 use Rattle.vt_session.specs.Answered.{AnsweredAlone, Faults, no_faults, AreToldBy}
 use Rattle.vt_session.specs.Talk.{spent_len, HearsAll, Carries, Talk, TalkSoFar, ComesBehind, over_both, Alone, AnswersAll, EndsByInput}
@@ -21,7 +21,7 @@ use Rattle.vt_session.proofs.Causes.{told_behind}
 -- everything that was taken was answered
 pub record IsAnswered (input output : List ℕ) (turns : List Turn) : Type 0 where
   pub end : Ended
-  pub heard : Heard input (items_of turns) end
+  pub heard : Heard input (items_of_turns turns) end
   pub written : output ≡ output_of turns
 
 answered : (input output : List ℕ) (turns : List Turn) (end : Ended)
@@ -51,7 +51,7 @@ is_answered input output turns WriteFault a x = absurd a
 is_answered input output turns NoMemory a x = absurd a
 
 ends_by : (input output : List ℕ) (turns : List Turn) (ended : Ended) → EndsByInput ended
-    → Carries input output turns ended → Heard input (items_of turns) ended
+    → Carries input output turns ended → Heard input (items_of_turns turns) ended
 ends_by input output turns Goodbye a x = x.0
 ends_by input output turns Closed a x = x.0.0
 ends_by input output turns Cut a x = x.0.0
@@ -63,7 +63,7 @@ ends_by input output turns NoMemory a x = absurd a
 
 module _ (score : List ℕ → List ℕ) (c : Setup) where
   turns_one : (before : History) (turns turns' : List Turn) (after after' : History)
-      → items_of turns ≡ items_of turns' → causes_of turns ≡ [] → causes_of turns' ≡ []
+      → items_of_turns turns ≡ items_of_turns turns' → causes_of turns ≡ [] → causes_of turns' ≡ []
       → AnsweredAlone score c before turns after → AnsweredAlone score c before turns' after'
       → (turns ≡ turns') × (after ≡ after')
   turns_one before [] [] after after' same none none' x y = (refl, x ∙ sym y)
@@ -100,9 +100,9 @@ module _ (score : List ℕ → List ℕ) (c : Setup) where
   -- two sessions over one input hear the same
   pub same_items : (input output output' : List ℕ) (turns turns' : List Turn)
       → IsAnswered input output turns → IsAnswered input output' turns'
-      → items_of turns ≡ items_of turns'
+      → items_of_turns turns ≡ items_of_turns turns'
   same_items input output output' turns turns' p q =
-      (heard_one input (items_of turns) (items_of turns') p.end q.end p.heard q.heard).0
+      (heard_one input (items_of_turns turns) (items_of_turns turns') p.end q.end p.heard q.heard).0
 
   pub alone_one : (faults faults' : Faults) (before : History) (input out : List ℕ)
       (turns : List Turn) (ended : Ended) (after : History)
@@ -126,7 +126,7 @@ module _ (score : List ℕ → List ℕ) (c : Setup) where
       → Alone score c faults' before input out' turns' ended' after'
       → EndsByInput ended → EndsByInput ended' → ended ≡ ended'
   end_one faults faults' before input out turns ended after out' turns' ended' after' x y a b =
-      (heard_one input (items_of turns) (items_of turns') ended ended'
+      (heard_one input (items_of_turns turns) (items_of_turns turns') ended ended'
       (ends_by input out turns ended a x.carried)
       (ends_by input out' turns' ended' b y.carried)).1
 
@@ -197,7 +197,7 @@ module _ (score : List ℕ → List ℕ) (c : Setup) where
   -- ---- one for each input
 
   turns_some : (before : History) (items : List Item)
-      → (turns : List Turn) × (after : History) × (items_of turns ≡ items) × (causes_of turns ≡ [])
+      → (turns : List Turn) × (after : History) × (items_of_turns turns ≡ items) × (causes_of turns ≡ [])
       × AnsweredAlone score c before turns after
   turns_some before [] = ([], before, refl, refl, refl)
   turns_some before (settled tag reply ∷ items) =
@@ -214,7 +214,7 @@ module _ (score : List ℕ → List ℕ) (c : Setup) where
       )
 
 carries : (input : List ℕ) (turns : List Turn) (ended : Ended) → length input < spent_len
-    → EndsByInput ended → Heard input (items_of turns) ended
+    → EndsByInput ended → Heard input (items_of_turns turns) ended
     → Carries input (output_of turns) turns ended
 carries input turns Goodbye few e h = (h, refl)
 carries input turns Closed few e h = ((h, refl), few)
@@ -233,7 +233,7 @@ pub alone_some : (score : List ℕ → List ℕ) (c : Setup) (before : History) 
 alone_some score c before input are few =
     let heard = heard_some input are in
     let r = turns_some score c before heard.0 in
-    let all : Heard input (items_of r.0) heard.1 =
+    let all : Heard input (items_of_turns r.0) heard.1 =
     subst (λ i. Heard input i heard.1) (sym r.2) heard.2 in (
       output_of r.0,
       r.0,

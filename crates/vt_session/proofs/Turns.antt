@@ -10,7 +10,7 @@ use Rattle.vt_model.specs.Places.{Setup}
 use Rattle.vt_model.specs.Answer.{Outcome, answer, with_added}
 use Rattle.vt_model.specs.Legal.{IsLegal}
 use Rattle.vt_session.specs.Turns.{Turn, told, served, failed, added_of}
-use Rattle.vt_session.specs.Answered.{StandsAt, number_after, AnsweredBy, AnsweredAlone}
+use Rattle.vt_session.specs.Answered.{IsAddedAt, number_after, AnsweredBy, AnsweredAlone}
 
 get_front : {X : Type 0} (xs ys : List X) (n : ℕ) (x : X) → slice_get xs n ≡ Some x
     → slice_get (xs ++ ys) n ≡ Some x
@@ -33,12 +33,12 @@ with_added_is : (h : History) (o : Option Accepted) → with_added h o ≡ h ++ 
 with_added_is h None = sym (append-nil h)
 with_added_is h (Some e) = refl
 
-stands_longer : (h more : History) (n : ℕ) (o : Option Accepted) → StandsAt h n o
-    → StandsAt (h ++ more) n o
+stands_longer : (h more : History) (n : ℕ) (o : Option Accepted) → IsAddedAt h n o
+    → IsAddedAt (h ++ more) n o
 stands_longer h more n None s = tt
 stands_longer h more n (Some e) s = get_front h more n e s
 
-number_within : (h : History) (n : ℕ) (o : Option Accepted) → n ≤ length h → StandsAt h n o
+number_within : (h : History) (n : ℕ) (o : Option Accepted) → n ≤ length h → IsAddedAt h n o
     → number_after n o ≤ length h
 number_within h n None le s = le
 number_within h n (Some e) le s = omega (arith, get_within h n e s)
@@ -168,7 +168,7 @@ module _ (score : List ℕ → List ℕ) (c : Setup) where
   number_is h (Some e) = sym (length-append h (e ∷ []))
 
   stands_next : (h : History) (o : Option Accepted) (more : History)
-      → StandsAt (with_added h o ++ more) (length h) o
+      → IsAddedAt (with_added h o ++ more) (length h) o
   stands_next h None more = tt
   stands_next h (Some e) more =
       subst (λ l. slice_get l (length h) ≡ Some e) (sym (append_assoc h (e ∷ []) more))
@@ -197,8 +197,8 @@ module _ (score : List ℕ → List ℕ) (c : Setup) where
           length-append before (option_to_list outcome.added ++ added_of turns),
         ),
         x.1 ∙ ap (λ l. answer score c l operation) (sym front),
-        subst (λ k. StandsAt after k outcome.added) (sym x.0)
-            (subst (λ l. StandsAt l (length before) outcome.added) (sym rest)
+        subst (λ k. IsAddedAt after k outcome.added) (sym x.0)
+            (subst (λ l. IsAddedAt l (length before) outcome.added) (sym rest)
             (stands_next before outcome.added (added_of turns))),
         subst (λ k. AnsweredBy score c after k (length after) turns) (sym low)
             (turns_alone next turns after x.2),

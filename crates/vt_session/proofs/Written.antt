@@ -19,7 +19,7 @@ use Rattle.vt_model.specs.Places.{Setup, next_arena, crowd, bucket_of, bucket_co
 use Rattle.vt_model.specs.Answer.{Outcome, answer, answer_to_write, collides, with_added, replies, refuses, adds}
 use Rattle.vt_model.proofs.Lists.{both_false}
 use Rattle.vt_session.specs.Turns.{Turn, told, served, failed}
-use Rattle.vt_session.specs.Answered.{StandsAt, number_after, AnsweredBy}
+use Rattle.vt_session.specs.Answered.{IsAddedAt, number_after, AnsweredBy}
 
 -- ---- one write
 
@@ -143,7 +143,7 @@ number_rises : (n : ℕ) (o : Option Accepted) → n ≤ number_after n o
 number_rises n None = omega arith
 number_rises n (Some e) = omega arith
 
-added_front : (h : History) (n : ℕ) (o : Option Accepted) → StandsAt h n o
+added_front : (h : History) (n : ℕ) (o : Option Accepted) → IsAddedAt h n o
     → with_added (take n h) o ≡ take (number_after n o) h
 added_front h n None stands = refl
 added_front h n (Some e) stands = sym (get_take h n e stands) ∙ ap (λ k. take k h) (sym (add-one n))

@@ -47,9 +47,9 @@ pub record AreToldBy (faults : Faults) (causes : List Cause) : Type 0 where
 -- ---- one history, at numbers that never fall
 
 -- an added block is block n of the history
-abbrev pub StandsAt : History → ℕ → Option Accepted → Type 0
-StandsAt h n None = ⊤
-StandsAt h n (Some e) = slice_get h n ≡ Some e
+abbrev pub IsAddedAt : History → ℕ → Option Accepted → Type 0
+IsAddedAt h n None = ⊤
+IsAddedAt h n (Some e) = slice_get h n ≡ Some e
 
 -- the least number that the next operation may have
 abbrev pub number_after : ℕ → Option Accepted → ℕ
@@ -64,7 +64,7 @@ AnsweredBy score c h low high [] = ⊤
 AnsweredBy score c h low high (told tag reply ∷ turns) = AnsweredBy score c h low high turns
 AnsweredBy score c h low high (served tag operation n outcome ∷ turns) =
     (low ≤ n) × (n ≤ high) × (outcome ≡ answer score c (take n h) operation)
-    × StandsAt h n outcome.added × AnsweredBy score c h (number_after n outcome.added) high turns
+    × IsAddedAt h n outcome.added × AnsweredBy score c h (number_after n outcome.added) high turns
 AnsweredBy score c h low high (failed tag operation n cause ∷ turns) =
     (low ≤ n) × (n ≤ high) × MayFail score c operation cause × AnsweredBy score c h n high turns
 

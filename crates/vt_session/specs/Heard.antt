@@ -7,7 +7,7 @@ use Rattle.vt_wire.specs.Frames.{Splits, framed}
 use Rattle.vt_wire.specs.Messages.{is_request_type, SpellsBody}
 use Rattle.vt_wire.specs.Lines.{line_of}
 use Rattle.vt_wire.specs.Rules.{rule_words}
-use Rattle.vt_wire.specs.declared.rule.Rule.TheVariants.{HelloExpected, HelloRepeated, VersionNotAgreed, BadMessage, UnknownMessage}
+use Rattle.vt_wire.specs.declared.protocol_cause.ProtocolCause.TheVariants.{HelloExpected, HelloRepeated, VersionNotAgreed, BadMessage, UnknownMessage}
 use Rattle.vt_wire.specs.declared.line.Line.{Line}
 use Rattle.vt_wire.specs.declared.line.Line.TheVariants.{Whole, More, Bad}
 use Rattle.vt_session.specs.declared.Ended.{Ended}
@@ -22,13 +22,13 @@ pub data Item : Type 0 where
 -- What a message comes to. A session begins with a hello of version 02, which the client's line
 -- must offer; nothing but that, goodbye and refused messages may come before it. A goodbye has no
 -- reply.
-abbrev pub item_of : Bool → Bool → ℕ → TMessage → Option Item
-item_of offered greeted tag t_goodbye = None
-item_of offered greeted tag (t_hello version) =
+abbrev pub heard_item : Bool → Bool → ℕ → TMessage → Option Item
+heard_item offered greeted tag t_goodbye = None
+heard_item offered greeted tag (t_hello version) =
     if greeted then Some (settled tag (r_error (rule_words HelloRepeated)))
     else if offered && bytes_eq version (codes "02") then Some (settled tag r_hello)
     else Some (settled tag (r_error (rule_words VersionNotAgreed)))
-item_of offered greeted tag (t_ask operation) =
+heard_item offered greeted tag (t_ask operation) =
     if greeted then Some (asked tag operation)
     else Some (settled tag (r_error (rule_words HelloExpected)))
 
@@ -42,7 +42,7 @@ pub data Means (offered greeted : Bool) (type tag : ℕ) (parameters : List ℕ)
       → Means offered greeted type tag parameters
       (Some (settled tag (r_error (rule_words BadMessage))))
   spelled : (m : TMessage) → SpellsBody m type parameters
-      → Means offered greeted type tag parameters (item_of offered greeted tag m)
+      → Means offered greeted type tag parameters (heard_item offered greeted tag m)
 
 -- from here on a hello has been accepted
 abbrev pub greets : Item → Bool

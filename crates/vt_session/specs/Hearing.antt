@@ -33,8 +33,8 @@ MatchNext (End ended) P Q = Q ended
 
 -- This comes next of an old hearing: an item, and then what the new one hears; or the end, which
 -- stays.
-abbrev pub Gives : Next → Hearing → Hearing → Type 0
-Gives next old new =
+abbrev pub HearsNext : Next → Hearing → Hearing → Type 0
+HearsNext next old new =
     MatchNext next
     (λ item. (items : List Item) (ended : Ended) → HearsOn new items ended
     → HearsOn old (item ∷ items) ended)

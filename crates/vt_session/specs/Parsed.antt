@@ -7,7 +7,7 @@ use Rattle.vt_session.specs.declared.Ended.TheVariants.{Goodbye}
 use Rattle.vt_session.specs.declared.parsed.Next.{Next}
 use Rattle.vt_session.specs.declared.parsed.Next.TheVariants.{Hello, Ping, Ask, Refused, End}
 use Rattle.vt_session.specs.declared.parsed.Left.{Left}
-use Rattle.vt_session.specs.Heard.{Item, item_of, greets, Unheard, Hears}
+use Rattle.vt_session.specs.Heard.{Item, heard_item, greets, Unheard, Hears}
 use Rattle.vt_session.specs.Hearing.{Hearing, going_on, over, MatchNext}
 
 abbrev pub unheard : Left → Unheard
@@ -31,8 +31,8 @@ is_hello next = false
 -- what a message comes to by the rules of a session
 abbrev pub RulesGive : Unheard → ℕ → TMessage → Next → Type 0
 RulesGive left tag message next =
-    MatchNext next (λ item. item_of left.offered left.greeted tag message ≡ Some item)
-    (λ ended. (item_of left.offered left.greeted tag message ≡ None) × (ended ≡ Goodbye))
+    MatchNext next (λ item. heard_item left.offered left.greeted tag message ≡ Some item)
+    (λ ended. (heard_item left.offered left.greeted tag message ≡ None) × (ended ≡ Goodbye))
 
 -- the first frame left has this body and is heard as this item
 abbrev pub HearsFrame : Unheard → List ℕ → Item → Type 0
@@ -53,7 +53,7 @@ abbrev pub FrameGives : Unheard → List ℕ → Next → Type 0
 FrameGives left body next = MatchNext next (HearsFrame left body) (EndsAtFrame left body)
 
 -- the first frame left is whole, has so many bytes, and comes to this
-pub record IsFront (left : Unheard) (next : Next) (len : ℕ) : Type 0 where
+pub record IsFrontFrame (left : Unheard) (next : Next) (len : ℕ) : Type 0 where
   pub body : List ℕ
   pub behind : List ℕ
   pub counted : IsBody body

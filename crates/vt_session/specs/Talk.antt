@@ -6,7 +6,7 @@ use Rattle.vt_session.specs.declared.Ended.{Ended}
 use Rattle.vt_session.specs.declared.Ended.TheVariants.{Goodbye, Closed, Cut, Malformed, Spent, ReadFault, WriteFault, NoMemory}
 use Rattle.vt_session.specs.Heard.{Item, Heard}
 use Rattle.vt_model.specs.Causes.{Part, NoneFell}
-use Rattle.vt_session.specs.Turns.{Turn, items_of, output_of, pieces_of, causes_of}
+use Rattle.vt_session.specs.Turns.{Turn, items_of_turns, output_of, said_pieces, causes_of}
 use Rattle.vt_session.specs.Answered.{AnsweredBy, AnsweredAlone, Faults, AreToldBy}
 
 -- how many bytes a link takes at most
@@ -22,7 +22,8 @@ EndsInLast (piece ∷ next ∷ pieces) output =
 
 -- everything that was taken was heard, and all of it was answered
 abbrev pub HearsAll : List ℕ → List ℕ → List Turn → Ended → Type 0
-HearsAll input output turns ended = Heard input (items_of turns) ended × (output ≡ output_of turns)
+HearsAll input output turns ended =
+    Heard input (items_of_turns turns) ended × (output ≡ output_of turns)
 
 -- the same, where the input itself doesn't end the session
 abbrev pub BreaksOff : List ℕ → List ℕ → List Turn → Type 0
@@ -41,8 +42,8 @@ Carries input output turns ReadFault = BreaksOff input output turns × (length i
 -- a write failed: that of the last turn's reply, or of the server's line where there is no turn;
 -- what came behind that frame isn't looked at
 Carries input output turns WriteFault =
-    (later : List Item) × (ended : Ended) × Heard input (items_of turns ++ later) ended
-    × EndsInLast (pieces_of turns) output
+    (later : List Item) × (ended : Ended) × Heard input (items_of_turns turns ++ later) ended
+    × EndsInLast (said_pieces turns) output
 -- nothing was answered or written
 Carries input output turns NoMemory = (turns ≡ []) × (output ≡ [])
 

@@ -38,14 +38,14 @@ HoldsIn (BehindLine offered greeted) place bytes = ⊤
 HoldsIn (Over ended) place bytes = EndsAnyhow ended
 
 -- how far an input was heard behind what came next of what was left
-abbrev pub IsBehind : Unheard → Next → Phase → Type 0
-IsBehind left next AtLine = ⊥
-IsBehind left next (BehindLine offered greeted) =
+abbrev pub IsPhaseBehind : Unheard → Next → Phase → Type 0
+IsPhaseBehind left next AtLine = ⊥
+IsPhaseBehind left next (BehindLine offered greeted) =
     ((ended : Ended) → next ≢ End ended) × (offered ≡ left.offered)
     × (greeted ≡ (left.greeted || is_hello next))
-IsBehind left next (Over ended) = next ≡ End ended
+IsPhaseBehind left next (Over ended) = next ≡ End ended
 
-pub record IsKept (t : Inside) : Type 0 where
+pub record IsKeptTalker (t : Inside) : Type 0 where
   pub counted : t.place + length t.waiting ≤ spent_len
   pub fits : length t.waiting ≤ LONGEST
   pub bytes : AreBytes t.waiting

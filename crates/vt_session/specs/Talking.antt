@@ -12,7 +12,7 @@ use Rattle.vt_session.specs.declared.parsed.Next.TheVariants.{End}
 use Rattle.vt_session.specs.declared.waiting.TheConstants.{LONGEST}
 use Rattle.vt_session.specs.Heard.{Item, end_of, Heard}
 use Rattle.vt_session.specs.Hearing.{Hearing, going_on, over, HearsOn, MatchNext}
-use Rattle.vt_session.specs.Parsed.{IsFront}
+use Rattle.vt_session.specs.Parsed.{IsFrontFrame}
 use Rattle.vt_session.specs.Talk.{spent_len}
 
 -- Where a server stands in an input that comes in. Less than the client's line came, and these are
@@ -77,10 +77,10 @@ abbrev pub IsOpen : Stage → Type 0
 IsOpen stage = HearsStage stage [] Closed ⊎ HearsStage stage [] Cut
 
 -- this comes next, whatever comes in behind: the first message, or the end
-abbrev pub IsNext : Stage → Next → Type 0
-IsNext (at_line bytes) next = ⊥
-IsNext (behind_line (going_on left)) next = (len : ℕ) × IsFront left next len
-IsNext (behind_line (over ended)) next = next ≡ End ended
+abbrev pub IsNextHeard : Stage → Next → Type 0
+IsNextHeard (at_line bytes) next = ⊥
+IsNextHeard (behind_line (going_on left)) next = (len : ℕ) × IsFrontFrame left next len
+IsNextHeard (behind_line (over ended)) next = next ≡ End ended
 
 -- it ends a session whatever comes in behind
 abbrev pub EndsAnyhow : Ended → Type 0

@@ -8,7 +8,7 @@ use Rattle.vt_base.specs.Protocol.{Operation, sync, RMessage, r_refused}
 use Rattle.vt_model.specs.History.{Accepted}
 use Rattle.vt_model.specs.Answer.{Outcome}
 use Rattle.vt_model.specs.Causes.{Cause, why_of}
-use Rattle.vt_wire.specs.Messages.{spelled}
+use Rattle.vt_wire.specs.Messages.{spelled_reply}
 use Rattle.vt_session.specs.Heard.{Item, settled, asked}
 
 -- An item and what was said to it: a settled reply; or what the store answered, of which the first
@@ -25,33 +25,33 @@ item_of_turn (failed tag operation number cause) = asked tag operation
 
 -- the bytes of the reply
 abbrev pub spelled_turn : Turn → List ℕ
-spelled_turn (told tag reply) = spelled tag reply
-spelled_turn (served tag operation number outcome) = spelled tag outcome.reply
-spelled_turn (failed tag operation number cause) = spelled tag (r_refused (why_of cause))
+spelled_turn (told tag reply) = spelled_reply tag reply
+spelled_turn (served tag operation number outcome) = spelled_reply tag outcome.reply
+spelled_turn (failed tag operation number cause) = spelled_reply tag (r_refused (why_of cause))
 
 -- ---- what a list of turns tells
 
-abbrev pub items_of : List Turn → List Item
-items_of turns = map item_of_turn turns
+abbrev pub items_of_turns : List Turn → List Item
+items_of_turns turns = map item_of_turn turns
 
 -- the server's line, and what it writes in order: the line, and each reply
 abbrev pub server_line : List ℕ
 server_line = codes "venti-02-rattle" ++ 10 ∷ []
 
-abbrev pub pieces_of : List Turn → List (List ℕ)
-pieces_of turns = server_line ∷ map spelled_turn turns
+abbrev pub said_pieces : List Turn → List (List ℕ)
+said_pieces turns = server_line ∷ map spelled_turn turns
 
 abbrev pub output_of : List Turn → List ℕ
 output_of turns = server_line ++ flat_map spelled_turn turns
 
 -- the blocks that were added, and their numbers
-abbrev pub added_by : Turn → List Accepted
-added_by (told tag reply) = []
-added_by (served tag operation number outcome) = option_to_list outcome.added
-added_by (failed tag operation number cause) = []
+abbrev pub added_by_turn : Turn → List Accepted
+added_by_turn (told tag reply) = []
+added_by_turn (served tag operation number outcome) = option_to_list outcome.added
+added_by_turn (failed tag operation number cause) = []
 
 abbrev pub added_of : List Turn → List Accepted
-added_of turns = flat_map added_by turns
+added_of turns = flat_map added_by_turn turns
 
 abbrev pub added_number : Turn → List ℕ
 added_number (told tag reply) = []

@@ -16,7 +16,7 @@ ghost use Rattle.vt_session.specs.Heard.{Item, Heard, Means, Unheard, HearsRest,
 ghost use Rattle.vt_session.specs.Hearing.{Hearing, HearsOn, behind_frame};
 ghost use Rattle.vt_model.specs.Causes.{Part, Cause, disk_fault, NoneFell, OneRose};
 ghost use Rattle.vt_session.specs.Turns.{Turn, served, spelled_turn};
-ghost use Rattle.vt_session.specs.Turns.{items_of, output_of, pieces_of, added_of, causes_of};
+ghost use Rattle.vt_session.specs.Turns.{items_of_turns, output_of, said_pieces, added_of, causes_of};
 ghost use Rattle.vt_session.specs.Turns.{added_numbers, synced_numbers};
 ghost use Rattle.vt_session.specs.Answered.{AnsweredBy, AnsweredAlone, CountsRise};
 ghost use Rattle.vt_session.specs.Answered.{Faults, no_faults, AreToldBy};
@@ -162,7 +162,7 @@ pub fn cut_output()
     ensures piece { (turns : List Turn) (output unsaid : List ℕ) →
         output_of turns ≡ output ++ unsaid →
         ((front : List Turn) × (behind : List Turn) × (turns ≡ front ++ behind)
-        × EndsInLast (pieces_of front) output) }
+        × EndsInLast (said_pieces front) output) }
     ensures session { (score : List ℕ → List ℕ) (c : Setup) (before after : History)
         (front behind : List Turn) →
         AnsweredAlone score c before (front ++ behind) after →
@@ -222,7 +222,7 @@ pub fn talks_go_on()
 /// the blocks that were added and their numbers, the numbers of syncs, and the causes of failures.
 pub fn turns_tell_in_order()
     ensures items { (turns more : List Turn) →
-        items_of (turns ++ more) ≡ items_of turns ++ items_of more }
+        items_of_turns (turns ++ more) ≡ items_of_turns turns ++ items_of_turns more }
     ensures output { (turns more : List Turn) →
         output_of (turns ++ more) ≡ output_of turns ++ flat_map spelled_turn more }
     ensures added { (turns more : List Turn) →
@@ -266,7 +266,7 @@ pub fn causes_join()
 pub fn write_fault_in_a_reply()
     ensures { (turns : List Turn) (turn : Turn) (said unsaid : List ℕ) →
         spelled_turn turn ≡ said ++ unsaid →
-        EndsInLast (pieces_of (turns ++ turn ∷ [])) (output_of turns ++ said) }
+        EndsInLast (said_pieces (turns ++ turn ∷ [])) (output_of turns ++ said) }
 {}
 
 /// A block that a write stored is held at each later operation, as at a sync.

@@ -8,7 +8,7 @@ ghost use Rattle.vt_session.specs.Heard.{end_of};
 
 use crate::Ended;
 use vt_base::Operation;
-use vt_wire::{Request, Rule, WireBad, decode, frame_len};
+use vt_wire::{ProtocolCause, Request, WireBad, decode, frame_len};
 
 /// The version that a session is held in.
 const VERSION: &[u8] = b"02";
@@ -26,7 +26,7 @@ pub enum Next<'a> {
     /// An operation behind it, and its tag.
     Ask(u8, Operation<'a>),
     /// The rule that a message breaks, and its tag.
-    Refused(Rule, u8),
+    Refused(ProtocolCause, u8),
     /// The end.
     End(Ended),
 }
@@ -57,13 +57,13 @@ pub(crate) struct Left<'a> {
 }
 
 impl<'a> Left<'a> {
-    ghost use Rattle.vt_session.specs.Parsed.{unheard, RulesGive, FrameGives, IsFront};
+    ghost use Rattle.vt_session.specs.Parsed.{unheard, RulesGive, FrameGives, IsFrontFrame};
 
     /// What the first frame left comes to, and how many bytes it has; None exactly where none is
     /// whole.
     pub(crate) fn front(&self) -> Option<(Next<'a>, usize)>
         ensures partial { IsNone result ↔ IsPartial self.now.bytes.now }
-        ensures front { IfSome result (λ it. IsFront (unheard self.now) it.0 it.1) }
+        ensures front { IfSome result (λ it. IsFrontFrame (unheard self.now) it.0 it.1) }
     {
         let len = frame_len(self.bytes)?;
         let next = self.next_of(&self.bytes[..len]);
@@ -78,8 +78,8 @@ impl<'a> Left<'a> {
         match decode(frame) {
             Ok((tag, request)) => self.next_by_rules(tag, request),
             Err(WireBad::Short) => Next::End(Ended::Malformed(self.place)),
-            Err(WireBad::Unknown(_)) => Next::Refused(Rule::UnknownMessage, frame[TAG_AT]),
-            Err(WireBad::Bad(_)) => Next::Refused(Rule::BadMessage, frame[TAG_AT]),
+            Err(WireBad::Unknown(_)) => Next::Refused(ProtocolCause::UnknownMessage, frame[TAG_AT]),
+            Err(WireBad::Bad(_)) => Next::Refused(ProtocolCause::BadMessage, frame[TAG_AT]),
         }
     }
 
@@ -89,10 +89,13 @@ impl<'a> Left<'a> {
     {
         match request {
             Request::Goodbye => Next::End(Ended::Goodbye),
-            Request::Hello { .. } if self.greeted => Next::Refused(Rule::HelloRepeated, tag),
+            Request::Hello { .. } if self.greeted => Next::Refused(
+                ProtocolCause::HelloRepeated,
+                tag,
+            ),
             Request::Hello { version } if self.offered && version == VERSION => Next::Hello(tag),
-            Request::Hello { .. } => Next::Refused(Rule::VersionNotAgreed, tag),
-            _ if !self.greeted => Next::Refused(Rule::HelloExpected, tag),
+            Request::Hello { .. } => Next::Refused(ProtocolCause::VersionNotAgreed, tag),
+            _ if !self.greeted => Next::Refused(ProtocolCause::HelloExpected, tag),
             Request::Ping => Next::Ping(tag),
             Request::Read { score, kind, count } => {
                 Next::Ask(tag, Operation::Read { score, kind, count })

@@ -3,9 +3,9 @@
 ghost use Rattle.std.specs.Prelude.{◌≡◌, ◌+◌, ◌≤◌, ◌↔◌, min, [], length, take, drop, IsTrue, IsNone, IfOk, IfSome};
 ghost use Rattle.vt_wire.specs.Lines.{line_of};
 ghost use Rattle.vt_session.specs.Talk.{spent_len};
-ghost use Rattle.vt_session.specs.Talking.{at_line, HearsStage, IsHeardStage, line_heard, fed, needs_more, IsOpen, IsNext, EndsAnyhow, Passes, room, ended_at};
+ghost use Rattle.vt_session.specs.Talking.{at_line, HearsStage, IsHeardStage, line_heard, fed, needs_more, IsOpen, IsNextHeard, EndsAnyhow, Passes, room, ended_at};
 ghost use Rattle.vt_session.specs.Parsed.{unheard};
-ghost use Rattle.vt_session.specs.Talker.{stage_of, HoldsIn, IsBehind};
+ghost use Rattle.vt_session.specs.Talker.{stage_of, HoldsIn, IsPhaseBehind};
 ghost use Rattle.vt_session.specs.declared.Ended.{Ended as EndedOf};
 ghost use Rattle.vt_session.specs.declared.parsed.Next.{Next as NextOf};
 
@@ -46,11 +46,11 @@ impl Model for Talker {
 
     ghost Value = { Talking };
 
-    ghost use Rattle.vt_session.specs.Talker.{talking_of, IsKept};
+    ghost use Rattle.vt_session.specs.Talker.{talking_of, IsKeptTalker};
 
     ghost view = { talking_of };
 
-    ghost invariant = { IsKept };
+    ghost invariant = { IsKeptTalker };
 }
 
 impl Talker {
@@ -120,7 +120,7 @@ impl Talker {
     /// passed. The client's line itself gives no item. Behind the last item it is the end.
     pub fn next(&self) -> Option<Next<'_>>
         ensures need { IsNone result ↔ IsTrue (needs_more self.now.stage) }
-        ensures next { IfSome result (IsNext self.now.stage) }
+        ensures next { IfSome result (IsNextHeard self.now.stage) }
         ensures end { (ended : EndedOf) → result ≡ Some (NextOf.End ended) → EndsAnyhow ended }
     {
         match self.phase {
@@ -141,7 +141,7 @@ impl Talker {
 
     /// Goes on behind what comes next. The end stays, and where more is needed nothing changes.
     pub fn pass(&mut self)
-        ensures passes { (next : NextOf) → IsNext self.old.stage next
+        ensures passes { (next : NextOf) → IsNextHeard self.old.stage next
             → Passes next self.old.stage self.new.stage }
         ensures stays { IsTrue (needs_more self.old.stage) → self.new ≡ self.old }
         ensures taken { self.new.taken ≡ self.old.taken }
@@ -201,7 +201,7 @@ fn hear_line(waiting: &mut Waiting) -> (Phase, usize)
 
 /// How far the input was heard behind what comes next.
 fn phase_behind(left: &Left<'_>, next: &Next<'_>) -> Phase
-    ensures { IsBehind (unheard left.now) next.now result }
+    ensures { IsPhaseBehind (unheard left.now) next.now result }
 {
     match *next {
         Next::End(ended) => Phase::Over(ended),

@@ -4,7 +4,7 @@ ghost use Rattle.std.specs.Prelude.{◌≡◌, ◌+◌, ◌≤◌, [], ◌++◌,
 
 use std::alloc::{AllocError, Global};
 use std::marker::Model;
-use vt_fields::put;
+use vt_base::fields::put;
 
 /// How many bytes the longest frame has, its size field with it.
 pub const LONGEST: usize = 65_537;

@@ -6,14 +6,14 @@ use Rattle.vt_base.specs.declared.place.Entry.{Entry}
 use Rattle.vt_base.specs.declared.place.Info.{Info}
 use Rattle.vt_disk.specs.Members.{DiskOf}
 use Rattle.vt_icache.specs.Index.{IndexState, entry_of}
-use Rattle.vt_isect.specs.Agreement.{IsOfBlock, HasBlock, IsInBucket, KnownAgrees}
+use Rattle.vt_isect.specs.Agreement.{IsEntryOfBlock, HasBlock, IsInBucket, KnownAgrees}
 use Rattle.vt_isect.specs.Entries.{EntriesState}
 use Rattle.vt_isect.specs.Layout.{InRange}
 use Rattle.vt_isect.specs.Merging.{HasKey}
 use Rattle.vt_isect.specs.Section.{SectionState, IsOfGroup, IsTodo, bucket_number, entries_of}
-use Rattle.vt_isect.specs.Sound.{Known, DiskHolds}
-use Rattle.vt_isect.specs.Writeback.{Advances, Completes, Follows, Keeps, WritesBack}
-use Rattle.vt_isect.specs.declared.bad.ShardErr.{ShardErr}
+use Rattle.vt_isect.specs.Sound.{KnownBuckets, DiskHolds}
+use Rattle.vt_isect.specs.Writeback.{SectionAdvances, Completes, Follows, KeepsDiskSound, WritesEntryBack}
+use Rattle.vt_isect.specs.declared.error.ShardErr.{ShardErr}
 use Rattle.vt_isect.specs.declared.phase.Phase.TheVariants.{Rest}
 use Rattle.vt_isect.proofs.Crowd.{one_entry}
 use Rattle.vt_isect.proofs.KnownAgrees.{agrees_idle}
@@ -22,7 +22,7 @@ use Rattle.vt_model.specs.History.{History}
 use Rattle.vt_model.specs.Places.{Setup, bucket_of}
 use Rattle.vt_twin.specs.declared.step.Step.{Step}
 use Rattle.vt_shard.specs.Shard.{ShardState, ReadBucket, IsDirty, IsUnderWay, IsWell, bucket_at}
-use Rattle.vt_shard.specs.Sound.{IsBucketOf, IsFiled, IsSoundFrom}
+use Rattle.vt_shard.specs.Sound.{IsBucketOf, IsEntryFiled, IsSoundFrom}
 use Rattle.vt_shard.specs.Writeback.{SettlesAll, written_back}
 use Rattle.vt_shard.proofs.Blocks.{of_block_of_front, its_bucket}
 use Rattle.vt_shard.proofs.IsSoundFrom.{known_at}
@@ -39,20 +39,20 @@ pub record MovesOn {D : Type 0} (t : ShardState D) (v : SectionState D) (index :
     : Type 0 where
   pub fewer : (info : Info) → Contains index.dirty info → Contains t.index.dirty info
   pub gone : (info : Info) → Contains t.index.dirty info
-      → Contains index.dirty info ⊎ WritesBack t.section v (entry_of info)
-  pub went : (info : Info) (entry : Entry) → Contains index.dirty info → WritesBack t.section v entry → entry.key ≢ info.key
-  pub clean : (entry : Entry) → Contains index.clean entry → Contains t.index.clean entry ⊎ WritesBack t.section v entry
+      → Contains index.dirty info ⊎ WritesEntryBack t.section v (entry_of info)
+  pub went : (info : Info) (entry : Entry) → Contains index.dirty info → WritesEntryBack t.section v entry → entry.key ≢ info.key
+  pub clean : (entry : Entry) → Contains index.clean entry → Contains t.index.clean entry ⊎ WritesEntryBack t.section v entry
   pub read : (read : ReadBucket) → bucket ≡ Some read → (t.bucket ≡ Some read)
-      × ((entry : Entry) → WritesBack t.section v entry → bucket_number t.section entry ≢ read.number)
+      × ((entry : Entry) → WritesEntryBack t.section v entry → bucket_number t.section entry ≢ read.number)
 
 module _ {D : Type 0} (score : List ℕ → List ℕ) (c : Setup) (disk : DiskOf D) (t : ShardState D) (h : History) (durable from : ℕ)
     (s : IsSoundFrom score c disk t h durable from)
-    (result : Result Step ShardErr) (v : SectionState D) (steps : Advances result t.section v)
-    (keeps : Keeps disk result t.section v)
-    (wrote : (entry : Entry) → WritesBack t.section v entry
+    (result : Result Step ShardErr) (v : SectionState D) (steps : SectionAdvances result t.section v)
+    (keeps : KeepsDiskSound disk result t.section v)
+    (wrote : (entry : Entry) → WritesEntryBack t.section v entry
     ↔ (Completes result t.section (bucket_number t.section entry) × IsOfGroup t.section (bucket_number t.section entry) entry))
-    (some : (n : ℕ) → Completes result t.section n → (entry : Entry) × WritesBack t.section v entry × (bucket_number t.section entry ≡ n))
-    (within : (entry : Entry) → WritesBack t.section v entry → InRange t.section.head t.section.buckets (bucket_number t.section entry))
+    (some : (n : ℕ) → Completes result t.section n → (entry : Entry) × WritesEntryBack t.section v entry × (bucket_number t.section entry ≡ n))
+    (within : (entry : Entry) → WritesEntryBack t.section v entry → InRange t.section.head t.section.buckets (bucket_number t.section entry))
     (index : IndexState) (bucket : Option ReadBucket) (writeback ended_at : Option ℕ) (moves : MovesOn t v index bucket) where
   abbrev pub stepped : SectionState D → ShardState D
   stepped section = record t { section = section; index = index; bucket = bucket; writeback = writeback; ended_at = ended_at }
@@ -64,7 +64,7 @@ module _ {D : Type 0} (score : List ℕ → List ℕ) (c : Setup) (disk : DiskOf
   one_list a b e = cc
 
   -- an entry that was put into a bucket is that of a block
-  of_written : (entry : Entry) → WritesBack t.section v entry → IsOfBlock score c h entry
+  of_written : (entry : Entry) → WritesEntryBack t.section v entry → IsEntryOfBlock score c h entry
   of_written entry it =
       let done = (wrote entry).0 it in
       let todo : IsTodo t.section entry = (
@@ -73,11 +73,11 @@ module _ {D : Type 0} (score : List ℕ → List ℕ) (c : Setup) (disk : DiskOf
       ) in
       of_block_of_front score c h durable entry (s.agrees.todo entry todo)
 
-  module _ (knows : Known) (follows : Follows result t.section v s.known knows)
+  module _ (knows : KnownBuckets) (follows : Follows result t.section v s.known knows)
       (later : KnownAgrees score c (take durable h) v knows) where
     -- an entry that was in its bucket, or came into it, is there
     still_there : (n : ℕ) (entry : Entry) (old : List Entry) → InRange t.section.head t.section.buckets n → s.known n ≡ Some old
-        → IsOfBlock score c h entry → bucket_number t.section entry ≡ n → (Contains old entry ⊎ WritesBack t.section v entry)
+        → IsEntryOfBlock score c h entry → bucket_number t.section entry ≡ n → (Contains old entry ⊎ WritesEntryBack t.section v entry)
         → (entries : List Entry) × (knows n ≡ Some entries) × Contains entries entry
     still_there n entry old within was of at there = ⊎_elim
         (λ (done : Completes result t.section n).
@@ -87,13 +87,13 @@ module _ {D : Type 0} (score : List ℕ → List ℕ) (c : Setup) (disk : DiskOf
         let its = of_block_of_front score c h durable other.0 (later.blocks n new.0 other.0 (forth t.section v same n within) new.1 other.1).0 in
         let is_one = one_entry score c h its.0 of.0 other.0 entry s.keys its.1 of.1 other.2 in
         (new.0, new.1, subst (Contains new.0) is_one.1 other.1) in
-        ⊎_elim (λ (has : Contains old entry). put (inl has)) (λ (came : WritesBack t.section v entry). put (inr (((wrote entry).0 came).1.0, at))) there)
+        ⊎_elim (λ (has : Contains old entry). put (inl has)) (λ (came : WritesEntryBack t.section v entry). put (inr (((wrote entry).0 came).1.0, at))) there)
         (λ (not_done : ¬ Completes result t.section n). (
           old,
           follows.kept n (first_same t.section v same) not_done ∙ was,
           ⊎_elim
               (λ (has : Contains old entry). has)
-              (λ (came : WritesBack t.section v entry).
+              (λ (came : WritesEntryBack t.section v entry).
               absurd (not_done (subst (λ (k : ℕ). Completes result t.section k) at ((wrote entry).0 came).0)))
               there,
         ))
@@ -107,7 +107,7 @@ module _ {D : Type 0} (score : List ℕ → List ℕ) (c : Setup) (disk : DiskOf
         let it = s.has n i old.0 here old.1 le at in
         let number : bucket_number t.section it.0 ≡ n =
         ap (λ (k : ℕ). bucket_of k it.0.key.score.0) s.agrees.total ∙ its_bucket score c h n i it.0 it.2 at in
-        let found : (Contains old.0 it.0 ⊎ WritesBack t.section v it.0)
+        let found : (Contains old.0 it.0 ⊎ WritesEntryBack t.section v it.0)
         → HasBlock score c h (λ entry. Contains entries entry ⊎ IsDirty (stepped v) entry) i = λ there.
         let now = still_there n it.0 old.0 here old.1 (i, it.2) number there in
         let same_list : now.0 ≡ entries = one_list now.0 entries (sym now.1 ∙ is) in
@@ -116,15 +116,15 @@ module _ {D : Type 0} (score : List ℕ → List ℕ) (c : Setup) (disk : DiskOf
         (λ (has : Contains old.0 it.0). found (inl has))
         (λ (dirty : IsDirty t it.0). ⊎_elim
         (λ (stays_dirty : Contains index.dirty dirty.0). (it.0, inr (dirty.0, stays_dirty, dirty.2), it.2))
-        (λ (came : WritesBack t.section v (entry_of dirty.0)).
-        found (inr (subst (λ (e : Entry). WritesBack t.section v e) dirty.2 came)))
+        (λ (came : WritesEntryBack t.section v (entry_of dirty.0)).
+        found (inr (subst (λ (e : Entry). WritesEntryBack t.section v e) dirty.2 came)))
         (moves.gone dirty.0 dirty.1))
         it.1
 
-    clean_still : (entry : Entry) → Contains index.clean entry → IsFiled (stepped v) knows entry
+    clean_still : (entry : Entry) → Contains index.clean entry → IsEntryFiled (stepped v) knows entry
     clean_still entry it =
         let made : (n : ℕ) → bucket_number t.section entry ≡ n → InRange t.section.head t.section.buckets n
-        → (entries : List Entry) × (knows n ≡ Some entries) × Contains entries entry → IsFiled (stepped v) knows entry = λ n number within now.
+        → (entries : List Entry) × (knows n ≡ Some entries) × Contains entries entry → IsEntryFiled (stepped v) knows entry = λ n number within now.
         let number_is : n ≡ bucket_of v.head.total entry.key.score.0 =
         sym number ∙ ap (λ (k : ℕ). bucket_of k entry.key.score.0) (sym (total_same t.section v same)) in
         record {
@@ -138,7 +138,7 @@ module _ {D : Type 0} (score : List ℕ → List ℕ) (c : Setup) (disk : DiskOf
         let filed = s.clean entry was in
         let of = of_block_of_front score c h durable entry (s.agrees.blocks _ filed.entries entry filed.in_range filed.known_is filed.has).0 in
         made _ refl filed.in_range (still_there _ entry filed.entries filed.in_range filed.known_is of refl (inl filed.has)))
-        (λ (came : WritesBack t.section v entry).
+        (λ (came : WritesEntryBack t.section v entry).
         let in_range = within entry came in
         let old = known_at score c disk t h durable from s _ in_range in
         made _ refl in_range (still_there _ entry old.0 in_range old.1 (of_written entry came) refl (inr came)))
@@ -204,17 +204,17 @@ module _ {D : Type 0} (score : List ℕ → List ℕ) (c : Setup) (disk : DiskOf
 module _ {D : Type 0} (score : List ℕ → List ℕ) (c : Setup) (disk : DiskOf D) (t : ShardState D) (h : History) (durable from : ℕ)
     (s : IsSoundFrom score c disk t h durable from) (list : Option ℕ) (waiting : List ℕ) (w : IsWell t list waiting)
     (below : ℕ) (under : t.writeback ≡ Some below)
-    (result : Result Step ShardErr) (v : SectionState D) (steps : Advances result t.section v)
-    (keeps : Keeps disk result t.section v)
-    (wrote : (entry : Entry) → WritesBack t.section v entry
+    (result : Result Step ShardErr) (v : SectionState D) (steps : SectionAdvances result t.section v)
+    (keeps : KeepsDiskSound disk result t.section v)
+    (wrote : (entry : Entry) → WritesEntryBack t.section v entry
     ↔ (Completes result t.section (bucket_number t.section entry) × IsOfGroup t.section (bucket_number t.section entry) entry)) where
   it : IsUnderWay t below
   it = under_way_of t list waiting w below under
 
-  each : (entry : Entry) → WritesBack t.section v entry → InRange t.section.head t.section.buckets (bucket_number t.section entry)
+  each : (entry : Entry) → WritesEntryBack t.section v entry → InRange t.section.head t.section.buckets (bucket_number t.section entry)
   each entry came = written_within t below it result v steps w.in_range entry came
 
-  one : (n : ℕ) → Completes result t.section n → (entry : Entry) × WritesBack t.section v entry × (bucket_number t.section entry ≡ n)
+  one : (n : ℕ) → Completes result t.section n → (entry : Entry) × WritesEntryBack t.section v entry × (bucket_number t.section entry ≡ n)
   one n completes = some_written t below it result v steps n completes
 
   -- the disk is sound with the section as it is then, of which at rest the list is taken back

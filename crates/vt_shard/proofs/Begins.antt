@@ -9,7 +9,7 @@ use Rattle.vt_base.specs.declared.place.Entry.{Entry}
 use Rattle.vt_base.specs.declared.place.Info.{Info}
 use Rattle.vt_disk.specs.Members.{DiskOf}
 use Rattle.vt_icache.specs.Index.{entry_of, entries_below}
-use Rattle.vt_isect.specs.Agreement.{IsEntryOf, IsOfBlock, IsCovered, NoOthers, KnownAgrees}
+use Rattle.vt_isect.specs.Agreement.{IsEntryOf, IsEntryOfBlock, IsMarkCovered, NoOthers, KnownAgrees}
 use Rattle.vt_isect.specs.Entries.{EntriesState}
 use Rattle.vt_isect.specs.Layout.{InRange}
 use Rattle.vt_isect.specs.Section.{SectionState, PutsEntries, entries_of}
@@ -35,7 +35,7 @@ module _ {D : Type 0} (score : List ℕ → List ℕ) (c : Setup) (disk : DiskOf
 
   -- they are those of durable blocks
   pub below_durable : (below : ℕ) → below ≤ durable → (entry : Entry) → Contains (entries_below below t.index.dirty) entry
-      → IsOfBlock score c (take durable h) entry
+      → IsEntryOfBlock score c (take durable h) entry
   below_durable below le entry it =
       let one = from_below below t.index.dirty entry it in
       let lt = one.2 in
@@ -46,7 +46,7 @@ module _ {D : Type 0} (score : List ℕ → List ℕ) (c : Setup) (disk : DiskOf
       )
 
   -- the mark stays covered
-  pub bare_covered : (entries : List Entry) → IsCovered score c (take durable h) t.section s.known (Contains entries) t.section.head.mark
+  pub bare_covered : (entries : List Entry) → IsMarkCovered score c (take durable h) t.section s.known (Contains entries) t.section.head.mark
   bare_covered entries =
       let cover = s.agrees.filed s.live in
       record {
@@ -58,7 +58,7 @@ module _ {D : Type 0} (score : List ℕ → List ℕ) (c : Setup) (disk : DiskOf
 
   -- and so is that of the durable blocks, where no block lacks its entry
   pub file_covered : from ≡ 0 → (below : ℕ) → below ≤ durable
-      → IsCovered score c (take durable h) t.section s.known (Contains (entries_below below t.index.dirty)) (max t.section.head.mark below)
+      → IsMarkCovered score c (take durable h) t.section s.known (Contains (entries_below below t.index.dirty)) (max t.section.head.mark below)
   file_covered all below le =
       let cover = s.agrees.filed s.live in
       let fits = cover.fits in
@@ -89,13 +89,13 @@ module _ {D : Type 0} (score : List ℕ → List ℕ) (c : Setup) (disk : DiskOf
   -- either mark stays covered
   pub either_covered : (below mark : ℕ) → below ≤ durable
       → (mark ≡ t.section.head.mark) ⊎ ((from ≡ 0) × (mark ≡ max t.section.head.mark below))
-      → IsCovered score c (take durable h) t.section s.known (Contains (entries_below below t.index.dirty)) mark
+      → IsMarkCovered score c (take durable h) t.section s.known (Contains (entries_below below t.index.dirty)) mark
   either_covered below mark le which = ⊎_elim
       (λ (bare : mark ≡ t.section.head.mark).
-      subst (λ (m : ℕ). IsCovered score c (take durable h) t.section s.known (Contains (entries_below below t.index.dirty)) m) (sym bare)
+      subst (λ (m : ℕ). IsMarkCovered score c (take durable h) t.section s.known (Contains (entries_below below t.index.dirty)) m) (sym bare)
       (bare_covered (entries_below below t.index.dirty)))
       (λ (file : (from ≡ 0) × (mark ≡ max t.section.head.mark below)).
-      subst (λ (m : ℕ). IsCovered score c (take durable h) t.section s.known (Contains (entries_below below t.index.dirty)) m) (sym file.1)
+      subst (λ (m : ℕ). IsMarkCovered score c (take durable h) t.section s.known (Contains (entries_below below t.index.dirty)) m) (sym file.1)
       (file_covered file.0 below le))
       which
 

@@ -11,7 +11,7 @@ use Rattle.vt_model.specs.Legal.{HasOtherKey}
 use Rattle.vt_model.specs.Places.{Setup, Spot, StandsAt, offset_behind, lengths_in, bucket_of, bucket_count}
 use Rattle.vt_model.proofs.Lists.{AllPairs-front}
 use Rattle.vt_model.proofs.Spots.{slice_get-append, place_of-append}
-use Rattle.vt_isect.specs.Agreement.{IsEntryOf, IsOfBlock, HasBlock, IsInBucket}
+use Rattle.vt_isect.specs.Agreement.{IsEntryOf, IsEntryOfBlock, HasBlock, IsInBucket}
 use Rattle.vt_isect.proofs.Crowd.{one_entry}
 use Rattle.vt_shard.specs.Search.{HasKeyOf, IsLumpOf}
 
@@ -96,7 +96,7 @@ module _ (score : List ℕ → List ℕ) (c : Setup) (h : History) (n : ℕ) whe
   pub entry_of_front : (i : ℕ) (entry : Entry) → IsEntryOf score c (take n h) i entry → IsEntryOf score c h i entry
   entry_of_front i entry is = subst (λ (g : History). IsEntryOf score c g i entry) whole (entry_longer score c (take n h) (drop n h) i entry is)
 
-  pub of_block_of_front : (entry : Entry) → IsOfBlock score c (take n h) entry → IsOfBlock score c h entry
+  pub of_block_of_front : (entry : Entry) → IsEntryOfBlock score c (take n h) entry → IsEntryOfBlock score c h entry
   of_block_of_front entry is = (is.0, entry_of_front is.0 entry is.1)
 
   pub entry_in_front : (i : ℕ) (entry : Entry) → i < length (take n h) → IsEntryOf score c h i entry → IsEntryOf score c (take n h) i entry
@@ -155,7 +155,7 @@ score_of score c h i s entry has is =
 
 -- an entry of a key is that of the block that has it
 pub its_entry : (score : List ℕ → List ℕ) (c : Setup) (h : History) → AllPairs (HasOtherKey score) h
-    → (i : ℕ) (key : Key) (entry : Entry) → HasKeyOf score h i key → IsOfBlock score c h entry → entry.key ≡ key
+    → (i : ℕ) (key : Key) (entry : Entry) → HasKeyOf score h i key → IsEntryOfBlock score c h entry → entry.key ≡ key
     → IsEntryOf score c h i entry
 its_entry score c h keys i key entry has of is =
     let spot = spot_of c h i has.block has.stands in

@@ -11,26 +11,26 @@ use Rattle.vt_base.specs.Key.{same_key}
 use Rattle.vt_base.specs.declared.key.Key.{Key}
 use Rattle.vt_base.specs.declared.place.Entry.{Entry}
 use Rattle.vt_base.specs.declared.place.Info.{Info}
-use Rattle.vt_bucket.specs.Buckets.{number_of, entries_of as entries_in}
+use Rattle.vt_bucket.specs.Buckets.{number_of_bucket, bucket_entries}
 use Rattle.vt_bucket.specs.declared.Bucket.{Bucket}
 use Rattle.vt_bucket.specs.Order.{IsAscending}
 use Rattle.vt_bucket.proofs.Entries.{other_keys}
 use Rattle.vt_disk.specs.Calls.{OnlyReads}
 use Rattle.vt_disk.specs.Members.{DiskOf}
-use Rattle.vt_icache.specs.Index.{IndexState, IsKept, entry_of, is_info_of, is_entry_of, dirty_info, clean_entry, entry_in, after_look_up, recent, without}
+use Rattle.vt_icache.specs.Index.{IndexState, IsCached, entry_of, is_info_of, is_entry_of, dirty_info, clean_entry, cached_entry, after_look_up, recent, without_first}
 use Rattle.vt_icache.proofs.Found.{find_some, find_none}
 use Rattle.vt_icache.proofs.Pairs.{equal_keys, same_as_itself}
-use Rattle.vt_isect.specs.Agreement.{IsOfBlock, HasBlock, IsInBucket}
+use Rattle.vt_isect.specs.Agreement.{IsEntryOfBlock, HasBlock, IsInBucket}
 use Rattle.vt_isect.specs.Layout.{InRange}
-use Rattle.vt_isect.specs.declared.bad.ShardErr.{ShardErr}
+use Rattle.vt_isect.specs.declared.error.ShardErr.{ShardErr}
 use Rattle.vt_isect.specs.declared.head.Head.{Head}
 use Rattle.vt_isect.proofs.Crowd.{blocks_all, blocks_most}
 use Rattle.vt_model.specs.History.{History}
 use Rattle.vt_model.specs.Places.{Setup, bucket_of, bucket_count, crowd}
 use Rattle.vt_shard.specs.Looking.{Looks}
-use Rattle.vt_shard.specs.Search.{Finds, FindsScore, HasKeyOf, IsOneOf, KeepsScore}
+use Rattle.vt_shard.specs.Search.{FindsEntry, FindsScore, HasKeyOf, IsOneOf, KeepsScore}
 use Rattle.vt_shard.specs.Shard.{ShardState, ReadBucket, IsDirty, HasRead, HasScore, bucket_at, dirty_in, read_bucket}
-use Rattle.vt_shard.specs.Sound.{IsFiled, IsSoundFrom, IsSoundWithout}
+use Rattle.vt_shard.specs.Sound.{IsEntryFiled, IsSoundFrom, IsSoundWithout}
 use Rattle.vt_shard.proofs.Blocks.{of_block_of_front, in_bucket_of, key_of, score_of, its_entry, its_bucket}
 use Rattle.vt_shard.proofs.IsSoundFrom.{known_at, no_more}
 use Rattle.vt_shard.proofs.Lists.{AreApart, apart_append, entries_apart, filter_apart, from_filter, to_filter, from_map, to_map, map_length}
@@ -45,22 +45,22 @@ read_of t n has = by t.bucket refl has
     by (Some bucket) is it = (bucket, is, it)
 
 pub number_of_read : (o : Option Bucket) (n : ℕ) → MatchOption (read_bucket o) ⊥ (λ bucket. bucket.number ≡ n)
-    → option_map (λ b. number_of b) o ≡ Some n
+    → option_map (λ b. number_of_bucket b) o ≡ Some n
 number_of_read None n is = absurd is
 number_of_read (Some b) n is = ap (λ (k : ℕ). Some k) is
 
-pub entries_of_read : (o : Option Bucket) (bucket : ReadBucket) → read_bucket o ≡ Some bucket → option_map_or entries_in o [] ≡ bucket.entries
+pub entries_of_read : (o : Option Bucket) (bucket : ReadBucket) → read_bucket o ≡ Some bucket → option_map_or bucket_entries o [] ≡ bucket.entries
 entries_of_read None bucket is = absurd (cc)
-entries_of_read (Some b) bucket is = ap (λ (x : ReadBucket). x.entries) (one_bucket (record { number = number_of b; entries = entries_in b }) bucket is)
+entries_of_read (Some b) bucket is = ap (λ (x : ReadBucket). x.entries) (one_bucket (record { number = number_of_bucket b; entries = bucket_entries b }) bucket is)
   where
     one_bucket : (x y : ReadBucket) → Some x ≡ Some y → x ≡ y
     one_bucket x y e = cc
 
 pub len_of_read : (o : Option Bucket) (bucket : ReadBucket) → read_bucket o ≡ Some bucket
-    → option_map_or (λ b. length (entries_in b)) o 0 ≡ length bucket.entries
+    → option_map_or (λ b. length (bucket_entries b)) o 0 ≡ length bucket.entries
 len_of_read None bucket is = absurd (cc)
 len_of_read (Some b) bucket is =
-    ap (λ (x : ReadBucket). length x.entries) (one_bucket (record { number = number_of b; entries = entries_in b }) bucket is)
+    ap (λ (x : ReadBucket). length x.entries) (one_bucket (record { number = number_of_bucket b; entries = bucket_entries b }) bucket is)
   where
     one_bucket : (x y : ReadBucket) → Some x ≡ Some y → x ≡ y
     one_bucket x y e = cc
@@ -121,32 +121,32 @@ module _ {D : Type 0} (score : List ℕ → List ℕ) (c : Setup) (disk : DiskOf
     (s : IsSoundFrom score c disk t h durable from) where
   -- ---- entries in memory
 
-  dirty_found : (info : Info) → Contains t.index.dirty info → IsOfBlock score c h (entry_of info)
+  dirty_found : (info : Info) → Contains t.index.dirty info → IsEntryOfBlock score c h (entry_of info)
   dirty_found info it = (info.number, s.dirty info it)
 
   bucket_found : (n : ℕ) (entries : List Entry) (entry : Entry) → InRange t.section.head t.section.buckets n → s.known n ≡ Some entries
-      → Contains entries entry → IsOfBlock score c h entry
+      → Contains entries entry → IsEntryOfBlock score c h entry
   bucket_found n entries entry within is it = of_block_of_front score c h durable entry (s.agrees.blocks n entries entry within is it).0
 
-  clean_found : (entry : Entry) → Contains t.index.clean entry → IsOfBlock score c h entry
+  clean_found : (entry : Entry) → Contains t.index.clean entry → IsEntryOfBlock score c h entry
   clean_found entry it =
       let filed = s.clean entry it in
       bucket_found _ filed.entries entry filed.in_range filed.known_is filed.has
 
-  pub kept_found : (entry : Entry) → IsKept t.index entry → IsOfBlock score c h entry
+  pub kept_found : (entry : Entry) → IsCached t.index entry → IsEntryOfBlock score c h entry
   kept_found entry kept = ⊎_elim
       (λ (dirty : (info : Info) × Contains t.index.dirty info × (entry_of info ≡ entry)).
-      subst (λ (e : Entry). IsOfBlock score c h e) dirty.2 (dirty_found dirty.0 dirty.1))
+      subst (λ (e : Entry). IsEntryOfBlock score c h e) dirty.2 (dirty_found dirty.0 dirty.1))
       (λ (clean : Contains t.index.clean entry). clean_found entry clean)
       kept
 
   -- what is kept for a key, and where
   pub record Kept (key : Key) (entry : Entry) : Type 0 where
     pub key_is : entry.key ≡ key
-    pub of : IsOfBlock score c h entry
-    pub here : IsDirty t entry ⊎ IsFiled t s.known entry
+    pub of : IsEntryOfBlock score c h entry
+    pub here : IsDirty t entry ⊎ IsEntryFiled t s.known entry
 
-  pub in_memory : (key : Key) (entry : Entry) → entry_in key t.index ≡ Some entry → Kept key entry
+  pub in_memory : (key : Key) (entry : Entry) → cached_entry key t.index ≡ Some entry → Kept key entry
   in_memory key entry is = by (find (is_info_of key) t.index.dirty) refl is
     where
       by : (o : Option Info) → find (is_info_of key) t.index.dirty ≡ o → option_or (option_map entry_of o) (clean_entry key t.index) ≡ Some entry
@@ -163,7 +163,7 @@ module _ {D : Type 0} (score : List ℕ → List ℕ) (c : Setup) (disk : DiskOf
           let same : entry_of info ≡ entry = cc in
           record {
             key_is = ap (λ (x : Entry). x.key) (sym same) ∙ sym (equal_keys key info.key (passes (is_info_of key) t.index.dirty info some));
-            of = subst (λ (x : Entry). IsOfBlock score c h x) same (dirty_found info it);
+            of = subst (λ (x : Entry). IsEntryOfBlock score c h x) same (dirty_found info it);
             here = inl (info, it, same);
           }
 
@@ -176,7 +176,7 @@ module _ {D : Type 0} (score : List ℕ → List ℕ) (c : Setup) (disk : DiskOf
         entry,
         ⊎_elim
             (λ (dirty : IsDirty t entry). inr dirty)
-            (λ (filed : IsFiled t s.known entry).
+            (λ (filed : IsEntryFiled t s.known entry).
             let same : bucket_at t entry.key.score.0 ≡ n =
             ap (λ (k : ℕ). bucket_of k entry.key.score.0) s.agrees.total ∙ its_bucket score c h n i entry its at in
             let same_entries : filed.entries ≡ entries = one_list filed.entries entries (sym filed.known_is ∙ ap s.known same ∙ is) in
@@ -197,7 +197,7 @@ module _ {D : Type 0} (score : List ℕ → List ℕ) (c : Setup) (disk : DiskOf
 
   pub finds : (key : Key) (bucket : ReadBucket) (o : Option Entry) → HasScore t key.score.0 → dirty_info key t.index ≡ None
       → t.bucket ≡ Some bucket → bucket.number ≡ bucket_at t key.score.0 → IsOneOf bucket.entries (λ entry. entry.key ≡ key) o
-      → Finds score c h from key o
+      → FindsEntry score c h from key o
   finds key bucket None within none has number lacks = λ i le at_key.
       let n = bucket_at t key.score.0 in
       let own = known_at score c disk t h durable from s n within in
@@ -301,13 +301,13 @@ module _ {D : Type 0} (score : List ℕ → List ℕ) (c : Setup) (disk : DiskOf
       let was = from_filter p t.index.dirty it.0 it.1 in
       let bucket_is : bucket_at t it.0.key.score.0 ≡ n = (Decides-eqb (bucket_at t it.0.key.score.0) n).0 was.1 in
       s.unfiled it.0 own.0 was.0 (ap s.known bucket_is ∙ own.1) (a, at_a, is ∙ ap (λ (e : Entry). e.key) (sym it.2))) in
-      let of : (entry : Entry) → Contains both entry → IsOfBlock score c h entry × (bucket_of (bucket_count c) entry.key.score.0 ≡ n) =
+      let of : (entry : Entry) → Contains both entry → IsEntryOfBlock score c h entry × (bucket_of (bucket_count c) entry.key.score.0 ≡ n) =
       λ entry it. ⊎_elim
       (λ (filed : Contains own.0 entry). (bucket_found n own.0 entry within own.1 filed, (s.agrees.blocks n own.0 entry within own.1 filed).1))
       (λ (waits : Contains (map entry_of dirty) entry).
       let one = from_map entry_of dirty entry waits in
       let was = from_filter p t.index.dirty one.0 one.1 in (
-        subst (λ (e : Entry). IsOfBlock score c h e) one.2 (dirty_found one.0 was.0),
+        subst (λ (e : Entry). IsEntryOfBlock score c h e) one.2 (dirty_found one.0 was.0),
         ap (λ (e : Entry). bucket_of (bucket_count c) e.key.score.0) (sym one.2)
             ∙ ap (λ (k : ℕ). bucket_of k one.0.key.score.0) (sym s.agrees.total)
             ∙ (Decides-eqb (bucket_at t one.0.key.score.0) n).0 was.1,
@@ -340,25 +340,25 @@ module _ {D : Type 0} (score : List ℕ → List ℕ) (c : Setup) (disk : DiskOf
 
 -- ---- the index after a look-up
 
-without_from : {X : Type 0} (test : X → Bool) (xs : List X) (x : X) → Contains (without test xs) x → Contains xs x
+without_from : {X : Type 0} (test : X → Bool) (xs : List X) (x : X) → Contains (without_first test xs) x → Contains xs x
 without_from test [] x it = it
-without_from test (y ∷ xs) x it = (elim (test y) as (λ (b : Bool). Contains (cond b xs (y ∷ without test xs)) x → Contains (y ∷ xs) x) [
+without_from test (y ∷ xs) x it = (elim (test y) as (λ (b : Bool). Contains (cond b xs (y ∷ without_first test xs)) x → Contains (y ∷ xs) x) [
   | true ↦ λ at. Contains-tail y xs x at
   | false ↦ λ at. ⊎_elim
       (λ (same : y ≡ x). subst (Contains (y ∷ xs)) same (Contains-head y xs))
-      (λ (rest : Contains (without test xs) x). Contains-tail y xs x (without_from test xs x rest))
-      (Contains-cons y (without test xs) x at)
+      (λ (rest : Contains (without_first test xs) x). Contains-tail y xs x (without_from test xs x rest))
+      (Contains-cons y (without_first test xs) x at)
 ]) it
 
 recent_from : {X : Type 0} (test : X → Bool) (xs : List X) (x : X) → Contains (recent test xs) x → Contains xs x
 recent_from {X} test xs x = by (find test xs) refl
   where
-    by : (o : Option X) → find test xs ≡ o → Contains (option_map_or (λ y. y ∷ without test xs) o xs) x → Contains xs x
+    by : (o : Option X) → find test xs ≡ o → Contains (option_map_or (λ y. y ∷ without_first test xs) o xs) x → Contains xs x
     by None is it = it
     by (Some y) is it = ⊎_elim
         (λ (same : y ≡ x). subst (Contains xs) same (find_some test xs y is))
-        (λ (rest : Contains (without test xs) x). without_from test xs x rest)
-        (Contains-cons y (without test xs) x it)
+        (λ (rest : Contains (without_first test xs) x). without_from test xs x rest)
+        (Contains-cons y (without_first test xs) x it)
 
 pub looked_from : (key : Key) (s : IndexState) (entry : Entry) → Contains (after_look_up key s).clean entry → Contains s.clean entry
 looked_from key s entry = by (find (is_info_of key) s.dirty)

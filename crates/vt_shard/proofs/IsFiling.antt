@@ -4,7 +4,7 @@ use Rattle.std.specs.List.{Contains}
 use Rattle.std.proofs.lemmas.List.Elements.{Contains-push_cases}
 use Rattle.lru.proofs.Splits.{Contains-cons, Contains-head, Contains-nil, Contains-tail}
 use Rattle.vt_isect.specs.Section.{SectionState, HasBucket, HasGroup, entering, entries_of}
-use Rattle.vt_isect.specs.Writeback.{BeginsBucket, BeginsGroup, Joins, SameGroup}
+use Rattle.vt_isect.specs.Writeback.{BeginsBucket, BeginsGroup, JoinsGroup, SameGroup}
 use Rattle.vt_isect.specs.declared.groups.Member.{Member}
 use Rattle.vt_isect.proofs.IsRead.{read_whole}
 use Rattle.vt_shard.specs.Shard.{HasEntryOf, IsFiling}
@@ -76,7 +76,7 @@ module _ {D : Type 0} (t v : SectionState D) (entries : v.entries ≡ t.entries)
   }
 
   -- the bucket under way joins the group
-  module _ (s : ℕ) (joins : Joins s t v) (bucket : HasBucket t.phase) (framed : v.framed ≡ t.begun) where
+  module _ (s : ℕ) (joins : JoinsGroup s t v) (bucket : HasBucket t.phase) (framed : v.framed ≡ t.begun) where
     joined : (member : Member) → Contains v.group member → HasEntryOf t (drop t.written (take t.begun (entries_of t))) member.bucket
     joined member it = ⊎_elim
         (λ (was : Contains t.group member).

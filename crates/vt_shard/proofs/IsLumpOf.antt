@@ -5,7 +5,7 @@ use Rattle.lru.proofs.CallerLemmas.{Contains-take, Contains-lookup, Contains-pro
 use Rattle.vt_base.specs.declared.key.Key.{Key}
 use Rattle.vt_base.specs.Key.{same_key}
 use Rattle.vt_icache.proofs.Pairs.{equal_keys}
-use Rattle.vt_lumps.specs.Lumps.{LumpsState, bytes_of, used, kept, without_last}
+use Rattle.vt_lumps.specs.Lumps.{LumpsState, cached_bytes, used, with_lump, without_last}
 use Rattle.vt_model.specs.History.{History}
 use Rattle.vt_shard.specs.Search.{IsLumpOf}
 
@@ -21,7 +21,7 @@ module _ (score : List ℕ → List ℕ) (h : History) where
   right_dropped s right k bytes it = right k bytes (Contains-take (length s.entries - 1) s.entries (k, bytes) it)
 
   pub right_kept : (key : Key) (bytes : List ℕ) (s : LumpsState) → AreRight s → IsLumpOf score h key bytes
-      → AreRight (kept key bytes s)
+      → AreRight (with_lump key bytes s)
   right_kept key bytes s right new k b it = ⊎_elim
       (λ (was : Contains s.entries (k, b)). right k b was)
       (λ put. subst (λ (x : List ℕ). IsLumpOf score h k x) (sym put.0)
@@ -31,7 +31,7 @@ module _ (score : List ℕ → List ℕ) (h : History) where
       put.1)) new))
       (Contains-put_entries same_key s key bytes (k, b) it)
 
-  pub right_found : (key : Key) (s : LumpsState) (o : Option (Bor (List ℕ))) → AreRight s → option_copied o ≡ bytes_of key s
+  pub right_found : (key : Key) (s : LumpsState) (o : Option (Bor (List ℕ))) → AreRight s → option_copied o ≡ cached_bytes key s
       → IfSome o (λ bytes. IsLumpOf score h key bytes.now)
   right_found key s None right is = tt
   right_found key s (Some b) right is =
@@ -40,6 +40,6 @@ module _ (score : List ℕ → List ℕ) (h : History) where
 
   -- kept or not
   pub right_after : (key : Key) (bytes : List ℕ) (s new : LumpsState) (done : Bool) → AreRight s → IsLumpOf score h key bytes
-      → (done ≡ true → new ≡ kept key bytes s) → (done ≡ false → new ≡ s) → AreRight new
+      → (done ≡ true → new ≡ with_lump key bytes s) → (done ≡ false → new ≡ s) → AreRight new
   right_after key bytes s new true right is on off = subst AreRight (sym (on refl)) (right_kept key bytes s right is)
   right_after key bytes s new false right is on off = subst AreRight (sym (off refl)) right

@@ -1,17 +1,17 @@
 -- The head and the place of a section through a step of its writeback.
 use Rattle.std.proofs.Common.{◌≡◌, ◌≢◌, ◌⊎◌, inl, inr, ⊎_elim, ℕ, ◌+◌, ◌-◌, ◌<◌, ◌≤◌, length, Result, Ok, Err, refl, sym, ◌∙◌, ap, subst, arith}
 use Rattle.std.specs.Prelude.{OnOk}
-use Rattle.vt_isect.specs.Entries.{items_of}
+use Rattle.vt_isect.specs.Entries.{listed_entries}
 use Rattle.vt_isect.specs.Layout.{InRange}
 use Rattle.vt_isect.specs.Section.{SectionState, HasBucket, HasGroup, PutsEntries}
-use Rattle.vt_isect.specs.Writeback.{Advances, BeginsBehind, Completes, EndsWith, GoesOn, NextPhase, SameGroup, calls_left, most_calls}
-use Rattle.vt_isect.specs.declared.bad.ShardErr.{ShardErr}
-use Rattle.vt_isect.specs.declared.bad.ShardErr.TheVariants.{Fault, Damaged, Stopped}
+use Rattle.vt_isect.specs.Writeback.{SectionAdvances, BeginsBehind, Completes, EndsWith, SectionGoesOn, NextPhase, SameGroup, calls_left, most_calls}
+use Rattle.vt_isect.specs.declared.error.ShardErr.{ShardErr}
+use Rattle.vt_isect.specs.declared.error.ShardErr.TheVariants.{Fault, Damaged, Stopped}
 use Rattle.vt_isect.specs.declared.head.Head.{Head}
 use Rattle.vt_isect.proofs.IsRead.{read_apart, read_runs, read_whole}
 use Rattle.vt_isect.specs.declared.phase.Phase.{Phase}
 use Rattle.vt_isect.specs.declared.phase.Phase.TheVariants.{Rest, ReadSelector, ReadFrame, WriteFrame, SyncFrames, WriteSelector, SyncSelectors, ChangeHead}
-use Rattle.vt_twin.specs.Twin.{calls_made}
+use Rattle.vt_twin.specs.Twin.{twin_calls_made}
 use Rattle.vt_twin.specs.declared.step.Step.{Step}
 use Rattle.vt_twin.specs.declared.step.Step.TheVariants.{More, Done}
 use Rattle.vt_shard.specs.Shard.{IsFiling, OnlyMark}
@@ -35,7 +35,7 @@ module _ {D : Type 0} (t v : SectionState D) where
     entries = it.section.entries;
   }
 
-  goes : OnlyMark t.head t.next → GoesOn t v → Stays t v
+  goes : OnlyMark t.head t.next → SectionGoesOn t v → Stays t v
   goes only it = record {
     head = subst (λ (x : Head). OnlyMark t.head x) (sym it.head_is) refl;
     next = subst (λ (x : Head). OnlyMark x v.next) (sym it.head_is) (subst (λ (x : Head). OnlyMark t.head x) (sym it.next_is) only);
@@ -44,7 +44,7 @@ module _ {D : Type 0} (t v : SectionState D) where
     entries = it.section.entries;
   }
 
-  pub stays : (result : Result Step ShardErr) → OnlyMark t.head t.next → Advances result t v → Stays t v
+  pub stays : (result : Result Step ShardErr) → OnlyMark t.head t.next → SectionAdvances result t v → Stays t v
   stays (Ok More) only it = goes only it.0
   stays (Ok Done) only it = ends t.next only it.2
   stays (Err Fault) only it = ⊎_elim (λ end. ends t.head refl end.1) (λ stop. goes only stop.1) it
@@ -58,7 +58,7 @@ module _ {D : Type 0} (t v : SectionState D) where
   }
 
   -- the mark doesn't fall
-  pub marks : (result : Result Step ShardErr) → t.head.mark ≤ t.next.mark → Advances result t v
+  pub marks : (result : Result Step ShardErr) → t.head.mark ≤ t.next.mark → SectionAdvances result t v
       → (t.head.mark ≤ v.head.mark) × (v.head.mark ≤ v.next.mark)
   marks (Ok More) rises it =
       let head = ap (λ (x : Head). x.mark) it.0.head_is in
@@ -127,7 +127,7 @@ module _ {D : Type 0} (t v : SectionState D) where
           puts = λ has. subst PutsEntries (sym is) tt;
           filing = λ has filing. joins_filing t v entries head filing s next.0 (subst HasBucket (sym is) tt) begins.1.1
               (let lt = begins.1.2 in omega (arith, lt))
-              (subst (λ o. v.begun ≤ length (items_of o)) entries begins.1.3.within)
+              (subst (λ o. v.begun ≤ length (listed_entries o)) entries begins.1.3.within)
               (λ bucket. comes v t.begun begins.1)
               (λ whole. absurd (read_whole v.phase begins.1.0 whole));
         })
@@ -167,7 +167,7 @@ module _ {D : Type 0} (t v : SectionState D) where
         (λ has. absurd (subst HasGroup next.1 has)))
 
   -- a step puts the entries of the group into their buckets, or none
-  pub steps_on : (result : Result Step ShardErr) → v.phase ≢ Rest → Advances result t v → EndsGroup result ⊎ SameEntries
+  pub steps_on : (result : Result Step ShardErr) → v.phase ≢ Rest → SectionAdvances result t v → EndsGroup result ⊎ SameEntries
   steps_on (Ok More) on it = ⊎_elim
       (λ last. inl (refl, last.0, last.1))
       (λ same. inr same)
@@ -190,10 +190,10 @@ module _ {D : Type 0} (t v : SectionState D) where
   })
 
   -- behind the sync of a group's selectors the next entries are under way
-  pub completes_begins : (result : Result Step ShardErr) (n : ℕ) → Completes result t n → Advances result t v
+  pub completes_begins : (result : Result Step ShardErr) (n : ℕ) → Completes result t n → SectionAdvances result t v
       → BeginsBehind t.begun v
   completes_begins result n done steps =
-      let it = subst (λ (r : Result Step ShardErr). Advances r t v) done.0 steps in
+      let it = subst (λ (r : Result Step ShardErr). SectionAdvances r t v) done.0 steps in
       subst (λ (p : Phase). NextPhase p t v) done.1 it.2
 
   begins_busy : (from : ℕ) → BeginsBehind from v → v.phase ≢ Rest
@@ -203,7 +203,7 @@ module _ {D : Type 0} (t v : SectionState D) where
       begins
 
   -- where the writeback ends, as many entries are written
-  pub ends_same : (result : Result Step ShardErr) → v.phase ≡ Rest → t.phase ≢ Rest → Advances result t v → v.written ≡ t.written
+  pub ends_same : (result : Result Step ShardErr) → v.phase ≡ Rest → t.phase ≢ Rest → SectionAdvances result t v → v.written ≡ t.written
   ends_same (Ok More) rest was it = ⊎_elim
       (λ last. absurd (begins_busy t.begun last.1 rest))
       (λ same. same.written)
@@ -238,13 +238,13 @@ module _ {D : Type 0} (t v : SectionState D) where
   is_head ChangeHead = inl refl
 
   pub stays_few : (result : Result Step ShardErr) (most : ℕ) → 4 ≤ most → calls_left t ≤ most → OnOk result (calls_left v < calls_left t)
-      → Advances result t v → calls_left v ≤ most
+      → SectionAdvances result t v → calls_left v ≤ most
   stays_few (Ok step) most four few less it = omega (arith, few, less)
   stays_few (Err Fault) most four few less it = ⊎_elim
       (λ end. let none = none_left end.1.phase in omega (arith, none))
       (λ stop. ⊎_elim
       (λ (head : t.phase ≡ ChangeHead).
-      let e : calls_left v ≡ 4 - calls_made v.head_twin = ap (λ (p : Phase). most_calls p v) (stop.2 ∙ head) in
+      let e : calls_left v ≡ 4 - twin_calls_made v.head_twin = ap (λ (p : Phase). most_calls p v) (stop.2 ∙ head) in
       omega (arith, e, four))
       (λ (other : t.phase ≢ ChangeHead).
       let e : calls_left v ≡ calls_left t =

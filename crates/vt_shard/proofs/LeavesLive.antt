@@ -7,12 +7,12 @@ use Rattle.std.proofs.lemmas.List.{take-append-drop, take-append-le, take_all}
 use Rattle.std.proofs.lemmas.Option.{slice_get_within}
 use Rattle.vt_base.specs.declared.place.Entry.{Entry}
 use Rattle.vt_icache.specs.Index.{entry_of}
-use Rattle.vt_isect.specs.Agreement.{IsEntryOf, HasBlock, IsInBucket, IsCovered, NoOthers, AgreesWith, KnownAgrees, LeavesAgreeing}
+use Rattle.vt_isect.specs.Agreement.{IsEntryOf, HasBlock, IsInBucket, IsMarkCovered, NoOthers, AgreesWith, KnownAgrees, LeavesAgreeing}
 use Rattle.vt_isect.specs.Layout.{InRange, IsSection}
 use Rattle.vt_isect.specs.Section.{SectionState, IsTodo}
-use Rattle.vt_isect.specs.Sound.{Known}
-use Rattle.vt_isect.specs.Writeback.{Advances}
-use Rattle.vt_isect.specs.declared.bad.ShardErr.{ShardErr}
+use Rattle.vt_isect.specs.Sound.{KnownBuckets}
+use Rattle.vt_isect.specs.Writeback.{SectionAdvances}
+use Rattle.vt_isect.specs.declared.error.ShardErr.{ShardErr}
 use Rattle.vt_isect.specs.declared.head.Head.{Head}
 use Rattle.vt_isect.proofs.AgreesWith.{leaves_agree}
 use Rattle.vt_isect.proofs.Histories.{known_longer}
@@ -23,13 +23,13 @@ use Rattle.vt_model.specs.Places.{Setup, bucket_of, bucket_count}
 use Rattle.vt_disk.specs.Members.{DiskOf}
 use Rattle.vt_twin.specs.declared.step.Step.{Step}
 use Rattle.vt_shard.specs.Shard.{ShardState, HasScore, OnlyMark}
-use Rattle.vt_shard.specs.Sound.{IsSound, IsSoundFrom, IsLiveSection, LeavesLive}
+use Rattle.vt_shard.specs.Sound.{IsSoundShard, IsSoundFrom, IsLiveSection, LeavesLive}
 use Rattle.vt_shard.proofs.Blocks.{entry_longer, has_longer, lump_longer, bucket_before, keys_of_front, front_of_front, entry_of_front, bucket_in_front}
 use Rattle.vt_shard.proofs.IsSoundFrom.{no_more, from_other}
 use Rattle.vt_shard.proofs.KeepsPlace.{Stays, stays, state_same}
 
 -- what is known agrees with the first n blocks, for each n from the durable ones on
-pub agrees_further : {D : Type 0} (score : List ℕ → List ℕ) (c : Setup) (h : History) (t : SectionState D) (known : Known) (durable n : ℕ)
+pub agrees_further : {D : Type 0} (score : List ℕ → List ℕ) (c : Setup) (h : History) (t : SectionState D) (known : KnownBuckets) (durable n : ℕ)
     → AllPairs (HasOtherKey score) h → durable ≤ n
     → KnownAgrees score c (take durable h) t known → KnownAgrees score c (take n h) t known
 agrees_further score c h t known durable n keys le agrees =
@@ -41,7 +41,7 @@ agrees_further score c h t known durable n keys le agrees =
     (subst (λ (g : History). AllPairs (HasOtherKey score) g) (sym is) (keys_of_front score c h n keys)) agrees)
 
 -- what is left of a section in use, of which only the mark changes, is one
-pub live_from : {D : Type 0} (score : List ℕ → List ℕ) (c : Setup) (h : History) (t : SectionState D) (known : Known)
+pub live_from : {D : Type 0} (score : List ℕ → List ℕ) (c : Setup) (h : History) (t : SectionState D) (known : KnownBuckets)
     → t.head.state ≡ 1 → OnlyMark t.head t.next
     → (file : List ℕ) → LeavesAgreeing score c h t known file → IsLiveSection score c h t.name t.buckets t.head file
 live_from score c h t known live next file left =
@@ -74,7 +74,7 @@ module _ {D : Type 0} (score : List ℕ → List ℕ) (c : Setup) (disk : DiskOf
       (agrees_further score c h t.section s.known durable (length h) s.keys s.durable_fits s.agrees)
 
   -- what is left within a step of a writeback
-  pub step_live : (n : ℕ) (result : Result Step ShardErr) (v : SectionState D) (steps : Advances result t.section v) (knows : Known) (file : List ℕ)
+  pub step_live : (n : ℕ) (result : Result Step ShardErr) (v : SectionState D) (steps : SectionAdvances result t.section v) (knows : KnownBuckets) (file : List ℕ)
       → LeavesAgreeing score c (take n h) t.section s.known file ⊎ LeavesAgreeing score c (take n h) v knows file
       → LeavesLive score c (take n h) t file
   step_live n result v steps knows file = ⊎_elim
@@ -174,7 +174,7 @@ module _ {D : Type 0} (score : List ℕ → List ℕ) (c : Setup) (disk : DiskOf
       (λ n i entries within is low lt at. absurd (omega (arith, low, lt, le)))
 
   -- each block below the mark has its entry
-  pub none_lacks : from ≤ t.section.head.mark → IsSound score c disk t h durable
+  pub none_lacks : from ≤ t.section.head.mark → IsSoundShard score c disk t h durable
   none_lacks le = from_other score c disk t h durable from s 0 (λ n j entries within is low lt at.
       let cover = s.agrees.filed s.live in
       let fits = cover.fits in
@@ -213,14 +213,14 @@ module _ (score : List ℕ → List ℕ) (c : Setup) (base : ℕ) where
   has_its : (h : History) (entries : Entry → Type 0) (i : ℕ) → HasBlock score c h entries i → HasBlock score its h entries i
   has_its h entries i has = (has.0, has.1, entry_its h i has.0 has.2)
 
-  covered_its : {D : Type 0} (h : History) (t : SectionState D) (known : Known) (others : Entry → Type 0) (mark : ℕ)
-      → IsCovered score c h t known others mark → IsCovered score its h t known others mark
+  covered_its : {D : Type 0} (h : History) (t : SectionState D) (known : KnownBuckets) (others : Entry → Type 0) (mark : ℕ)
+      → IsMarkCovered score c h t known others mark → IsMarkCovered score its h t known others mark
   covered_its h t known others mark cover = record {
     fits = cover.fits;
     has = λ n i entries within is lt at. has_its h _ i (cover.has n i entries within is lt (bucket_back h n i at));
   }
 
-  known_its : {D : Type 0} (h : History) (t : SectionState D) (known : Known) → KnownAgrees score c h t known → KnownAgrees score its h t known
+  known_its : {D : Type 0} (h : History) (t : SectionState D) (known : KnownBuckets) → KnownAgrees score c h t known → KnownAgrees score its h t known
   known_its h t known agrees = record {
     keys = agrees.keys;
     total = agrees.total;

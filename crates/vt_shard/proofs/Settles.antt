@@ -11,7 +11,7 @@ use Rattle.lru.proofs.Splits.{Contains-head, Contains-tail, Contains-cons, Conta
 use Rattle.vt_base.specs.Key.{same_key}
 use Rattle.vt_base.specs.declared.place.Entry.{Entry}
 use Rattle.vt_base.specs.declared.place.Info.{Info}
-use Rattle.vt_icache.specs.Index.{IndexState, Settles, dirty_info, entry_of, is_entry_of, is_info_of, with_clean, without}
+use Rattle.vt_icache.specs.Index.{IndexState, SettlesEntry, dirty_info, entry_of, is_entry_of, is_info_of, with_clean, without_first}
 use Rattle.vt_icache.proofs.Found.{find_some, find_none}
 use Rattle.vt_icache.proofs.Pairs.{equal_keys, same_as_itself}
 use Rattle.vt_shard.specs.Shard.{IsDirtyBelow}
@@ -20,28 +20,28 @@ use Rattle.vt_shard.proofs.Lists.{AreApart, apart_permuted, apart_parts, apart_b
 
 -- ---- clean entries
 
-without_from : {X : Type 0} (test : X → Bool) (xs : List X) (x : X) → Contains (without test xs) x → Contains xs x
+without_from : {X : Type 0} (test : X → Bool) (xs : List X) (x : X) → Contains (without_first test xs) x → Contains xs x
 without_from test [] x it = it
-without_from test (y ∷ xs) x it = (elim (test y) as (λ (b : Bool). Contains (cond b xs (y ∷ without test xs)) x → Contains (y ∷ xs) x) [
+without_from test (y ∷ xs) x it = (elim (test y) as (λ (b : Bool). Contains (cond b xs (y ∷ without_first test xs)) x → Contains (y ∷ xs) x) [
   | true ↦ λ at. Contains-tail y xs x at
   | false ↦ λ at. ⊎_elim
       (λ (same : y ≡ x). subst (Contains (y ∷ xs)) same (Contains-head y xs))
-      (λ (rest : Contains (without test xs) x). Contains-tail y xs x (without_from test xs x rest))
-      (Contains-cons y (without test xs) x at)
+      (λ (rest : Contains (without_first test xs) x). Contains-tail y xs x (without_from test xs x rest))
+      (Contains-cons y (without_first test xs) x at)
 ]) it
 
 from_with_clean : (entry : Entry) (room : ℕ) (clean : List Entry) (other : Entry) → Contains (with_clean entry room clean) other
     → (entry ≡ other) ⊎ Contains clean other
 from_with_clean entry room clean other = by (find (is_entry_of entry.key) clean)
   where
-    by : (o : Option Entry) → Contains (option_map_or (λ _. entry ∷ without (is_entry_of entry.key) clean) o (entry ∷ take (room - 1) clean)) other
+    by : (o : Option Entry) → Contains (option_map_or (λ _. entry ∷ without_first (is_entry_of entry.key) clean) o (entry ∷ take (room - 1) clean)) other
         → (entry ≡ other) ⊎ Contains clean other
     by None it = ⊎_elim (λ (same : entry ≡ other). inl same)
         (λ (rest : Contains (take (room - 1) clean) other). inr (Contains-take (room - 1) clean other rest))
         (Contains-cons entry (take (room - 1) clean) other it)
     by (Some found) it = ⊎_elim (λ (same : entry ≡ other). inl same)
-        (λ (rest : Contains (without (is_entry_of entry.key) clean) other). inr (without_from (is_entry_of entry.key) clean other rest))
-        (Contains-cons entry (without (is_entry_of entry.key) clean) other it)
+        (λ (rest : Contains (without_first (is_entry_of entry.key) clean) other). inr (without_from (is_entry_of entry.key) clean other rest))
+        (Contains-cons entry (without_first (is_entry_of entry.key) clean) other it)
 
 pub from_clean : (written : List Entry) (room : ℕ) (old new : List Entry) → BecomeClean written room old new
     → (entry : Entry) → Contains new entry → Contains old entry ⊎ Contains written entry
@@ -139,7 +139,7 @@ pub settles_more : (below : ℕ) (entries : List Entry) (i : ℕ) (entry : Entry
     → AreApart (λ (x : Info). x.key) old.dirty → AreApart (λ (x : Entry). x.key) entries
     → ((e : Entry) → Contains entries e → IsDirtyBelow below old.dirty e)
     → SettlesAll below (take i entries) old mid
-    → ((info : Info) → done ≡ true → dirty_info entry.key mid ≡ Some info → (info.number < below) × Settles info mid new)
+    → ((info : Info) → done ≡ true → dirty_info entry.key mid ≡ Some info → (info.number < below) × SettlesEntry info mid new)
     → (IsTrue done ↔ ((info : Info) × (dirty_info entry.key mid ≡ Some info) × (info.number < below)))
     → SettlesAll below (take (i + 1) entries) old new
 settles_more below entries i entry old mid new done lt here keys apart each it settles found =

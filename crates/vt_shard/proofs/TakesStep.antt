@@ -7,17 +7,17 @@ use Rattle.vt_base.specs.declared.place.Entry.{Entry}
 use Rattle.vt_icache.specs.Index.{IndexState, entry_of}
 use Rattle.vt_isect.specs.Entries.{EntriesState}
 use Rattle.vt_isect.specs.Section.{SectionState, HasGroup, bucket_number, bucket_under_way, entries_of}
-use Rattle.vt_isect.specs.Writeback.{Advances as SectionAdvances, Completes, WritesBack, calls_left, most_calls}
-use Rattle.vt_isect.specs.declared.bad.ShardErr.{ShardErr}
-use Rattle.vt_isect.specs.declared.bad.ShardErr.TheVariants.{Stopped}
+use Rattle.vt_isect.specs.Writeback.{SectionAdvances, Completes, WritesEntryBack, calls_left, most_calls}
+use Rattle.vt_isect.specs.declared.error.ShardErr.{ShardErr}
+use Rattle.vt_isect.specs.declared.error.ShardErr.TheVariants.{Stopped}
 use Rattle.vt_isect.specs.declared.phase.Phase.{Phase}
 use Rattle.vt_isect.specs.declared.phase.Phase.TheVariants.{Rest, ReadSelector, ReadFrame, WriteFrame, SyncFrames, WriteSelector, SyncSelectors, ChangeHead}
 use Rattle.vt_model.specs.Places.{bucket_of}
-use Rattle.vt_twin.specs.Twin.{calls_made}
+use Rattle.vt_twin.specs.Twin.{twin_calls_made}
 use Rattle.vt_twin.specs.declared.step.Step.{Step}
 use Rattle.vt_twin.specs.declared.step.Step.TheVariants.{Done}
 use Rattle.vt_shard.specs.Shard.{ShardState, ReadBucket, HasBelow, IsUnderWay}
-use Rattle.vt_shard.specs.Writeback.{SettlesAll, TakesStep, WritesTo, without_list, written_back}
+use Rattle.vt_shard.specs.Writeback.{SettlesAll, ShardTakesStep, PutsIntoBucket, without_list, written_back}
 use Rattle.vt_shard.proofs.IsWell.{rests}
 use Rattle.vt_shard.proofs.KeepsPlace.{Stays, stays, marks, completes_begins}
 use Rattle.vt_shard.proofs.UnderWay.{none_between, written_from}
@@ -49,15 +49,15 @@ module _ {D : Type 0} (t : ShardState D) (v : SectionState D) (written : List En
   number_is : (entry : Entry) → bucket_of total entry.key.score.0 ≡ bucket_number t.section entry
   number_is entry = ap (λ (k : ℕ). bucket_of k entry.key.score.0) total_is
 
-  forgets_read : (read : ReadBucket) → t.bucket ≡ Some read → WritesTo t.section v read.number → bucket ≡ None
+  forgets_read : (read : ReadBucket) → t.bucket ≡ Some read → PutsIntoBucket t.section v read.number → bucket ≡ None
   forgets_read read has writes = dropped read writes.0 has
       (subst (λ (l : List Entry). Contains l writes.0) (sym are) writes.1) (number_is writes.0 ∙ writes.2)
 
-  forgets_none : ((read : ReadBucket) → t.bucket ≡ Some read → ¬ WritesTo t.section v read.number) → bucket ≡ t.bucket
+  forgets_none : ((read : ReadBucket) → t.bucket ≡ Some read → ¬ PutsIntoBucket t.section v read.number) → bucket ≡ t.bucket
   forgets_none none = kept (λ read entry has came number. none read has
       (entry, subst (λ (l : List Entry). Contains l entry) are came, sym (number_is entry) ∙ number))
 
-  pub forgets_other : (read : ReadBucket) → bucket ≡ Some read → (t.bucket ≡ Some read) × (¬ WritesTo t.section v read.number)
+  pub forgets_other : (read : ReadBucket) → bucket ≡ Some read → (t.bucket ≡ Some read) × (¬ PutsIntoBucket t.section v read.number)
   forgets_other read is = by t.bucket refl
     where
       clash : (o : Option ReadBucket) (x : ReadBucket) → o ≡ None → o ≡ Some x → ⊥
@@ -66,20 +66,20 @@ module _ {D : Type 0} (t : ShardState D) (v : SectionState D) (written : List En
       one_read : (a b : ReadBucket) → Some a ≡ Some b → a ≡ b
       one_read a b e = cc
 
-      by : (o : Option ReadBucket) → t.bucket ≡ o → (t.bucket ≡ Some read) × (¬ WritesTo t.section v read.number)
+      by : (o : Option ReadBucket) → t.bucket ≡ o → (t.bucket ≡ Some read) × (¬ PutsIntoBucket t.section v read.number)
       by None was = absurd (clash bucket read (kept (λ other entry has. absurd (clash t.bucket other was has)) ∙ was) is)
       by (Some b) was =
-          let not : ¬ WritesTo t.section v b.number = λ writes. clash bucket read (forgets_read b was writes) is in
+          let not : ¬ PutsIntoBucket t.section v b.number = λ writes. clash bucket read (forgets_read b was writes) is in
           let still : bucket ≡ t.bucket =
-          forgets_none (λ x has writes. not (subst (λ (r : ReadBucket). WritesTo t.section v r.number) (sym (one_read b x (sym was ∙ has))) writes)) in
+          forgets_none (λ x has writes. not (subst (λ (r : ReadBucket). PutsIntoBucket t.section v r.number) (sym (one_read b x (sym was ∙ has))) writes)) in
           let before : t.bucket ≡ Some read = sym still ∙ is in (
             before,
-            λ writes. not (subst (λ (r : ReadBucket). WritesTo t.section v r.number) (sym (one_read b read (sym was ∙ before))) writes),
+            λ writes. not (subst (λ (r : ReadBucket). PutsIntoBucket t.section v r.number) (sym (one_read b read (sym was ∙ before))) writes),
           )
 
 module _ {D : Type 0} (t : ShardState D) (below : ℕ) (under : t.writeback ≡ Some below) (it : IsUnderWay t below)
     (result : Result Step ShardErr) (v : SectionState D) (steps : SectionAdvances result t.section v)
-    (done : IfOk result (λ step. (step ≡ Done) ↔ ((t.section.phase ≡ ChangeHead) × (calls_made t.section.head_twin ≡ 3))))
+    (done : IfOk result (λ step. (step ≡ Done) ↔ ((t.section.phase ≡ ChangeHead) × (twin_calls_made t.section.head_twin ≡ 3))))
     (left : OnOk result (calls_left v < calls_left t.section))
     (stopped : (n : ℕ) → (result ≡ Err (Stopped n)) ↔ (t.section.stopped ≡ Some n))
     (untouched : IsSome t.section.stopped → v ≡ t.section) where
@@ -95,7 +95,7 @@ module _ {D : Type 0} (t : ShardState D) (below : ℕ) (under : t.writeback ≡ 
   nothing : v.written ≡ t.section.written → written_back t.section v ≡ []
   nothing equal = none_between (entries_of t.section) t.section.written v.written (sym equal)
 
-  no_write : v.written ≡ t.section.written → (n : ℕ) → ¬ WritesTo t.section v n
+  no_write : v.written ≡ t.section.written → (n : ℕ) → ¬ PutsIntoBucket t.section v n
   no_write equal n writes = Contains-nil writes.0 (subst (λ (l : List Entry). Contains l writes.0) (nothing equal) writes.1)
 
   none_dirty : t.section.phase ≡ ChangeHead → ¬ HasBelow below t.index.dirty
@@ -135,7 +135,7 @@ module _ {D : Type 0} (t : ShardState D) (below : ℕ) (under : t.writeback ≡ 
     idle : v.written ≡ t.section.written → index ≡ t.index
     idle equal = none (are ∙ nothing equal)
 
-    not_read : ((read : ReadBucket) → t.bucket ≡ Some read → ¬ WritesTo t.section v read.number) → bucket ≡ t.bucket
+    not_read : ((read : ReadBucket) → t.bucket ≡ Some read → ¬ PutsIntoBucket t.section v read.number) → bucket ≡ t.bucket
     not_read = forgets_none t v written are total total_is bucket dropped kept
 
     by_phase : (P : Option EntriesState → Type 0) → (v.phase ≡ Rest → P None) → (v.phase ≢ Rest → P v.entries) → P entries
@@ -144,7 +144,7 @@ module _ {D : Type 0} (t : ShardState D) (below : ℕ) (under : t.writeback ≡ 
         (λ (o : v.phase ≢ Rest). subst P (sym (on o).0) (goes o))
         (rests v.phase)
 
-    pub takes : TakesStep result t
+    pub takes : ShardTakesStep result t
         (record t { section = record v { entries = entries }; index = index; bucket = bucket; writeback = writeback; ended_at = ended_at })
     takes = record {
       advances = record {
@@ -195,7 +195,7 @@ module _ {D : Type 0} (t : ShardState D) (below : ℕ) (under : t.writeback ≡ 
 pub some_written : {D : Type 0} (t : ShardState D) (below : ℕ) (it : IsUnderWay t below)
     (result : Result Step ShardErr) (v : SectionState D) (steps : SectionAdvances result t.section v)
     → (n : ℕ) → Completes result t.section n
-    → (entry : Entry) × WritesBack t.section v entry × (bucket_number t.section entry ≡ n)
+    → (entry : Entry) × WritesEntryBack t.section v entry × (bucket_number t.section entry ≡ n)
 some_written t below it result v steps n completes =
     let filing = it.filing completes.2.1.0 in
     let one = filing.group completes.2.0 completes.2.1.1 in

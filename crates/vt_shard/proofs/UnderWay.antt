@@ -14,8 +14,8 @@ use Rattle.vt_icache.specs.Index.{IndexState, entry_of}
 use Rattle.vt_isect.specs.Entries.{EntriesState}
 use Rattle.vt_isect.specs.Layout.{InRange}
 use Rattle.vt_isect.specs.Section.{SectionState, PutsEntries, bucket_number, entries_of}
-use Rattle.vt_isect.specs.Writeback.{Advances, BeginsBehind, calls_left}
-use Rattle.vt_isect.specs.declared.bad.ShardErr.{ShardErr}
+use Rattle.vt_isect.specs.Writeback.{SectionAdvances, BeginsBehind, calls_left}
+use Rattle.vt_isect.specs.declared.error.ShardErr.{ShardErr}
 use Rattle.vt_isect.specs.declared.phase.Phase.{Phase}
 use Rattle.vt_isect.proofs.IsRead.{read_apart}
 use Rattle.vt_isect.specs.declared.phase.Phase.TheVariants.{Rest, ReadSelector, ReadFrame, WriteFrame, SyncFrames, WriteSelector, SyncSelectors, ChangeHead}
@@ -82,7 +82,7 @@ written_from from v begins = ⊎_elim (λ group. group.1) (λ head. head.1) begi
 
 -- what a step puts into a bucket
 module _ {D : Type 0} (t : ShardState D) (below : ℕ) (it : IsUnderWay t below)
-    (result : Result Step ShardErr) (v : SectionState D) (steps : Advances result t.section v) where
+    (result : Result Step ShardErr) (v : SectionState D) (steps : SectionAdvances result t.section v) where
   within : t.section.phase ≢ Rest → t.section.written ≤ length (entries_of t.section)
   within was = ⊎_elim
       (λ (has : PutsEntries t.section.phase). let order = (it.filing has).order in omega (arith, order))
@@ -119,7 +119,7 @@ module _ {D : Type 0} (t : ShardState D) (below : ℕ) (it : IsUnderWay t below)
       (All-contains (λ (info : Info). HasScore t info.key.score.0) t.index.dirty dirty.0 all dirty.1)
 
 module _ {D : Type 0} (t : ShardState D) (below : ℕ) (it : IsUnderWay t below)
-    (result : Result Step ShardErr) (v : SectionState D) (steps : Advances result t.section v) (on : v.phase ≢ Rest)
+    (result : Result Step ShardErr) (v : SectionState D) (steps : SectionAdvances result t.section v) (on : v.phase ≢ Rest)
     (less : OnOk result (calls_left v < calls_left t.section))
     (keys : AreApart (λ (x : Info). x.key) t.index.dirty)
     (index : IndexState) (settles : SettlesAll below (written_back t.section v) t.index index) where

@@ -13,8 +13,8 @@ use Rattle.vt_icache.specs.Index.{IndexState, entry_of}
 use Rattle.vt_isect.specs.Entries.{EntriesState}
 use Rattle.vt_isect.specs.Layout.{InRange}
 use Rattle.vt_isect.specs.Section.{SectionState, bucket_number, entries_of}
-use Rattle.vt_isect.specs.Writeback.{Advances, calls_left}
-use Rattle.vt_isect.specs.declared.bad.ShardErr.{ShardErr}
+use Rattle.vt_isect.specs.Writeback.{SectionAdvances, calls_left}
+use Rattle.vt_isect.specs.declared.error.ShardErr.{ShardErr}
 use Rattle.vt_isect.specs.declared.head.Head.{Head}
 use Rattle.vt_isect.specs.declared.phase.Phase.TheVariants.{Rest}
 use Rattle.vt_model.proofs.Lists.{count_by-map}
@@ -56,7 +56,7 @@ module _ (below : ℕ) (written : List Entry) (old new : IndexState) (it : Settl
 
 module _ {D : Type 0} (t : ShardState D) (list : Option ℕ) (waiting : List ℕ) (w : IsWell t list waiting)
     (below : ℕ) (under : t.writeback ≡ Some below)
-    (result : Result Step ShardErr) (v : SectionState D) (steps : Advances result t.section v) where
+    (result : Result Step ShardErr) (v : SectionState D) (steps : SectionAdvances result t.section v) where
   it : IsUnderWay t below
   it = under_way_of t list waiting w below under
 

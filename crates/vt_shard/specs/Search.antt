@@ -3,8 +3,8 @@ use Rattle.std.specs.Prelude.{◌≡◌, ℕ, ◌≤◌, Option, None, Some, Mat
 use Rattle.std.specs.List.{All, Contains}
 use Rattle.vt_base.specs.declared.key.Key.{Key}
 use Rattle.vt_base.specs.declared.place.Entry.{Entry}
-use Rattle.vt_icache.specs.Index.{IndexState, IsKept}
-use Rattle.vt_isect.specs.Agreement.{IsOfBlock}
+use Rattle.vt_icache.specs.Index.{IndexState, IsCached}
+use Rattle.vt_isect.specs.Agreement.{IsEntryOfBlock}
 use Rattle.vt_model.specs.History.{History, HasScoreAt, HasKeyAt}
 use Rattle.vt_model.specs.Places.{Setup}
 use Rattle.vt_shard.specs.Shard.{ReadBucket}
@@ -15,15 +15,16 @@ HasKeyOf score h i key = HasKeyAt score h i key.score.0 key.kind
 
 -- The search for a key: None says that none of the blocks from this number on has it; an entry is
 -- that of the block that has it, wherever that stands.
-abbrev pub Finds : (List ℕ → List ℕ) → Setup → History → (from : ℕ) → Key → Option Entry → Type 0
-Finds score c h from key None = (i : ℕ) → from ≤ i → ¬ HasKeyOf score h i key
-Finds score c h from key (Some entry) = (entry.key ≡ key) × IsOfBlock score c h entry
+abbrev pub FindsEntry : (List ℕ → List ℕ) → Setup → History → (from : ℕ) → Key → Option Entry
+    → Type 0
+FindsEntry score c h from key None = (i : ℕ) → from ≤ i → ¬ HasKeyOf score h i key
+FindsEntry score c h from key (Some entry) = (entry.key ≡ key) × IsEntryOfBlock score c h entry
 
 -- the same for a score under any type
 abbrev pub FindsScore : (List ℕ → List ℕ) → Setup → History → (from : ℕ) → List ℕ → Option Entry
     → Type 0
 FindsScore score c h from s None = (i : ℕ) → from ≤ i → ¬ HasScoreAt score h i s
-FindsScore score c h from s (Some entry) = (entry.key.score.0 ≡ s) × IsOfBlock score c h entry
+FindsScore score c h from s (Some entry) = (entry.key.score.0 ≡ s) × IsEntryOfBlock score c h entry
 
 -- these are the bytes of the block that has the key
 abbrev pub IsLumpOf : (List ℕ → List ℕ) → History → Key → (bytes : List ℕ) → Type 0
@@ -34,7 +35,7 @@ IsLumpOf score h key bytes =
 
 -- an entry in memory has this score
 abbrev pub KeepsScore : IndexState → List ℕ → Type 0
-KeepsScore index s = (entry : Entry) × IsKept index entry × (entry.key.score.0 ≡ s)
+KeepsScore index s = (entry : Entry) × IsCached index entry × (entry.key.score.0 ≡ s)
 
 -- of some entries this is the one that passes, or none does
 abbrev pub IsOneOf : List Entry → (passes : Entry → Type 0) → Option Entry → Type 0

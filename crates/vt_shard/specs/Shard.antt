@@ -5,7 +5,7 @@ use Rattle.std.specs.Option.{option_map}
 use Rattle.lru.specs.LruCache.{lru_cache}
 use Rattle.vt_base.specs.declared.place.Entry.{Entry}
 use Rattle.vt_base.specs.declared.place.Info.{Info}
-use Rattle.vt_bucket.specs.Buckets.{number_of, entries_of as entries_in}
+use Rattle.vt_bucket.specs.Buckets.{number_of_bucket, bucket_entries}
 use Rattle.vt_bucket.specs.declared.Bucket.{Bucket}
 use Rattle.vt_icache.specs.Index.{IndexState, entry_of}
 use Rattle.vt_isect.specs.Layout.{InRange}
@@ -25,7 +25,7 @@ pub record ReadBucket : Type 0 where
 
 abbrev pub read_bucket : Option Bucket → Option ReadBucket
 read_bucket bucket =
-    option_map (λ it. record { number = number_of it; entries = entries_in it }) bucket
+    option_map (λ it. record { number = number_of_bucket it; entries = bucket_entries it }) bucket
 
 -- The section; the index entries in memory, dirty and clean ones; the blocks in memory; the bucket
 -- that was read last, until it is written back; the number of the writeback that is under way,
@@ -81,8 +81,8 @@ pub record KeepsPlace {D : Type 0} (old new : ShardState D) : Type 0 where
   pub mark : old.section.head.mark ≤ new.section.head.mark
 
 -- a shard that was mounted on a section, with room for so many blocks and clean entries
-abbrev pub mounted : {D : Type 0} → SectionState D → (lumps clean : ℕ) → ShardState D
-mounted section lumps clean = record {
+abbrev pub mounted_shard : {D : Type 0} → SectionState D → (lumps clean : ℕ) → ShardState D
+mounted_shard section lumps clean = record {
   section = record section { entries = None };
   index = record { dirty = []; room = ROOM; clean = []; clean_room = clean };
   lumps = lru_cache [] lumps;

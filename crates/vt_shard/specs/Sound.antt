@@ -9,9 +9,9 @@ use Rattle.vt_icache.specs.Index.{entry_of}
 use Rattle.vt_isect.specs.Agreement.{IsEntryOf, HasBlock, IsInBucket, AgreesWith, KnownAgrees}
 use Rattle.vt_isect.specs.Layout.{InRange, IsSection}
 use Rattle.vt_isect.specs.Merging.{HasKey}
-use Rattle.vt_isect.specs.Sound.{Known, DiskHolds}
-use Rattle.vt_isect.specs.declared.bad.ShardErr.{ShardErr}
-use Rattle.vt_isect.specs.declared.bad.ShardErr.TheVariants.{Fault}
+use Rattle.vt_isect.specs.Sound.{KnownBuckets, DiskHolds}
+use Rattle.vt_isect.specs.declared.error.ShardErr.{ShardErr}
+use Rattle.vt_isect.specs.declared.error.ShardErr.TheVariants.{Fault}
 use Rattle.vt_isect.specs.declared.head.Head.{Head}
 use Rattle.vt_model.specs.History.{History}
 use Rattle.vt_model.specs.Legal.{HasOtherKey}
@@ -20,11 +20,13 @@ use Rattle.vt_shard.specs.Search.{IsLumpOf}
 use Rattle.vt_shard.specs.Shard.{ShardState, ReadBucket, IsDirty, HasScore, OnlyMark, bucket_at}
 
 -- by what is known, a key's bucket has these entries
-abbrev pub IsBucketOf : {D : Type 0} → ShardState D → Known → Key → (entries : List Entry) → Type 0
+abbrev pub IsBucketOf : {D : Type 0} → ShardState D → KnownBuckets → Key → (entries : List Entry)
+    → Type 0
 IsBucketOf t known key entries = known (bucket_at t key.score.0) ≡ Some entries
 
 -- the entry is in its bucket, by what is known of the buckets
-pub record IsFiled {D : Type 0} (t : ShardState D) (known : Known) (entry : Entry) : Type 0 where
+pub record IsEntryFiled {D : Type 0} (t : ShardState D) (known : KnownBuckets) (entry : Entry)
+    : Type 0 where
   pub in_range : HasScore t entry.key.score.0
   pub entries : List Entry
   pub known_is : IsBucketOf t known entry.key entries
@@ -40,7 +42,7 @@ pub record IsSoundFrom {D : Type 0} (score : List ℕ → List ℕ) (c : Setup) 
   pub durable_fits : durable ≤ length h
   -- Of the buckets something is known, and this agrees with the durable blocks: each entry that is
   -- or may come to be on the disk is that of one of them, and so each mark is at most their number.
-  pub known : Known
+  pub known : KnownBuckets
   pub section : DiskHolds disk t.section known
   pub agrees : KnownAgrees score c (take durable h) t.section known
   -- the section is in use, and only its mark changes
@@ -58,7 +60,7 @@ pub record IsSoundFrom {D : Type 0} (score : List ℕ → List ℕ) (c : Setup) 
   pub unfiled : (info : Info) (entries : List Entry) → Contains t.index.dirty info
       → IsBucketOf t known info.key entries → ¬ HasKey (Contains entries) info.key
   -- a clean one is in its bucket, and what was read of a bucket is what it has
-  pub clean : (entry : Entry) → Contains t.index.clean entry → IsFiled t known entry
+  pub clean : (entry : Entry) → Contains t.index.clean entry → IsEntryFiled t known entry
   pub bucket : (bucket : ReadBucket) → t.bucket ≡ Some bucket
       → known bucket.number ≡ Some bucket.entries
   -- each block in memory is that of its key
@@ -66,9 +68,10 @@ pub record IsSoundFrom {D : Type 0} (score : List ℕ → List ℕ) (c : Setup) 
       → IsLumpOf score h key bytes
 
 -- the same where no block lacks its entry
-abbrev pub IsSound : {D : Type 0} → (List ℕ → List ℕ) → Setup → DiskOf D → ShardState D → History
+abbrev pub IsSoundShard : {D : Type 0} → (List ℕ → List ℕ) → Setup → DiskOf D → ShardState D
+    → History
     → (durable : ℕ) → Type 0
-IsSound score c disk t h durable = IsSoundFrom score c disk t h durable 0
+IsSoundShard score c disk t h durable = IsSoundFrom score c disk t h durable 0
 
 -- and the bucket of this key lacks it
 abbrev pub IsSoundWithout : {D : Type 0} → (List ℕ → List ℕ) → Setup → DiskOf D → ShardState D

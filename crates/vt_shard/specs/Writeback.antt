@@ -9,18 +9,18 @@ use Rattle.vt_disk.specs.Members.{DiskOf}
 use Rattle.vt_disk.specs.declared.region.Region.{Region}
 use Rattle.vt_icache.specs.Index.{IndexState, entry_of, entries_below, with_clean}
 use Rattle.vt_isect.specs.Entries.{IsOrdered}
-use Rattle.vt_isect.specs.Faults.{NamesDamage, is_fault}
-use Rattle.vt_isect.specs.Layout.{IsPlaceOf}
+use Rattle.vt_isect.specs.Faults.{NamesDamage, is_section_fault}
+use Rattle.vt_isect.specs.Layout.{IsBucketPlace}
 use Rattle.vt_isect.specs.Merging.{IsMerged, IsDamage}
 use Rattle.vt_isect.specs.Section.{SectionState, IsAtRest, bucket_number, bucket_under_way, entering, entries_of, most_after}
-use Rattle.vt_isect.specs.Writeback.{Advances as SectionAdvances, BeginsBehind, MayWrite, Syncs, Writes, calls_left}
+use Rattle.vt_isect.specs.Writeback.{SectionAdvances, BeginsBehind, MayWrite, NextCallSyncs, NextCallWrites, calls_left}
 use Rattle.vt_isect.specs.declared.TheConstants.{FRAME_LEN}
-use Rattle.vt_isect.specs.declared.bad.ShardErr.{ShardErr}
-use Rattle.vt_isect.specs.declared.bad.ShardErr.TheVariants.{Fault, Stopped}
+use Rattle.vt_isect.specs.declared.error.ShardErr.{ShardErr}
+use Rattle.vt_isect.specs.declared.error.ShardErr.TheVariants.{Fault, Stopped}
 use Rattle.vt_isect.specs.declared.phase.Phase.{Phase}
 use Rattle.vt_isect.specs.declared.phase.Phase.TheVariants.{Rest, ReadSelector, ReadFrame, WriteFrame, SyncFrames, WriteSelector, SyncSelectors, ChangeHead}
 use Rattle.vt_twin.specs.Frames.{frame_of}
-use Rattle.vt_twin.specs.Twin.{calls_made}
+use Rattle.vt_twin.specs.Twin.{twin_calls_made}
 use Rattle.vt_twin.specs.declared.step.Step.{Step}
 use Rattle.vt_twin.specs.declared.step.Step.TheVariants.{Done}
 use Rattle.vt_shard.specs.Shard.{ShardState, HasBelow, KeepsPlace, ReadBucket}
@@ -35,7 +35,8 @@ HasWork below t = HasBelow below t.index.dirty ⊎ (t.section.head.mark < below)
 -- A writeback began of the entries of the blocks below a number, and the head gets this mark behind
 -- them. Its buckets come in the order of their numbers, but that those up to the one at which the
 -- last writeback ended early come behind the others, and each by itself then.
-pub record Begins {D : Type 0} (below mark : ℕ) (old new : ShardState D) : Type 0 where
+pub record BeginsShardWriteback {D : Type 0} (below mark : ℕ) (old new : ShardState D)
+    : Type 0 where
   pub section : new.section ≡ record old.section {
     next = record old.section.head { mark = mark };
     phase = new.section.phase;
@@ -64,8 +65,8 @@ abbrev pub written_back : {D : Type 0} → (old new : SectionState D) → List E
 written_back old new = drop old.written (take new.written (entries_of old))
 
 -- the step put an entry into bucket n
-abbrev pub WritesTo : {D : Type 0} → (old new : SectionState D) → (n : ℕ) → Type 0
-WritesTo old new n =
+abbrev pub PutsIntoBucket : {D : Type 0} → (old new : SectionState D) → (n : ℕ) → Type 0
+PutsIntoBucket old new n =
     (entry : Entry) × Contains (written_back old new) entry × (bucket_number old entry ≡ n)
 
 -- the section, of which the memory of its list is taken back at rest
@@ -80,7 +81,7 @@ without_list SyncSelectors t = t
 without_list ChangeHead t = t
 
 -- what `advance` makes of a shard, beside the entries in memory
-pub record Advances {D : Type 0} (result : Result Step ShardErr) (old new : ShardState D)
+pub record ShardAdvances {D : Type 0} (result : Result Step ShardErr) (old new : ShardState D)
     : Type 0 where
   pub section : (after : SectionState D) × SectionAdvances result old.section after
       × (new.section ≡ without_list after.phase after)
@@ -93,9 +94,9 @@ pub record Advances {D : Type 0} (result : Result Step ShardErr) (old new : Shar
   pub not_ended : ¬ IsAtRest new.section → new.ended_at ≡ old.ended_at
   -- the bucket that was read last is kept until an entry is written back to it
   pub read : (bucket : ReadBucket) → old.bucket ≡ Some bucket
-      → WritesTo old.section new.section bucket.number → new.bucket ≡ None
+      → PutsIntoBucket old.section new.section bucket.number → new.bucket ≡ None
   pub kept : ((bucket : ReadBucket) → old.bucket ≡ Some bucket
-      → ¬ WritesTo old.section new.section bucket.number) → new.bucket ≡ old.bucket
+      → ¬ PutsIntoBucket old.section new.section bucket.number) → new.bucket ≡ old.bucket
   pub filed : new.filed ≡ old.filed
   pub lumps : new.lumps ≡ old.lumps
 
@@ -118,15 +119,15 @@ pub record SettlesAll (below : ℕ) (written : List Entry) (old new : IndexState
   pub clean_room : new.clean_room ≡ old.clean_room
 
 -- What `advance` makes of a shard.
-pub record TakesStep {D : Type 0} (result : Result Step ShardErr) (old new : ShardState D)
+pub record ShardTakesStep {D : Type 0} (result : Result Step ShardErr) (old new : ShardState D)
     : Type 0 where
-  pub advances : Advances result old new
+  pub advances : ShardAdvances result old new
   pub settles : (below : ℕ) → old.writeback ≡ Some below
       → SettlesAll below (written_back old.section new.section) old.index new.index
   pub idle : new.section.written ≡ old.section.written → new.index ≡ old.index
   -- it is done with the last call of the change of the head, and nothing below its number is dirty
   pub done : IfOk result (λ step. (step ≡ Done)
-      ↔ ((old.section.phase ≡ ChangeHead) × (calls_made old.section.head_twin ≡ 3)))
+      ↔ ((old.section.phase ≡ ChangeHead) × (twin_calls_made old.section.head_twin ≡ 3)))
   pub filed : (below : ℕ) → result ≡ Ok Done → old.writeback ≡ Some below
       → ¬ HasBelow below new.index.dirty
   pub left : OnOk result (calls_left new.section < calls_left old.section)
@@ -141,7 +142,7 @@ pub record TakesStep {D : Type 0} (result : Result Step ShardErr) (old new : Sha
 abbrev pub IsFrameOf : {D : Type 0} → DiskOf D → SectionState D → (selector : ℕ) → (frame : List ℕ)
     → Type 0
 IsFrameOf disk t selector frame = (region : Region) → IsTrue disk.tells
-    → IsPlaceOf (t.bucket - t.head.first) region
+    → IsBucketPlace (t.bucket - t.head.first) region
     → frame ≡ frame_of region FRAME_LEN (selector % 2) (disk.bytes t.disk)
 
 -- The frame that it begins to write has the entries of the frame that it read, and those of the
@@ -158,15 +159,15 @@ pub record ReadsFrame {D : Type 0} (disk : DiskOf D) (result : Result Step Shard
       × IsFrameOf disk old.section s read)
 
 -- It makes one device call or, where it is stopped, none.
-pub record MakesCall {D : Type 0} (disk : DiskOf D) (result : Result Step ShardErr)
+pub record ShardMakesCall {D : Type 0} (disk : DiskOf D) (result : Result Step ShardErr)
     (old new : ShardState D) : Type 0 where
-  pub faults : CountsFault is_fault result (disk.faults old.section.disk)
+  pub faults : CountsFault is_section_fault result (disk.faults old.section.disk)
       (disk.faults new.section.disk)
   pub calls : old.section.stopped ≡ None
       → MadeCalls disk 1 old.section.disk new.section.disk
   pub writes : WritesAt disk (MayWrite old.section.phase old.section) 1
       old.section.disk new.section.disk
-  pub written : IsTrue disk.tells → OnOk result (Writes old.section.phase old.section
+  pub written : IsTrue disk.tells → OnOk result (NextCallWrites old.section.phase old.section
       (disk.bytes old.section.disk) (disk.bytes new.section.disk))
-  pub synced : Syncs old.section.phase old.section
+  pub synced : NextCallSyncs old.section.phase old.section
       → OnOk result (IsSynced disk new.section.disk)

@@ -6,7 +6,7 @@ ghost use Rattle.vt_model.specs.History.{History, Accepted, HasScoreAt};
 ghost use Rattle.vt_model.specs.Legal.{HasOtherKey};
 ghost use Rattle.vt_model.specs.Places.{Setup};
 ghost use Rattle.vt_shard.specs.Shard.{ShardState, HasScore};
-ghost use Rattle.vt_shard.specs.Sound.{IsSound, IsSoundFrom, LeavesLive};
+ghost use Rattle.vt_shard.specs.Sound.{IsSoundShard, IsSoundFrom, LeavesLive};
 
 use vt_disk::Disk;
 
@@ -54,7 +54,7 @@ pub fn others_lack_nothing<D: Disk>()
 pub fn no_block_lacks<D: Disk>()
     ensures none { (score : List ℕ → List ℕ) (c : Setup) (t : ShardState D) (h : History)
         (durable from : ℕ) → IsSoundFrom score c D.Disk t h durable from
-        → from ≤ t.section.head.mark → IsSound score c D.Disk t h durable }
+        → from ≤ t.section.head.mark → IsSoundShard score c D.Disk t h durable }
     ensures more { (score : List ℕ → List ℕ) (c : Setup) (t : ShardState D) (h : History)
         (durable from more : ℕ) → IsSoundFrom score c D.Disk t h durable from → from ≤ more
         → IsSoundFrom score c D.Disk t h durable more }

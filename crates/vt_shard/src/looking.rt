@@ -3,28 +3,27 @@
 ghost use Rattle.std.specs.Prelude.{◌≡◌, ◌≢◌, ◌+◌, ◌-◌, ◌*◌, ◌<◌, ◌≤◌, ℕ, List, length, IsTrue, IsSome, IsOk, IsOkAnd, IsSomeAnd, IfOk, IfErr, IfSome, OnOk, MatchOption, MatchResult, [], None, Some, Ok};
 ghost use Rattle.std.specs.Option.{option_map, option_map_or};
 ghost use Rattle.vt_base.specs.declared.place.Entry.{Entry};
-ghost use Rattle.vt_bucket.specs.Buckets.{number_of as bucket_number_of, entries_of as entries_in};
+ghost use Rattle.vt_bucket.specs.Buckets.{number_of_bucket, bucket_entries};
 ghost use Rattle.vt_disk.specs.Calls.{OnlyReads};
-ghost use Rattle.vt_icache.specs.Index.{IsKept, dirty_info, entry_in};
+ghost use Rattle.vt_icache.specs.Index.{IsCached, dirty_info, cached_entry};
 ghost use Rattle.vt_isect.specs.Layout.{InRange};
 ghost use Rattle.vt_model.specs.History.{History};
 ghost use Rattle.vt_model.specs.Places.{Setup, bucket_count, crowd};
-ghost use Rattle.vt_shard.specs.Search.{Finds, FindsScore, HasKeyOf, IsOneOf, IsFoundIn, KeepsScore};
+ghost use Rattle.vt_shard.specs.Search.{FindsEntry, FindsScore, HasKeyOf, IsOneOf, IsFoundIn, KeepsScore};
 
 use crate::shard::Shard;
 use std::marker::Brand;
 use std::sync::ledger::{Blank, Ledger};
-use vt_base::{Entry, Key, Score};
+use vt_base::{Entry, Key, Score, Steps};
 use vt_bucket::Bucket;
 use vt_disk::Disk;
 use vt_isect::ShardErr;
 use vt_model::BUCKET_ROOM;
-use vt_steps::Steps;
 
 impl<D: Disk> Shard<D> {
     ghost use Rattle.vt_shard.specs.Looking.{CountsCrowd, FindsOther, Looks, LooksUp};
     ghost use Rattle.vt_shard.specs.Shard.{HasScore, HasRead, bucket_at, dirty_in};
-    ghost use Rattle.vt_shard.specs.Sound.{IsSound, IsSoundFrom, IsSoundWithout, LooksSoundly};
+    ghost use Rattle.vt_shard.specs.Sound.{IsSoundShard, IsSoundFrom, IsSoundWithout, LooksSoundly};
 
     /// The entry of a key: the one in memory or, where there is none, that of the key's bucket. The
     /// bucket that was read last is asked in memory. Of another one frame is read, and where that
@@ -39,7 +38,7 @@ impl<D: Disk> Shard<D> {
         // It is the search in the blocks that the shard has.
         ensures found { (score : List ℕ → List ℕ) (c : Setup) (h : History) (durable from : ℕ)
             → IsTrue D.tells → IsSoundFrom score c D.Disk self.old h durable from
-            → IfOk result (Finds score c h from key.now) }
+            → IfOk result (FindsEntry score c h from key.now) }
         ensures sound { LooksSoundly D.Disk result self.old self.new }
 
         // While a log is read back, from its end: a block whose key is found doesn't lack its
@@ -59,9 +58,9 @@ impl<D: Disk> Shard<D> {
 
         // It counts each bucket frame that it reads: one at most, and none where memory has the
         // entry or the bucket.
-        ensures cost_in_memory { IsSome (entry_in key.now self.old.index)
+        ensures cost_in_memory { IsSome (cached_entry key.now self.old.index)
             → steps.new ≡ steps.old }
-        ensures cost_of_read { entry_in key.now self.old.index ≡ None
+        ensures cost_of_read { cached_entry key.now self.old.index ≡ None
             → ¬ HasRead self.old (bucket_at self.old key.now.score.0)
             → OnOk result (steps.new ≡ steps.old + 1) }
         ensures cost { steps.new ≤ steps.old + 1 }
@@ -100,7 +99,7 @@ impl<D: Disk> Shard<D> {
     pub fn crowd(&mut self, number: u32) -> Result<u32, ShardErr>
         requires in_range { InRange self.old.section.head self.old.section.buckets number }
         ensures count { (score : List ℕ → List ℕ) (c : Setup) (h : History) (durable : ℕ)
-            → IsTrue D.tells → IsSound score c D.Disk self.old h durable
+            → IsTrue D.tells → IsSoundShard score c D.Disk self.old h durable
             → IfOk result (λ count. count ≡ crowd score (bucket_count c) h number) }
 
         // While some blocks may still lack their entries it counts no more than the history has.
@@ -145,7 +144,7 @@ impl<D: Disk> Shard<D> {
         self.read_on::<Brand>(number, Blank::new(1))
     }
 
-    /// The same on a new ledger, in which steps are counted in contracts alone (`vt_steps`).
+    /// The same on a new ledger, in which steps are counted in contracts alone (`vt_base`).
     fn read_on<L: Ledger>(&mut self, number: u32, blank: Blank) -> Result<(), ShardErr>
         requires in_range { InRange self.old.section.head self.old.section.buckets number }
         requires name { blank.name ≡ L.name }
@@ -162,7 +161,7 @@ impl<D: Disk> Shard<D> {
 
 /// The number of the bucket that was read.
 fn number_of(bucket: &Option<Bucket>) -> Option<u32>
-    ensures { result ≡ option_map (λ b. bucket_number_of b) bucket.now }
+    ensures { result ≡ option_map (λ b. number_of_bucket b) bucket.now }
 {
     match bucket {
         Some(bucket) => Some(bucket.number()),
@@ -172,7 +171,7 @@ fn number_of(bucket: &Option<Bucket>) -> Option<u32>
 
 /// How many entries it has.
 fn len_of(bucket: &Option<Bucket>) -> u32
-    ensures count { result ≡ option_map_or (λ b. length (entries_in b)) bucket.now 0 }
+    ensures count { result ≡ option_map_or (λ b. length (bucket_entries b)) bucket.now 0 }
     ensures most { result ≤ BUCKET_ROOM }
 {
     match bucket {
@@ -183,7 +182,7 @@ fn len_of(bucket: &Option<Bucket>) -> u32
 
 /// Its entry of a key.
 fn find_in(bucket: &Option<Bucket>, key: &Key) -> Option<Entry>
-    ensures { IsOneOf (option_map_or entries_in bucket.now [])
+    ensures { IsOneOf (option_map_or bucket_entries bucket.now [])
         (λ entry. entry.key ≡ key.now) result }
 {
     match bucket {
@@ -194,7 +193,7 @@ fn find_in(bucket: &Option<Bucket>, key: &Key) -> Option<Entry>
 
 /// An entry of it of this score.
 fn find_score_in(bucket: &Option<Bucket>, score: &Score) -> Option<Entry>
-    ensures { IsOneOf (option_map_or entries_in bucket.now [])
+    ensures { IsOneOf (option_map_or bucket_entries bucket.now [])
         (λ entry. entry.key.score.0 ≡ score.now.0) result }
 {
     match bucket {

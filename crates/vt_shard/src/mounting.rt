@@ -4,10 +4,10 @@ ghost use Rattle.std.specs.Prelude.{◌≡◌, ◌<◌, ◌≤◌, ℕ, List, []
 ghost use Rattle.lru.specs.LruCache.{lru_cache};
 ghost use Rattle.vt_isect.specs.Agreement.{KnownAgrees};
 ghost use Rattle.vt_isect.specs.Section.{IsAtRest};
-ghost use Rattle.vt_isect.specs.Sound.{Known, DiskHolds};
+ghost use Rattle.vt_isect.specs.Sound.{KnownBuckets, DiskHolds};
 ghost use Rattle.vt_model.specs.History.{History};
 ghost use Rattle.vt_model.specs.Places.{Setup};
-ghost use Rattle.vt_shard.specs.Shard.{mounted};
+ghost use Rattle.vt_shard.specs.Shard.{mounted_shard};
 ghost use Rattle.vt_shard.specs.Sound.{IsSoundFrom};
 
 use crate::ROOM;
@@ -37,12 +37,12 @@ pub fn mount<D: Disk>(
     requires rest { IsAtRest section }
     requires lumps { 0 < sizes.lumps }
     requires clean { 0 < sizes.clean }
-    ensures mounted { IfOk result (λ it. it ≡ mounted section sizes.lumps sizes.clean) }
+    ensures mounted { IfOk result (λ it. it ≡ mounted_shard section sizes.lumps sizes.clean) }
     ensures refused { IfErr result (λ refusal. refusal.1 ≡ section) }
 
     // All blocks of a history with which the section agrees are durable, and those from its mark on
     // may lack their entries.
-    ensures sound { (score : List ℕ → List ℕ) (c : Setup) (h : History) (known : Known)
+    ensures sound { (score : List ℕ → List ℕ) (c : Setup) (h : History) (known : KnownBuckets)
         → IfOk result (λ it. IsTrue D.tells
         → DiskHolds D.Disk section known → KnownAgrees score c h section known
         → section.head.state ≡ 1

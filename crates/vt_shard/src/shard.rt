@@ -6,7 +6,7 @@ ghost use Rattle.vt_icache.specs.Index.{entry_of, dirty_info};
 ghost use Rattle.vt_isect.specs.Agreement.{IsEntryOf};
 ghost use Rattle.vt_isect.specs.Layout.{InRange};
 ghost use Rattle.vt_isect.specs.Writeback.{calls_left};
-ghost use Rattle.vt_lumps.specs.Lumps.{bytes_of, used, kept, without_last};
+ghost use Rattle.vt_lumps.specs.Lumps.{cached_bytes, used, with_lump, without_last};
 ghost use Rattle.vt_model.specs.History.{History, Accepted};
 ghost use Rattle.vt_model.specs.Legal.{HasOtherKey};
 ghost use Rattle.vt_model.specs.Places.{Setup};
@@ -178,7 +178,7 @@ impl<D: Disk> Shard<D> {
 
     /// Whether a block is kept in memory. It becomes the most recently used, and `lump` gives it.
     pub fn touch_lump(&mut self, key: &Key) -> bool
-        ensures kept { result ≡ is_some (bytes_of key.now self.old.lumps) }
+        ensures kept { result ≡ is_some (cached_bytes key.now self.old.lumps) }
         ensures used { self.new ≡ record self.old { lumps = used key.now self.old.lumps } }
         ensures sound { KeepsSound D.Disk self.old self.new }
     {
@@ -187,7 +187,7 @@ impl<D: Disk> Shard<D> {
 
     /// The bytes of a block that is kept in memory. None comes exactly where it isn't.
     pub fn lump(&self, key: &Key) -> Option<&Bytes>
-        ensures bytes { option_copied result ≡ bytes_of key.now self.now.lumps }
+        ensures bytes { option_copied result ≡ cached_bytes key.now self.now.lumps }
         ensures right { (score : List ℕ → List ℕ) (c : Setup) (h : History) (durable from : ℕ)
             → IsSoundFrom score c D.Disk self.now h durable from
             → IfSome result (λ bytes. IsLumpOf score h key.now bytes.now) }
@@ -200,9 +200,9 @@ impl<D: Disk> Shard<D> {
     /// kept.
     pub fn keep_lump(&mut self, key: Key, bytes: Bytes) -> bool
         ensures kept { result ≡ true
-            → self.new ≡ record self.old { lumps = kept key bytes self.old.lumps } }
+            → self.new ≡ record self.old { lumps = with_lump key bytes self.old.lumps } }
         ensures dropped { result ≡ false → self.new ≡ self.old }
-        ensures succeeds { IsSome (bytes_of key self.old.lumps) → result ≡ true }
+        ensures succeeds { IsSome (cached_bytes key self.old.lumps) → result ≡ true }
         ensures sound { (score : List ℕ → List ℕ) (c : Setup) (h : History) (durable from : ℕ)
             → IsSoundFrom score c D.Disk self.old h durable from → IsLumpOf score h key bytes
             → IsSoundFrom score c D.Disk self.new h durable from }

@@ -25,8 +25,8 @@ use vt_model::BUCKET_ROOM;
 use vt_twin::Step;
 
 impl<D: Disk> Shard<D> {
-    ghost use Rattle.vt_shard.specs.Sound.{IsSound, IsSoundFrom, KeepsSound, LeavesLive};
-    ghost use Rattle.vt_shard.specs.Writeback.{Begins, HasWork, MakesCall, ReadsFrame, TakesStep};
+    ghost use Rattle.vt_shard.specs.Sound.{IsSoundShard, IsSoundFrom, KeepsSound, LeavesLive};
+    ghost use Rattle.vt_shard.specs.Writeback.{BeginsShardWriteback, HasWork, ShardMakesCall, ReadsFrame, ShardTakesStep};
 
     /// Begins to put the dirty entries of the blocks below `durable` into their buckets. Behind
     /// them the mark is raised to that number. It makes no device call: `advance` does. False says
@@ -38,11 +38,12 @@ impl<D: Disk> Shard<D> {
         requires rest { self.old.writeback ≡ None }
         ensures begins { IsTrue result ↔ HasWork durable self.old }
         ensures begun { result ≡ true
-            → Begins durable (max self.old.section.head.mark durable) self.old self.new }
+            → BeginsShardWriteback durable (max self.old.section.head.mark durable) self.old
+            self.new }
         ensures idle { result ≡ false → self.new ≡ self.old }
         ensures sound { (score : List ℕ → List ℕ) (c : Setup) (h : History) (most : ℕ)
-            → IsTrue D.tells → IsSound score c D.Disk self.old h most → durable ≤ most
-            → IsSound score c D.Disk self.new h most }
+            → IsTrue D.tells → IsSoundShard score c D.Disk self.old h most → durable ≤ most
+            → IsSoundShard score c D.Disk self.new h most }
     {
         let mark = self.section.mark();
         if mark >= durable && !has_below(self.index.dirty(), durable) {
@@ -58,7 +59,7 @@ impl<D: Disk> Shard<D> {
         requires rest { self.old.writeback ≡ None }
         ensures begins { IsTrue result ↔ (0 < length self.old.index.dirty) }
         ensures begun { result ≡ true → (below : ℕ) × IsAboveAll self.old.index.dirty below
-            × Begins below self.old.section.head.mark self.old self.new }
+            × BeginsShardWriteback below self.old.section.head.mark self.old self.new }
         ensures idle { result ≡ false → self.new ≡ self.old }
         ensures sound { (score : List ℕ → List ℕ) (c : Setup) (h : History) (durable from : ℕ)
             → IsTrue D.tells → IsSoundFrom score c D.Disk self.old h durable from
@@ -98,9 +99,9 @@ impl<D: Disk> Shard<D> {
             → LeavesLive score c (take n h) self.old file }
 
         // Whatever the disk holds:
-        ensures takes { TakesStep result self.old self.new }
+        ensures takes { ShardTakesStep result self.old self.new }
         ensures reads { ReadsFrame D.Disk result self.old self.new }
-        ensures calls { MakesCall D.Disk result self.old self.new }
+        ensures calls { ShardMakesCall D.Disk result self.old self.new }
 
         // While no bucket has more blocks than it has room for, it finds no damage.
         ensures undamaged { (score : List ℕ → List ℕ) (c : Setup) (h : History)
@@ -135,7 +136,7 @@ impl<D: Disk> Shard<D> {
     fn begin(&mut self, below: u64, mark: u64)
         requires rest { self.old.writeback ≡ None }
         requires rises { self.old.section.head.mark ≤ mark }
-        ensures begins { Begins below mark self.old self.new }
+        ensures begins { BeginsShardWriteback below mark self.old self.new }
         ensures sound { (score : List ℕ → List ℕ) (c : Setup) (h : History) (durable from : ℕ)
             → IsTrue D.tells → IsSoundFrom score c D.Disk self.old h durable from → below ≤ durable
             → (mark ≡ self.old.section.head.mark)

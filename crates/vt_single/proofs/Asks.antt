@@ -4,10 +4,10 @@ use Rattle.std.specs.Prelude.{IfOk}
 use Rattle.vt_base.specs.declared.score.Score.{Score}
 use Rattle.vt_base.specs.declared.why.Why.{Why}
 use Rattle.vt_disk.specs.Members.{DiskOf}
-use Rattle.vt_answer.specs.Taking.{DoesCalls}
+use Rattle.vt_handler.specs.Taking.{DoesCalls}
 use Rattle.vt_core.specs.Core.{CoreState}
 use Rattle.vt_model.specs.History.{Block}
-use Rattle.vt_tree.specs.declared.err.BlockErr.{BlockErr}
+use Rattle.vt_tree.specs.declared.error.BlockErr.{BlockErr}
 use Rattle.vt_use.specs.LocalJobs.{DoesOnStore}
 use Rattle.vt_use.specs.OneBlock.{ReadsOne, WritesOne, answer_of, asks_block}
 use Rattle.vt_use.specs.Stores.{Exchange, at_time, store_on}

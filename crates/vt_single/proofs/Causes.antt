@@ -6,7 +6,7 @@ use Rattle.vt_base.specs.Protocol.{r_write, sync, write}
 use Rattle.vt_base.specs.declared.score.Score.{Score}
 use Rattle.vt_base.specs.declared.why.Why.{Why}
 use Rattle.vt_disk.specs.Members.{DiskOf}
-use Rattle.vt_answer.specs.Serving.{tells_failure}
+use Rattle.vt_handler.specs.Serving.{tells_failure}
 use Rattle.vt_core.specs.Core.{CoreState, stops_of}
 use Rattle.vt_use.specs.Causes.{FailsFor, HasCause}
 use Rattle.vt_use.specs.OneBlock.{ArePut, asks_block}

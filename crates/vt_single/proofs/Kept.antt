@@ -9,10 +9,10 @@ use Rattle.vt_base.specs.declared.why.Why.TheVariants as whys
 use Rattle.vt_disk.specs.Members.{DiskOf}
 use Rattle.vt_model.specs.History.{History}
 use Rattle.vt_model.specs.Places.{Setup}
-use Rattle.vt_answer.specs.Serving.{answered, asked_for, tells_failure}
+use Rattle.vt_handler.specs.Serving.{answered, asked_of_store, tells_failure}
 use Rattle.vt_core.specs.Causes.{IsUndamagedWhy}
 use Rattle.vt_core.specs.Core.{CoreState}
-use Rattle.vt_drive.specs.Ending.{EndsFor}
+use Rattle.vt_requests.specs.Ending.{EndsFor}
 use Rattle.vt_use.specs.Answers.{AreModelAnswers, IsAnswer}
 use Rattle.vt_use.specs.OneBlock.{ArePut, asks_block}
 use Rattle.vt_use.specs.Stores.{Exchange}
@@ -27,7 +27,7 @@ module _ (score : List ℕ → List ℕ) (c : Setup) (h : History) where
       → IsAnswer score c h (read s kind MAX_BLOCK)
       (answered (λ (bytes : List ℕ). r_read bytes) result)
   read_answered kind s result last durable it =
-      let whole : asked_for (read s kind MAX_BLOCK) ≡ read s kind MAX_BLOCK =
+      let whole : asked_of_store (read s kind MAX_BLOCK) ≡ read s kind MAX_BLOCK =
       ap (λ (n : ℕ). read s kind n) (let most : min MAX_BLOCK MAX_BLOCK ≡ MAX_BLOCK = omega arith
       in most) in
       subst (λ (m : Operation). IsAnswer score c h m

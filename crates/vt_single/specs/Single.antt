@@ -8,15 +8,15 @@ use Rattle.vt_disk.specs.Members.{DiskOf}
 use Rattle.vt_model.specs.Answer.{answer, with_added}
 use Rattle.vt_model.specs.History.{History}
 use Rattle.vt_model.specs.Places.{Setup}
-use Rattle.vt_answer.specs.Serving.{answered}
-use Rattle.vt_answer.specs.Taking.{DoesCalls}
+use Rattle.vt_handler.specs.Serving.{answered}
+use Rattle.vt_handler.specs.Taking.{DoesCalls}
 use Rattle.vt_core.specs.Causes.{READS_MOST, OnlyReadFrom}
 use Rattle.vt_core.specs.Core.{CoreState, devices_of, setup_of}
 use Rattle.vt_core.specs.Files.{all_of}
 use Rattle.vt_core.specs.Mounting.{AllStandFor, EachStands}
 use Rattle.vt_core.specs.Sound.{IsSound}
-use Rattle.vt_drive.specs.Answers.{KeepsAll}
-use Rattle.vt_drive.specs.Ending.{Ends}
+use Rattle.vt_requests.specs.Answers.{KeepsAll}
+use Rattle.vt_requests.specs.Ending.{Ends}
 pub use Rattle.vt_use.specs.Answers.{HasFailed, IsAnswer}
 pub use Rattle.vt_use.specs.OneBlock.{ArePut, asks_block}
 pub use Rattle.vt_use.specs.Stores.{Exchange, at_time, store_on}

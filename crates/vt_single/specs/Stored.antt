@@ -9,26 +9,26 @@ use Rattle.vt_disk.specs.Members.{DiskOf}
 use Rattle.vt_model.specs.History.{History}
 use Rattle.vt_model.specs.Places.{Setup}
 use Rattle.vt_part.specs.Table.{Table}
-use Rattle.vt_parts.specs.Parts.{Standing}
-use Rattle.vt_answer.specs.Serving.{answered}
+use Rattle.vt_partitions.specs.Parts.{Standing}
+use Rattle.vt_handler.specs.Serving.{answered}
 use Rattle.vt_core.specs.Core.{CoreState}
 use Rattle.vt_core.specs.Mounting.{AllStandFor}
 use Rattle.vt_open.specs.Opening.{NamesCause, RefusesStore}
 pub use Rattle.vt_use.specs.Uses.{Uses}
 use Rattle.vt_use.specs.Uses.{LeftInStore}
-use Rattle.vt_single.specs.declared.stored.StoredBad.{StoredBad}
-use Rattle.vt_single.specs.declared.stored.StoredBad.TheVariants.{Unopened, Refused}
+use Rattle.vt_single.specs.declared.stored.StoredError.{StoredError}
+use Rattle.vt_single.specs.declared.stored.StoredError.TheVariants.{Unopened, Refused}
 use Rattle.vt_single.specs.Single.{IsAnswer, written_to}
 
 -- what a store that was opened answered
-abbrev pub as_stored : {T : Type 0} → Result T Why → Result T StoredBad
+abbrev pub as_stored : {T : Type 0} → Result T Why → Result T StoredError
 as_stored (Ok value) = Ok value
 as_stored (Err why) = Err (Refused why)
 
 -- That was done, with this result; or the store wasn't opened, for its cause.
 abbrev pub UsesStore : {D T : Type 0} → (List ℕ → List ℕ) → DiskOf D → (told : Type 0) → Conf
     → (Does : Result T Why → (opened left : CoreState D) → Type 0)
-    → (old new : List ℕ → Standing D) → (faults faults' : ℕ) → Result T StoredBad → Type 0
+    → (old new : List ℕ → Standing D) → (faults faults' : ℕ) → Result T StoredError → Type 0
 UsesStore score disk told conf Does old new faults faults' (Ok value) =
     Uses score disk told conf (Does (Ok value)) old new × (faults' ≡ faults)
 UsesStore score disk told conf Does old new faults faults' (Err (Refused why)) =

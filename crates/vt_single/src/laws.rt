@@ -4,7 +4,7 @@ ghost use Rattle.std.specs.Prelude.{◌≡◌, ◌⊎◌, ℕ, Bool, None, Resul
 ghost use Rattle.std.specs.List.{All};
 ghost use Rattle.vt_base.specs.declared.score.Score.{Score};
 ghost use Rattle.vt_base.specs.declared.why.Why.{Why};
-ghost use Rattle.vt_answer.specs.Serving.{tells_failure};
+ghost use Rattle.vt_handler.specs.Serving.{tells_failure};
 ghost use Rattle.vt_conf.specs.declared.conf.Conf.{Conf};
 ghost use Rattle.vt_core.specs.Core.{CoreState, stops_of};
 ghost use Rattle.vt_core.specs.Files.{PerDevice};
@@ -14,10 +14,10 @@ ghost use Rattle.vt_model.specs.History.{History};
 ghost use Rattle.vt_model.specs.Places.{Setup};
 ghost use Rattle.vt_open.specs.Names.{AreUnder};
 ghost use Rattle.vt_part.specs.Table.{Table};
-ghost use Rattle.vt_parts.specs.Parts.{Standing};
+ghost use Rattle.vt_partitions.specs.Parts.{Standing};
 ghost use Rattle.vt_use.specs.Causes.{FailsFor};
 ghost use Rattle.vt_use.specs.Stores.{MakesRun};
-ghost use Rattle.vt_drive.specs.Answers.{KeepsAll};
+ghost use Rattle.vt_requests.specs.Answers.{KeepsAll};
 ghost use Rattle.vt_single.specs.Single.{KeepsBlock, ReadsBlock, ReadsTrue, WritesBlock};
 ghost use Rattle.vt_single.specs.Stored.{ReadsStore, Uses, WritesStore};
 

@@ -12,4 +12,4 @@ pub use laws::{
     stores_are_written,
 };
 pub use single::{read_block, write_block};
-pub use stored::{StoredBad, read_stored, write_stored};
+pub use stored::{StoredError, read_stored, write_stored};

@@ -9,15 +9,15 @@ use crate::single::closed_behind;
 use std::alloc::Global;
 use vt_base::{Bytes, Kind, Score, Scorer, Why};
 use vt_conf::Conf;
-use vt_open::OpenBad;
-use vt_parts::Parts;
+use vt_open::OpenError;
+use vt_partitions::Parts;
 use vt_use::{LocalJob, ReadBlock, WriteBlock, answer_of, blocks_are_asked, use_store};
 
 /// Why a block of a configuration's store wasn't read or written.
 #[derive(Drop)]
-pub enum StoredBad {
+pub enum StoredError {
     /// The store isn't opened.
-    Unopened(OpenBad),
+    Unopened(OpenError),
     /// The store said no, or failed.
     Refused(Why),
 }
@@ -31,7 +31,7 @@ pub fn read_stored<P: Parts, S: Scorer>(
     scorer: &S,
     kind: Kind,
     score: &Score,
-) -> Result<Bytes, StoredBad>
+) -> Result<Bytes, StoredError>
     requires few { length conf.now.arenas.items + length conf.now.sections.items + 1 < 2 ^ 32 }
     requires some_arenas { 0 < length conf.now.arenas.items }
     requires some_section { 0 < length conf.now.sections.items }
@@ -53,7 +53,7 @@ pub fn read_stored<P: Parts, S: Scorer>(
             let (block, last_refusal) = used.output;
             as_stored(answer_of(block, last_refusal))
         }
-        Err(bad) => Err(StoredBad::Unopened(bad)),
+        Err(bad) => Err(StoredError::Unopened(bad)),
     }
 }
 
@@ -67,7 +67,7 @@ pub fn write_stored<P: Parts, S: Scorer>(
     now: u32,
     kind: Kind,
     bytes: &[u8],
-) -> Result<Score, StoredBad>
+) -> Result<Score, StoredError>
     requires few { length conf.now.arenas.items + length conf.now.sections.items + 1 < 2 ^ 32 }
     requires some_arenas { 0 < length conf.now.arenas.items }
     requires some_section { 0 < length conf.now.sections.items }
@@ -87,16 +87,16 @@ pub fn write_stored<P: Parts, S: Scorer>(
             let (put, last_refusal) = used.output;
             as_stored(closed_behind(answer_of(put, last_refusal), used.closed))
         }
-        Err(bad) => Err(StoredBad::Unopened(bad)),
+        Err(bad) => Err(StoredError::Unopened(bad)),
     }
 }
 
 /// What a store that was opened answered.
-fn as_stored<T>(answer: Result<T, Why>) -> Result<T, StoredBad>
+fn as_stored<T>(answer: Result<T, Why>) -> Result<T, StoredError>
     ensures { result ≡ as_stored answer }
 {
     match answer {
         Ok(value) => Ok(value),
-        Err(why) => Err(StoredBad::Refused(why)),
+        Err(why) => Err(StoredError::Refused(why)),
     }
 }

@@ -5,9 +5,9 @@ use std::alloc::Global;
 use std::test::Fail;
 use vt_base::{MountBad, MountField};
 use vt_format::{
-    Index, IndexBad, parse_arena_size, parse_filter_size, parse_len, parse_name, parse_positions,
+    Index, IndexError, parse_arena_size, parse_filter_size, parse_len, parse_name, parse_positions,
 };
-use vt_parts::Parts;
+use vt_partitions::Parts;
 use vt_rows::Rows;
 
 // ---- words
@@ -217,7 +217,7 @@ const MADE: [Making<'static>; 5] = [
 ];
 
 /// An index is put to use, or refused for what is found first.
-const CASES: [(&[u8], Result<Index, IndexBad>); 10] = [
+const CASES: [(&[u8], Result<Index, IndexError>); 10] = [
     (
         b"arenas a\nisect i\nisect j\nbloom b\n",
         Ok(Index {
@@ -234,38 +234,38 @@ const CASES: [(&[u8], Result<Index, IndexBad>); 10] = [
     ),
     (
         b"arenas a\nisect x\n",
-        Err(IndexBad::Fault { part: Some(1) }),
+        Err(IndexError::Fault { part: Some(1) }),
     ),
     (
         b"arenas a\narenas a\nisect i\n",
-        Err(IndexBad::Fault { part: Some(1) }),
+        Err(IndexError::Fault { part: Some(1) }),
     ),
     (
         b"arenas a\nisect i\nisect i\n",
-        Err(IndexBad::Fault { part: Some(2) }),
+        Err(IndexError::Fault { part: Some(2) }),
     ),
     (
         b"arenas a\nisect i\nbloom a\n",
-        Err(IndexBad::Fault { part: Some(2) }),
+        Err(IndexError::Fault { part: Some(2) }),
     ),
     (
         b"arenas a\narenas c\nisect i\n",
-        Err(IndexBad::Refused(MountBad::DuplicateName {
+        Err(IndexError::Refused(MountBad::DuplicateName {
             first: 0,
             second: 1,
         })),
     ),
     (
         b"arenas a\nisect i\nbloom j\n",
-        Err(IndexBad::Refused(MountBad::NotFormatted { part: 2 })),
+        Err(IndexError::Refused(MountBad::NotFormatted { part: 2 })),
     ),
     (
         b"arenas i\nisect x\n",
-        Err(IndexBad::Refused(MountBad::NotFormatted { part: 0 })),
+        Err(IndexError::Refused(MountBad::NotFormatted { part: 0 })),
     ),
     (
         b"arenas a\nisect c\nbloom x\n",
-        Err(IndexBad::Refused(MountBad::TooSmall {
+        Err(IndexError::Refused(MountBad::TooSmall {
             part: 1,
             len: 40_960,
             need: 41_472,
@@ -300,7 +300,7 @@ fn partitions_are_formatted(rt: HostRuntime) -> Result<(), Fail> {
 // ---- calls that fail
 
 /// An index of one section is put to use.
-fn index_one<P: Parts>(to: &mut Made<P>) -> Option<Result<Index, IndexBad>> {
+fn index_one<P: Parts>(to: &mut Made<P>) -> Option<Result<Index, IndexError>> {
     if to.makes_two() {
         to.index(b"arenas a\nisect i\n")
     } else {
@@ -309,7 +309,7 @@ fn index_one<P: Parts>(to: &mut Made<P>) -> Option<Result<Index, IndexBad>> {
 }
 
 /// What is answered where this call of the section's disk fails.
-fn answer(alloc: Global, call: u64) -> Option<Result<Index, IndexBad>> {
+fn answer(alloc: Global, call: u64) -> Option<Result<Index, IndexError>> {
     index_one(&mut failing(alloc, b"i", 41_472, call)?)
 }
 
@@ -320,8 +320,8 @@ fn calls_of_sections_fail(rt: HostRuntime) -> Result<(), Fail> {
     let mut rows = Rows::new();
     for call in 3..33u64 {
         let wanted = match call {
-            3..6 => Err(IndexBad::Fault { part: Some(1) }),
-            6..32 => Err(IndexBad::Stopped { part: 1 }),
+            3..6 => Err(IndexError::Fault { part: Some(1) }),
+            6..32 => Err(IndexError::Stopped { part: 1 }),
             _ => Ok(Index {
                 buckets: 1,
                 sections: 1,

@@ -1,13 +1,13 @@
 //! Stores of two shapes, made in memory and used.
 
-ghost use Rattle.vt_fresh.specs.Shape.{IsShape};
+ghost use Rattle.vt_empty.specs.Shape.{IsShape};
 
 use std::alloc::Global;
 use std::test::Fail;
 use vt_base::{Operation, Said, Score, Scorer, Sha1Scorer};
 use vt_core::{Core, Event, Out};
 use vt_disk::Disk;
-use vt_fresh::{Shape, fresh_store};
+use vt_empty::{Shape, fresh_store};
 use vt_rows::Rows;
 use vt_shard::Sizes;
 

@@ -1,20 +1,19 @@
 //! Partitions in memory that tests make and format.
 
 ghost use Rattle.std.specs.Prelude.{IfSome};
-ghost use Rattle.vt_part.specs.Table.{IsArenaSize, IsName};
+ghost use Rattle.vt_part.specs.Table.{IsArenaSize, IsPartName};
 
 use std::alloc::Global;
 use vt_base::{MountBad, Sha1Scorer, Text};
 use vt_conf::parse_conf;
 use vt_format::laws::configurations_number_their_files;
 use vt_format::{
-    Index, IndexBad, format_arenas, format_filter, format_index, format_section, parse_arena_size,
-    parse_filter_size, parse_name, parse_positions,
+    Index, IndexError, format_arenas, format_filter, format_index, format_section,
+    parse_arena_size, parse_filter_size, parse_name, parse_positions,
 };
 use vt_memdisk::{Listed, MemDisk};
-use vt_memparts::{Failing, MemParts};
 use vt_out::Silent;
-use vt_parts::Parts;
+use vt_partitions::{Failing, MemParts, Parts};
 use vt_rows::Rows;
 
 /// Partitions, and what formatting them answers. None says that memory is wanting, or that a word
@@ -80,7 +79,7 @@ pub fn make_all<P: Parts>(to: &mut Made<P>, making: &[Making<'_>], rows: &mut Ro
 
 /// A name that a partition may have.
 fn name_of(alloc: Global, name: &[u8]) -> Option<Text>
-    ensures { IfSome result IsName }
+    ensures { IfSome result IsPartName }
 {
     let Ok(name) = Text::copy_of(alloc, name) else {
         return None;
@@ -150,7 +149,7 @@ impl<P: Parts> Made<P> {
     }
 
     /// Puts the sections of a configuration to use.
-    pub fn index(&mut self, text: &[u8]) -> Option<Result<Index, IndexBad>> {
+    pub fn index(&mut self, text: &[u8]) -> Option<Result<Index, IndexError>> {
         configurations_number_their_files();
         let Ok(conf) = parse_conf(self.alloc, text) else {
             return None;

@@ -5,8 +5,8 @@ use std::alloc::Global;
 use std::test::Fail;
 use vt_base::{MountBad, MountField, Sha1Scorer};
 use vt_conf::parse_conf;
-use vt_open::{OpenBad, close_store, configurations_can_be_opened, file_of, open_store};
-use vt_parts::Parts;
+use vt_open::{OpenError, close_store, configurations_can_be_opened, file_of, open_store};
+use vt_partitions::Parts;
 use vt_rows::Rows;
 
 /// A configuration of one section, and one of all that is made.
@@ -16,7 +16,7 @@ const ALL: &[u8] = b"arenas a\narenas c\nisect i\nisect j\nbloom b\n";
 
 impl<P: Parts> Made<P> {
     /// Opens the store of a configuration and closes it: how many blocks it has.
-    fn opened(&mut self, text: &[u8]) -> Option<Result<u64, OpenBad>> {
+    fn opened(&mut self, text: &[u8]) -> Option<Result<u64, OpenError>> {
         configurations_can_be_opened();
         let Ok(conf) = parse_conf(self.alloc, text) else {
             return None;
@@ -47,25 +47,25 @@ const MADE: [Making<'static>; 6] = [
 ];
 
 /// What is told, and what isn't there or isn't in use.
-const CASES: [(&[u8], Result<u64, OpenBad>); 10] = [
+const CASES: [(&[u8], Result<u64, OpenError>); 10] = [
     (ALL, Ok(0)),
-    (b"arenas x\nisect i\n", Err(OpenBad::Missing { part: 0 })),
-    (b"arenas a\nisect x\n", Err(OpenBad::Missing { part: 1 })),
+    (b"arenas x\nisect i\n", Err(OpenError::Missing { part: 0 })),
+    (b"arenas a\nisect x\n", Err(OpenError::Missing { part: 1 })),
     (
         b"arenas a\nisect i\nbloom x\n",
-        Err(OpenBad::Missing { part: 2 }),
+        Err(OpenError::Missing { part: 2 }),
     ),
     (
         b"arenas a\narenas a\nisect i\n",
-        Err(OpenBad::Missing { part: 1 }),
+        Err(OpenError::Missing { part: 1 }),
     ),
     (
         b"arenas i\nisect x\n",
-        Err(OpenBad::Refused(MountBad::NotFormatted { part: 0 })),
+        Err(OpenError::Refused(MountBad::NotFormatted { part: 0 })),
     ),
     (
         b"arenas a\nisect c\n",
-        Err(OpenBad::Refused(MountBad::TooSmall {
+        Err(OpenError::Refused(MountBad::TooSmall {
             part: 1,
             len: 40_960,
             need: 41_472,
@@ -73,7 +73,7 @@ const CASES: [(&[u8], Result<u64, OpenBad>); 10] = [
     ),
     (
         b"arenas a\nisect j\n",
-        Err(OpenBad::Refused(MountBad::Disagree {
+        Err(OpenError::Refused(MountBad::Disagree {
             part: 1,
             field: MountField::First,
             found: 4,
@@ -82,7 +82,7 @@ const CASES: [(&[u8], Result<u64, OpenBad>); 10] = [
     ),
     (
         b"arenas a\nisect k\nbloom b\n",
-        Err(OpenBad::Refused(MountBad::Disagree {
+        Err(OpenError::Refused(MountBad::Disagree {
             part: 1,
             field: MountField::State,
             found: 0,
@@ -115,7 +115,7 @@ fn stores_are_opened(rt: HostRuntime) -> Result<(), Fail> {
 
 // ---- calls that fail
 
-const FAULT: Result<u64, OpenBad> = Err(OpenBad::Refused(MountBad::Fault));
+const FAULT: Result<u64, OpenError> = Err(OpenError::Refused(MountBad::Fault));
 
 /// The section's disk has 32 calls when it is put to use, and three more open it. Behind the one
 /// that fails the store is opened again.
@@ -159,7 +159,7 @@ fn state_behind<P: Parts>(to: &mut Made<P>) -> Result<u128, &'static str> {
     }
     match to.opened(ONE) {
         Some(Ok(_)) => Ok(1),
-        Some(Err(OpenBad::Refused(MountBad::Disagree { part: 1, found, .. }))) => Ok(found),
+        Some(Err(OpenError::Refused(MountBad::Disagree { part: 1, found, .. }))) => Ok(found),
         _ => Err("why the store isn't opened"),
     }
 }

@@ -9,14 +9,14 @@ use vt_check::{ArenaReport, CheckErr, Damage, Report};
 use vt_conf::parse_conf;
 use vt_disk::Disk;
 use vt_format::Index;
+use vt_maintain::{MaintainError, check_store, rebuild_store};
 use vt_memdisk::{CrashMode, Listed, MemDisk};
-use vt_open::{OpenBad, configurations_can_be_opened};
+use vt_open::{OpenError, configurations_can_be_opened};
 use vt_out::Silent;
-use vt_parts::Parts;
+use vt_partitions::Parts;
 use vt_rebuild::RebuildBad;
-use vt_rows::{Rows, Wrong};
+use vt_rows::{RowError, Rows};
 use vt_single::{read_stored, write_stored};
-use vt_upkeep::{UpkeepBad, check_store, rebuild_store};
 
 /// Partitions that a test makes. What is done to them is proved for any such, which is much less
 /// work than for those in memory, and runs on those.
@@ -72,13 +72,13 @@ fn block(number: u16) -> [u8; 3] {
     [b'n', high, low]
 }
 
-type Rebuilt = Result<u64, UpkeepBad<RebuildBad>>;
+type Rebuilt = Result<u64, MaintainError<RebuildBad>>;
 
-type Checked = Result<Report, UpkeepBad<CheckErr>>;
+type Checked = Result<Report, MaintainError<CheckErr>>;
 
 /// What is told of the first section.
-fn refused<T, E>(bad: MountBad) -> Result<T, UpkeepBad<E>> {
-    Err(UpkeepBad::Unopened(OpenBad::Refused(bad)))
+fn refused<T, E>(bad: MountBad) -> Result<T, MaintainError<E>> {
+    Err(MaintainError::Unopened(OpenError::Refused(bad)))
 }
 
 /// The configuration of a store of arenas, and of sections with one bucket and with two; and its
@@ -197,7 +197,7 @@ impl<P: TestParts> Made<P> {
     fn is_checked(
         &mut self,
         rt: &(impl Threads + Sync),
-    ) -> Option<Result<(), UpkeepBad<CheckErr>>> {
+    ) -> Option<Result<(), MaintainError<CheckErr>>> {
         match self.check(rt)? {
             Ok(_) => Some(Ok(())),
             Err(bad) => Some(Err(bad)),
@@ -369,8 +369,8 @@ fn letter<P: TestParts>(
     }
     match rebuilt {
         Some(Ok(3)) => return Ok('w'),
-        Some(Err(UpkeepBad::Ended(RebuildBad::Fault))) => {}
-        Some(Err(UpkeepBad::Unopened(OpenBad::Refused(MountBad::Fault)))) => {}
+        Some(Err(MaintainError::Ended(RebuildBad::Fault))) => {}
+        Some(Err(MaintainError::Unopened(OpenError::Refused(MountBad::Fault)))) => {}
         _ => return Err("why the index isn't rebuilt"),
     }
     state(rt, store)
@@ -385,8 +385,8 @@ fn state<P: TestParts>(
         Some(Ok(())) => Ok('u'),
         Some(
             Err(
-                UpkeepBad::Unopened(
-                    OpenBad::Refused(
+                MaintainError::Unopened(
+                    OpenError::Refused(
                         MountBad::Disagree {
                             field: MountField::State,
                             found: 2,
@@ -461,7 +461,11 @@ fn see<P: TestParts>(
 }
 
 /// The same, of partitions in memory.
-fn see_in_memory(rt: &(impl Threads + Sync), alloc: Global, case: Case<'_>) -> Result<(), Wrong> {
+fn see_in_memory(
+    rt: &(impl Threads + Sync),
+    alloc: Global,
+    case: Case<'_>,
+) -> Result<(), RowError> {
     let mut rows = Rows::new();
     see(rt, &mut in_memory(alloc), case, &mut rows);
     rows.all()

@@ -5,18 +5,18 @@ use Rattle.std.proofs.lemmas.List.{map-append}
 use Rattle.std.proofs.lemmas.List.Elements.{filter_map-append}
 use Rattle.vt_base.specs.Protocol.{Operation, read}
 use Rattle.vt_base.specs.declared.TheConstants.{MAX_BLOCK}
-use Rattle.vt_tree.specs.declared.err.BlockErr.{BlockErr}
-use Rattle.vt_tree.specs.declared.err.TreeErr.{TreeErr}
-use Rattle.vt_tree.specs.declared.err.TreeErr.TheVariants as errs
+use Rattle.vt_tree.specs.declared.error.BlockErr.{BlockErr}
+use Rattle.vt_tree.specs.declared.error.TreeErr.{TreeErr}
+use Rattle.vt_tree.specs.declared.error.TreeErr.TheVariants as errs
 use Rattle.vt_tree.specs.declared.entry.Entry.{Entry}
-use Rattle.vt_tree.specs.declared.plain.Trouble.{Trouble}
-use Rattle.vt_tree.specs.declared.plain.Trouble.TheVariants.{Absent, BadBlock}
-use Rattle.vt_tree.specs.Calls.{Call, get, asked_of, refusal_of, refusals_of, IsGet, Tells}
+use Rattle.vt_tree.specs.declared.plain.ContentError.{ContentError}
+use Rattle.vt_tree.specs.declared.plain.ContentError.TheVariants.{Absent, BadBlock}
+use Rattle.vt_tree.specs.Calls.{Call, get, asked_of, refusal_of, refusals_of, IsGet, TellsOfMap}
 use Rattle.vt_tree.specs.Content.{AreGiven, FirstTrouble, fits_at}
 use Rattle.vt_tree.specs.Making.{EndsBy}
 use Rattle.vt_tree.specs.Maps.{BlockMap, IsWriteOnce}
-use Rattle.vt_tree.specs.Reading.{EndsBadly, AsksFor, Gives, refused_by}
-use Rattle.vt_tree.specs.Walking.{Appends, AppendsBytes, ReadsBlock, with_bytes}
+use Rattle.vt_tree.specs.Reading.{EndsBadly, AsksFor, GivesBytes, refused_by}
+use Rattle.vt_tree.specs.Walking.{AppendsRange, AppendsBytes, ReadsBlock, answered_bytes}
 use Rattle.vt_tree.proofs.Givens.{gives_more, gives_no_more, gives_there}
 use Rattle.vt_tree.proofs.Making.{makes_more, makes_one}
 
@@ -79,9 +79,9 @@ badly_more e (Err errs.NoMemory) xs ys bad = tt
 module _ {S : Type 0} (does : S → Call → S → Type 0) (score_of : List ℕ → List ℕ)
     (e : Entry) where
   -- memory was short before anything was asked for
-  pub nothing_read : (s : S) (byte : BlockMap → ℕ → Result ℕ Trouble)
+  pub nothing_read : (s : S) (byte : BlockMap → ℕ → Result ℕ ContentError)
       (way : BlockMap → List Operation) (from len : ℕ) (old new : List ℕ)
-      → Appends does score_of e s s byte way from len old new (Err errs.NoMemory)
+      → AppendsRange does score_of e s s byte way from len old new (Err errs.NoMemory)
   nothing_read s byte way from len old new = record {
     calls = [];
     made = refl;
@@ -96,12 +96,12 @@ module _ {S : Type 0} (does : S → Call → S → Type 0) (score_of : List ℕ 
   }
 
   -- bytes that are known without a call
-  pub known : (s : S) (byte : BlockMap → ℕ → Result ℕ Trouble) (way : BlockMap → List Operation)
+  pub known : (s : S) (byte : BlockMap → ℕ → Result ℕ ContentError) (way : BlockMap → List Operation)
       (from len : ℕ) (old new bytes : List ℕ) (result : Result (Unit {0}) TreeErr)
       → AppendsBytes bytes old new result → length bytes ≡ len
       → ((blocks : BlockMap) → IsWriteOnce score_of blocks → AreGiven (byte blocks) from bytes)
       → ((blocks : BlockMap) → way blocks ≡ [])
-      → Appends does score_of e s s byte way from len old new result
+      → AppendsRange does score_of e s s byte way from len old new result
   known s byte way from len old new bytes (Ok done) appended whole given none = record {
     calls = [];
     made = refl;
@@ -115,16 +115,16 @@ module _ {S : Type 0} (does : S → Call → S → Type 0) (score_of : List ℕ 
     gives = λ blocks once tells. (whole, given blocks once);
   }
   known s byte way from len old new bytes (Err err) appended whole given none =
-      subst (λ (x : TreeErr). Appends does score_of e s s byte way from len old new (Err x))
+      subst (λ (x : TreeErr). AppendsRange does score_of e s s byte way from len old new (Err x))
       (sym appended) (nothing_read s byte way from len old new)
 
   -- the same, by another name of the blocks asked for
-  pub same_way : (s s' : S) (byte : BlockMap → ℕ → Result ℕ Trouble)
+  pub same_way : (s s' : S) (byte : BlockMap → ℕ → Result ℕ ContentError)
       (way other : BlockMap → List Operation) (from len : ℕ) (old new : List ℕ)
       (result : Result (Unit {0}) TreeErr)
       → ((blocks : BlockMap) → way blocks ≡ other blocks)
-      → Appends does score_of e s s' byte way from len old new result
-      → Appends does score_of e s s' byte other from len old new result
+      → AppendsRange does score_of e s s' byte way from len old new result
+      → AppendsRange does score_of e s s' byte other from len old new result
   same_way s s' byte way other from len old new result same part = record {
     calls = part.calls;
     made = part.made;
@@ -140,12 +140,12 @@ module _ {S : Type 0} (does : S → Call → S → Type 0) (score_of : List ℕ 
   }
 
   -- the same, where other bytes from another place on are the same
-  pub same_bytes : (s s' : S) (f g : BlockMap → ℕ → Result ℕ Trouble)
+  pub same_bytes : (s s' : S) (f g : BlockMap → ℕ → Result ℕ ContentError)
       (way : BlockMap → List Operation) (a b len : ℕ) (old new : List ℕ)
       (result : Result (Unit {0}) TreeErr)
       → ((blocks : BlockMap) (i : ℕ) → i < len → f blocks (a + i) ≡ g blocks (b + i))
-      → Appends does score_of e s s' g way b len old new result
-      → Appends does score_of e s s' f way a len old new result
+      → AppendsRange does score_of e s s' g way b len old new result
+      → AppendsRange does score_of e s s' f way a len old new result
   same_bytes s s' f g way a b len old new result same part = record {
     calls = part.calls;
     made = part.made;
@@ -157,15 +157,15 @@ module _ {S : Type 0} (does : S → Call → S → Type 0) (score_of : List ℕ 
     appended = part.appended;
     asked = part.asked;
     gives = λ blocks once tells. gives_there (f blocks) (g blocks) a b len (same blocks)
-        (with_bytes result part.bytes) (part.gives blocks once tells);
+        (answered_bytes result part.bytes) (part.gives blocks once tells);
   }
 
   -- one part was read, and then a second one
-  pub joined : (s mid s' : S) (byte : BlockMap → ℕ → Result ℕ Trouble)
+  pub joined : (s mid s' : S) (byte : BlockMap → ℕ → Result ℕ ContentError)
       (way more : BlockMap → List Operation) (from n m : ℕ) (old half new : List ℕ)
-      → Appends does score_of e s mid byte way from n old half (Ok tt)
-      → Appends does score_of e mid s' byte more (from + n) m half new (Ok tt)
-      → Appends does score_of e s s' byte (λ blocks. way blocks ++ more blocks) from (n + m) old new
+      → AppendsRange does score_of e s mid byte way from n old half (Ok tt)
+      → AppendsRange does score_of e mid s' byte more (from + n) m half new (Ok tt)
+      → AppendsRange does score_of e s s' byte (λ blocks. way blocks ++ more blocks) from (n + m) old new
       (Ok tt)
   joined s mid s' byte way more from n m old half new one two = record {
     calls = one.calls ++ two.calls;
@@ -182,24 +182,24 @@ module _ {S : Type 0} (does : S → Call → S → Type 0) (score_of : List ℕ 
     );
     asked = λ blocks once tells.
         map-append asked_of one.calls two.calls
-        ∙ (λ i. one.asked blocks once (all_first (Tells score_of blocks) one.calls two.calls tells)
+        ∙ (λ i. one.asked blocks once (all_first (TellsOfMap score_of blocks) one.calls two.calls tells)
         i
-        ++ two.asked blocks once (all_then (Tells score_of blocks) one.calls two.calls tells) i);
+        ++ two.asked blocks once (all_then (TellsOfMap score_of blocks) one.calls two.calls tells) i);
     gives = λ blocks once tells.
         gives_more (byte blocks) from n m one.bytes (Ok two.bytes) one.appended.1
-        (one.gives blocks once (all_first (Tells score_of blocks) one.calls two.calls tells)).1
-        (two.gives blocks once (all_then (Tells score_of blocks) one.calls two.calls tells));
+        (one.gives blocks once (all_first (TellsOfMap score_of blocks) one.calls two.calls tells)).1
+        (two.gives blocks once (all_then (TellsOfMap score_of blocks) one.calls two.calls tells));
   }
 
   -- one part was read, and the second one was given up
-  pub given_up : (s mid s' : S) (byte : BlockMap → ℕ → Result ℕ Trouble)
+  pub given_up : (s mid s' : S) (byte : BlockMap → ℕ → Result ℕ ContentError)
       (way more all : BlockMap → List Operation) (from n m len : ℕ) (old half new : List ℕ)
       (err : TreeErr) → n + m ≤ len
       → ((blocks : BlockMap) → (rest : List Operation)
       × ((way blocks ++ more blocks) ++ rest ≡ all blocks))
-      → Appends does score_of e s mid byte way from n old half (Ok tt)
-      → Appends does score_of e mid s' byte more (from + n) m half new (Err err)
-      → Appends does score_of e s s' byte all from len old new (Err err)
+      → AppendsRange does score_of e s mid byte way from n old half (Ok tt)
+      → AppendsRange does score_of e mid s' byte more (from + n) m half new (Err err)
+      → AppendsRange does score_of e s s' byte all from len old new (Err err)
   given_up s mid s' byte way more all from n m len old half new err within begins one two = record {
     calls = one.calls ++ two.calls;
     made = makes_more does s mid s' one.calls two.calls one.made two.made;
@@ -212,9 +212,9 @@ module _ {S : Type 0} (does : S → Call → S → Type 0) (score_of : List ℕ 
     appended = tt;
     asked = λ blocks once tells.
         let first = one.asked blocks once
-        (all_first (Tells score_of blocks) one.calls two.calls tells) in
+        (all_first (TellsOfMap score_of blocks) one.calls two.calls tells) in
         let then = two.asked blocks once
-        (all_then (Tells score_of blocks) one.calls two.calls tells) in (
+        (all_then (TellsOfMap score_of blocks) one.calls two.calls tells) in (
           then.0 ++ (begins blocks).0,
           ap (λ (l : List Operation). l ++ (then.0 ++ (begins blocks).0))
               (map-append asked_of one.calls two.calls)
@@ -222,11 +222,11 @@ module _ {S : Type 0} (does : S → Call → S → Type 0) (score_of : List ℕ 
               ∙ (λ i. (first i ++ then.1 i) ++ (begins blocks).0) ∙ (begins blocks).1,
         );
     gives = λ blocks once tells.
-        subst (λ (k : ℕ). Gives (byte blocks) from k (Err err)) (sum within)
+        subst (λ (k : ℕ). GivesBytes (byte blocks) from k (Err err)) (sum within)
         (gives_no_more (byte blocks) from (n + m) (len - (n + m)) err
         (gives_more (byte blocks) from n m one.bytes (Err err) one.appended.1
-        (one.gives blocks once (all_first (Tells score_of blocks) one.calls two.calls tells)).1
-        (two.gives blocks once (all_then (Tells score_of blocks) one.calls two.calls tells))));
+        (one.gives blocks once (all_first (TellsOfMap score_of blocks) one.calls two.calls tells)).1
+        (two.gives blocks once (all_then (TellsOfMap score_of blocks) one.calls two.calls tells))));
   }
     where
       sum : n + m ≤ len → n + m + (len - (n + m)) ≡ len
@@ -236,10 +236,10 @@ module _ {S : Type 0} (does : S → Call → S → Type 0) (score_of : List ℕ 
       regroup a b c d = simp append_assoc
 
   -- a part that was given up is where the whole was
-  pub cut_short : (s s' : S) (byte : BlockMap → ℕ → Result ℕ Trouble)
+  pub cut_short : (s s' : S) (byte : BlockMap → ℕ → Result ℕ ContentError)
       (way : BlockMap → List Operation) (from n len : ℕ) (old new : List ℕ) (err : TreeErr)
-      → n ≤ len → Appends does score_of e s s' byte way from n old new (Err err)
-      → Appends does score_of e s s' byte way from len old new (Err err)
+      → n ≤ len → AppendsRange does score_of e s s' byte way from n old new (Err err)
+      → AppendsRange does score_of e s s' byte way from len old new (Err err)
   cut_short s s' byte way from n len old new err within part = record {
     calls = part.calls;
     made = part.made;
@@ -251,7 +251,7 @@ module _ {S : Type 0} (does : S → Call → S → Type 0) (score_of : List ℕ 
     appended = tt;
     asked = part.asked;
     gives = λ blocks once tells.
-        subst (λ (k : ℕ). Gives (byte blocks) from k (Err err)) (sum within)
+        subst (λ (k : ℕ). GivesBytes (byte blocks) from k (Err err)) (sum within)
         (gives_no_more (byte blocks) from n (len - n) err (part.gives blocks once tells));
   }
     where
@@ -262,15 +262,15 @@ module _ {S : Type 0} (does : S → Call → S → Type 0) (score_of : List ℕ 
 
   -- a block came, and the rest was read by it
   pub behind_block : (s mid s' : S) (kind : ℕ) (score block : List ℕ)
-      (byte by_block : BlockMap → ℕ → Result ℕ Trouble) (way more : BlockMap → List Operation)
+      (byte by_block : BlockMap → ℕ → Result ℕ ContentError) (way more : BlockMap → List Operation)
       (from len : ℕ) (old new : List ℕ) (result : Result (Unit {0}) TreeErr)
       → ((blocks : BlockMap) → blocks score kind ≡ Some block → (i : ℕ) → i < len
       → byte blocks (from + i) ≡ by_block blocks (from + i))
       → ((blocks : BlockMap) → blocks score kind ≡ Some block
       → way blocks ≡ read score kind MAX_BLOCK ∷ more blocks)
       → does s (get kind score (Ok block)) mid
-      → Appends does score_of e mid s' by_block more from len old new result
-      → Appends does score_of e s s' byte way from len old new result
+      → AppendsRange does score_of e mid s' by_block more from len old new result
+      → AppendsRange does score_of e s s' byte way from len old new result
   behind_block s mid s' kind score block byte by_block way more from len old new result same goes
       got part = record {
         calls = get kind score (Ok block) ∷ part.calls;
@@ -288,7 +288,7 @@ module _ {S : Type 0} (does : S → Call → S → Type 0) (score_of : List ℕ 
             (one_more result (read score kind MAX_BLOCK) (map asked_of part.calls) (more blocks)
             (part.asked blocks once tells.1));
         gives = λ blocks once tells. gives_there (byte blocks) (by_block blocks) from from len
-            (same blocks tells.0) (with_bytes result part.bytes) (part.gives blocks once tells.1);
+            (same blocks tells.0) (answered_bytes result part.bytes) (part.gives blocks once tells.1);
       }
     where
       one_more : (r : Result (Unit {0}) TreeErr) (x : Operation) (asked wanted : List Operation)
@@ -298,7 +298,7 @@ module _ {S : Type 0} (does : S → Call → S → Type 0) (score_of : List ℕ 
           (are.0, ap (λ (l : List Operation). x ∷ l) are.1)
 
   -- a trouble of the first byte
-  at_first : (byte : ℕ → Result ℕ Trouble) (from len : ℕ) (trouble : Trouble) → 0 < len
+  at_first : (byte : ℕ → Result ℕ ContentError) (from len : ℕ) (trouble : ContentError) → 0 < len
       → byte from ≡ Err trouble → FirstTrouble byte from len trouble
   at_first byte from len trouble some is = record {
     place = 0;
@@ -312,7 +312,7 @@ module _ {S : Type 0} (does : S → Call → S → Type 0) (score_of : List ℕ 
 
   -- no block came, or one that doesn't fit
   pub no_block_came : (s s' : S) (depth kind : ℕ) (score : List ℕ)
-      (byte : BlockMap → ℕ → Result ℕ Trouble) (way : BlockMap → List Operation) (from len : ℕ)
+      (byte : BlockMap → ℕ → Result ℕ ContentError) (way : BlockMap → List Operation) (from len : ℕ)
       (old new : List ℕ) (err : TreeErr) → 0 < len
       → ((blocks : BlockMap) → blocks score kind ≡ None → byte blocks from ≡ Err Absent)
       → ((blocks : BlockMap) (block : List ℕ) → blocks score kind ≡ Some block
@@ -321,7 +321,7 @@ module _ {S : Type 0} (does : S → Call → S → Type 0) (score_of : List ℕ 
       → ((blocks : BlockMap) → (rest : List Operation)
       × (read score kind MAX_BLOCK ∷ rest ≡ way blocks))
       → ReadsBlock does s s' e depth kind score (Err err)
-      → Appends does score_of e s s' byte way from len old new (Err err)
+      → AppendsRange does score_of e s s' byte way from len old new (Err err)
   no_block_came s s' depth kind score byte way from len old new (errs.Block err) some absent bad
       begins asked = record {
         calls = get kind score (Err err) ∷ [];

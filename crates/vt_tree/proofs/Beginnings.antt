@@ -8,7 +8,7 @@ use Rattle.std.proofs.Math.Seq.{take-append-add}
 use Rattle.std.proofs.lemmas.List.Concat.{flat_map-append}
 use Rattle.vt_model.specs.History.{Block}
 use Rattle.vt_tree.specs.Content.{scores_in}
-use Rattle.vt_tree.specs.Streams.{Shape, Tree, pieces, pointer_block, tree_of}
+use Rattle.vt_tree.specs.Streams.{Shape, Tree, pieces_of_len, pointer_block, tree_of}
 use Rattle.vt_tree.proofs.Pieces.{pieces_join}
 use Rattle.vt_tree.proofs.Trees.{trees, first_piece}
 
@@ -35,7 +35,7 @@ module _ (score_of : List ℕ → List ℕ) (shape : Shape) (some : 0 < scores_i
       let one : 1 ≤ q = one-le-pow d (scores_in shape.psize) some in
       ap (flat_map (λ (t : Tree). t.blocks))
       (ap (map (tree_of score_of shape d)) (pieces_join q leaves more n (omega arith) whole)
-      ∙ map-append (tree_of score_of shape d) (pieces q leaves) (pieces q more))
+      ∙ map-append (tree_of score_of shape d) (pieces_of_len q leaves) (pieces_of_len q more))
       ∙ flat_map-append (λ (t : Tree). t.blocks) (trees score_of shape d leaves)
       (trees score_of shape d more)
 

@@ -8,14 +8,14 @@ use Rattle.std.proofs.lemmas.Nat.{div-mul-add, mod-mul-add, div_below, le-div}
 use Rattle.std.proofs.lemmas.Slice.Eq.{bytes_eq-Decides}
 use Rattle.vt_base.specs.Protocol.{Operation, read}
 use Rattle.vt_base.specs.declared.TheConstants.{MAX_BLOCK}
-use Rattle.vt_tree.specs.declared.err.TreeErr.{TreeErr}
+use Rattle.vt_tree.specs.declared.error.TreeErr.{TreeErr}
 use Rattle.vt_tree.specs.declared.entry.Entry.{Entry}
-use Rattle.vt_tree.specs.declared.plain.Trouble.{Trouble}
-use Rattle.vt_tree.specs.declared.plain.Trouble.TheVariants.{BadBlock}
+use Rattle.vt_tree.specs.declared.plain.ContentError.{ContentError}
+use Rattle.vt_tree.specs.declared.plain.ContentError.TheVariants.{BadBlock}
 use Rattle.vt_tree.specs.Calls.{Call}
 use Rattle.vt_tree.specs.Content.{AreGiven, byte_of, byte_of_leaf, byte_below, fits_at, led, leaf_kind, pointer_kind, score_in, score_of_pointers, scores_in, through, way_below, way_through, way_to}
 use Rattle.vt_tree.specs.Maps.{BlockMap}
-use Rattle.vt_tree.specs.Walking.{Appends, AppendsBytes, ReadsBelow, ReadsEach, ReadsAt, ReadsFile, ReadsBlock, byte_under, cut_out}
+use Rattle.vt_tree.specs.Walking.{AppendsRange, AppendsBytes, ReadsBelow, ReadsEach, ReadsAt, ReadsFile, ReadsBlock, byte_under, cut_out}
 use Rattle.vt_tree.proofs.Appending.{known, same_way, same_bytes, joined, given_up, cut_short, behind_block, no_block_came}
 use Rattle.vt_tree.proofs.Contents.{leaf_byte, pointers_lead, nothing_below, past_the_reach, mod_small}
 use Rattle.vt_tree.proofs.Places.{child_of, leaf_inside, byte_inside}
@@ -59,7 +59,7 @@ zeros_at len i = elim (cases_lt i len) [
   | inr past ↦ get_or_past (replicate len 0) i 0 (omega (arith, length-replicate {A = ℕ} len 0))
 ]
 
-zeros_given : (byte : ℕ → Result ℕ Trouble) (at len : ℕ)
+zeros_given : (byte : ℕ → Result ℕ ContentError) (at len : ℕ)
     → ((i : ℕ) → i < len → byte (at + i) ≡ Ok 0) → AreGiven byte at (replicate len 0)
 zeros_given byte at len zeros i within =
     zeros i (omega (arith, length-replicate {A = ℕ} len 0))
@@ -191,7 +191,7 @@ module _ {S : Type 0} (does : S → Call → S → Type 0) (score_of : List ℕ 
         (way_below (score_of []) blocks e d) (from / e.dsize) ((from + len - 1) / e.dsize + 1))
         from len old new result
         (λ blocks has i inside.
-        ap (λ (r : Result (Option (List ℕ)) Trouble). through r
+        ap (λ (r : Result (Option (List ℕ)) ContentError). through r
         (λ t. byte_below blocks e d t ((from + i) / e.dsize % scores_in e.psize ^ d)
         ((from + i) % e.dsize)))
         (leads blocks has ((from + i) / e.dsize / scores_in e.psize ^ d)))
@@ -463,7 +463,7 @@ module _ {S : Type 0} (does : S → Call → S → Type 0) (score_of : List ℕ 
       -- the first part, as one of the file
       first_part : (s s' : S) (old new : List ℕ) (result : Result (Unit {0}) TreeErr)
           → ReadsBelow does score_of s s' e e.depth e.score.0 from reached old new result
-          → Appends does score_of e s s' (λ blocks p. byte_of blocks e p)
+          → AppendsRange does score_of e s s' (λ blocks p. byte_of blocks e p)
           (λ blocks. way_to (score_of []) blocks e from len) from reached old new result
       first_part s s' old new result part =
           same_way does score_of e s s' (λ blocks p. byte_of blocks e p)
@@ -489,7 +489,7 @@ module _ {S : Type 0} (does : S → Call → S → Type 0) (score_of : List ℕ 
           → ReadsFile does score_of s s' e from len old new result
       reads_all s s' old half new result part appended = of result rest
         where
-          rest : Appends does score_of e s' s' (λ blocks p. byte_of blocks e p) (λ blocks. [])
+          rest : AppendsRange does score_of e s' s' (λ blocks p. byte_of blocks e p) (λ blocks. [])
               (from + reached) (len - reached) half new result
           rest = known does score_of e s' (λ blocks p. byte_of blocks e p) (λ blocks. [])
               (from + reached) (len - reached) half new (replicate (len - reached) 0) result
@@ -506,11 +506,11 @@ module _ {S : Type 0} (does : S → Call → S → Type 0) (score_of : List ℕ 
           sum = omega arith
 
           of : (r : Result (Unit {0}) TreeErr)
-              → Appends does score_of e s' s' (λ blocks p. byte_of blocks e p) (λ blocks. [])
+              → AppendsRange does score_of e s' s' (λ blocks p. byte_of blocks e p) (λ blocks. [])
               (from + reached) (len - reached) half new r
               → ReadsFile does score_of s s' e from len old new r
           of (Ok done) more =
-              subst (λ (k : ℕ). Appends does score_of e s s' (λ blocks p. byte_of blocks e p)
+              subst (λ (k : ℕ). AppendsRange does score_of e s s' (λ blocks p. byte_of blocks e p)
               (λ blocks. way_to (score_of []) blocks e from len) from k old new (Ok tt)) sum
               (same_way does score_of e s s' (λ blocks p. byte_of blocks e p)
               (λ blocks. way_to (score_of []) blocks e from len ++ [])

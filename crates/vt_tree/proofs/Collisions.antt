@@ -12,7 +12,7 @@ use Rattle.vt_model.specs.History.{Block}
 use Rattle.vt_model.proofs.Lists.{All-from_list_any}
 use Rattle.vt_tree.specs.declared.mem_blocks.Stored.{Stored}
 use Rattle.vt_tree.specs.Maps.{HasNoOther}
-use Rattle.vt_tree.specs.Memory.{Memory, Collides, block_of, held_in, map_of, IsKept}
+use Rattle.vt_tree.specs.Memory.{BlocksMemory, Collides, block_of, held_in, map_of, IsKeptBlock}
 use Rattle.vt_tree.proofs.Searches.{has_key, search_finds, none_is_held, found_is}
 
 -- a block as it is kept has this score, and other bytes
@@ -31,7 +31,7 @@ more : {X : Type 0} (P : X → Type 0) (y : X) (xs : List X) → Any P xs → An
 more P y xs a = (suc a.0, a.1, omega (arith, a.2), a.3, a.4)
 
 other_collides : (score_of : List ℕ → List ℕ) (bytes : List ℕ) (kept : List Stored)
-    → All (IsKept score_of) kept → list_any (is_other (score_of bytes) bytes) kept ≡ true
+    → All (IsKeptBlock score_of) kept → list_any (is_other (score_of bytes) bytes) kept ≡ true
     → Any (λ (x : List ℕ). (score_of x ≡ score_of bytes) × (x ≢ bytes))
     (map (λ b. b.bytes) (map block_of kept))
 other_collides score_of bytes [] scored some = absurd (false≢true some)
@@ -45,7 +45,7 @@ other_collides score_of bytes (b ∷ kept) scored some =
             omega arith,
             refl,
             (
-              sym (All-head (IsKept score_of) b kept scored).own
+              sym (All-head (IsKeptBlock score_of) b kept scored).own
                   ∙ (bytes_eq-Decides b.key.score.0 (score_of bytes)).0 parts.0,
               λ same. false≢true (sym (is_not (bytes_eq b.bytes bytes) parts.1)
                   ∙ (bytes_eq-Decides b.bytes bytes).1 same),
@@ -53,27 +53,27 @@ other_collides score_of bytes (b ∷ kept) scored some =
           )
       | inr miss ↦
           more _ b.bytes _ (other_collides score_of bytes kept
-          (All-tail (IsKept score_of) b kept scored)
+          (All-tail (IsKeptBlock score_of) b kept scored)
           (ap (λ (t : Bool). t || list_any (is_other (score_of bytes) bytes) kept) (sym miss)
           ∙ some))
     ]
 
 -- a block, or no bytes, has the score and is other
-collides : (score_of : List ℕ → List ℕ) (bytes : List ℕ) (kept : List Stored) (m : Memory)
-    → m.blocks ≡ map block_of kept → All (IsKept score_of) kept
+collides : (score_of : List ℕ → List ℕ) (bytes : List ℕ) (kept : List Stored) (m : BlocksMemory)
+    → m.blocks ≡ map block_of kept → All (IsKeptBlock score_of) kept
     → list_any (is_other (score_of bytes) bytes) kept ≡ true → Collides score_of m bytes
 collides score_of bytes kept m is scored some =
     more _ [] _ (subst (λ (bs : List Block).
     Any (λ (x : List ℕ). (score_of x ≡ score_of bytes) × (x ≢ bytes)) (map (λ b. b.bytes) bs))
     (sym is) (other_collides score_of bytes kept scored some))
 
-zero_collides : (score_of : List ℕ → List ℕ) (bytes : List ℕ) (m : Memory)
+zero_collides : (score_of : List ℕ → List ℕ) (bytes : List ℕ) (m : BlocksMemory)
     → score_of bytes ≡ score_of [] → (length bytes ≡ 0 → ⊥) → Collides score_of m bytes
 zero_collides score_of bytes m zero some =
     (0, [], omega arith, refl, (sym zero, λ same. some (ap length (sym same))))
 
 -- under the score of no bytes there are none
-zero_alone : (score_of : List ℕ → List ℕ) (m : Memory) (b : Block)
+zero_alone : (score_of : List ℕ → List ℕ) (m : BlocksMemory) (b : Block)
     → bytes_eq (score_of b.bytes) (score_of []) ≡ true → length b.bytes ≡ 0
     → HasNoOther score_of (held_in score_of m) b
 zero_alone score_of m b zero none kind bytes has =
@@ -82,8 +82,8 @@ zero_alone score_of m b zero none kind bytes has =
     sym same ∙ sym (nil_from_length b.bytes none)
 
 -- where no block has the score and other bytes, what is held under it is the same
-no_other : (score_of : List ℕ → List ℕ) (kept : List Stored) (m : Memory) (b : Block)
-    → m.blocks ≡ map block_of kept → All (IsKept score_of) kept
+no_other : (score_of : List ℕ → List ℕ) (kept : List Stored) (m : BlocksMemory) (b : Block)
+    → m.blocks ≡ map block_of kept → All (IsKeptBlock score_of) kept
     → bytes_eq (score_of b.bytes) (score_of []) ≡ false
     → list_any (is_other (score_of b.bytes) b.bytes) kept ≡ false
     → HasNoOther score_of (held_in score_of m) b
@@ -115,12 +115,12 @@ no_other score_of kept m b is scored other none kind bytes has =
         (sym (ap (λ (t : Bool). t && not (bytes_eq x.bytes b.bytes)) parts.0) ∙ among.0))
 
 -- what a test tells, of bytes that have the score of no bytes, and of others
-abbrev pub TellsCollision : (score_of : List ℕ → List ℕ) → Memory → List ℕ → Bool → Type 0
+abbrev pub TellsCollision : (score_of : List ℕ → List ℕ) → BlocksMemory → List ℕ → Bool → Type 0
 TellsCollision score_of m bytes test =
     MatchBool test (Collides score_of m bytes)
     ((kind : ℕ) → HasNoOther score_of (held_in score_of m) (record { kind = kind; bytes = bytes }))
 
-pub zero_told : (score_of : List ℕ → List ℕ) (m : Memory) (bytes : List ℕ)
+pub zero_told : (score_of : List ℕ → List ℕ) (m : BlocksMemory) (bytes : List ℕ)
     → bytes_eq (score_of bytes) (score_of []) ≡ true → (t : Bool) → t ≡ (length bytes == 0)
     → TellsCollision score_of m bytes (not t)
 zero_told score_of m bytes zero true is =
@@ -130,8 +130,8 @@ zero_told score_of m bytes zero false is =
     zero_collides score_of bytes m ((bytes_eq-Decides (score_of bytes) (score_of [])).0 zero)
     (λ none. false≢true (is ∙ eq-eqb (length bytes) 0 none))
 
-pub others_told : (score_of : List ℕ → List ℕ) (kept : List Stored) (m : Memory) (bytes : List ℕ)
-    → m.blocks ≡ map block_of kept → All (IsKept score_of) kept
+pub others_told : (score_of : List ℕ → List ℕ) (kept : List Stored) (m : BlocksMemory) (bytes : List ℕ)
+    → m.blocks ≡ map block_of kept → All (IsKeptBlock score_of) kept
     → bytes_eq (score_of bytes) (score_of []) ≡ false
     → (t : Bool) → t ≡ list_any (is_other (score_of bytes) bytes) kept
     → TellsCollision score_of m bytes t

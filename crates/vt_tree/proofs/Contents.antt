@@ -6,9 +6,9 @@ use Rattle.std.proofs.lemmas.Bool.{lt-ltb, le-ltb, le-leb, eq-eqb, and_from}
 use Rattle.std.proofs.lemmas.List.{ext_get_or}
 use Rattle.std.proofs.lemmas.Nat.{div-mul-add, mod-mul-add, le-div}
 use Rattle.vt_tree.specs.declared.entry.Entry.{Entry}
-use Rattle.vt_tree.specs.declared.plain.Trouble.{Trouble}
-use Rattle.vt_tree.specs.declared.plain.Trouble.TheVariants.{Absent, BadBlock}
-use Rattle.vt_tree.specs.Content.{byte_of, byte_below, byte_of_leaf, fits_at, score_in, score_of_pointers, through, leaf_kind, pointer_kind, scores_in, AreGiven, IsContent}
+use Rattle.vt_tree.specs.declared.plain.ContentError.{ContentError}
+use Rattle.vt_tree.specs.declared.plain.ContentError.TheVariants.{Absent, BadBlock}
+use Rattle.vt_tree.specs.Content.{byte_of, byte_below, byte_of_leaf, fits_at, score_in, score_of_pointers, through, leaf_kind, pointer_kind, scores_in, AreGiven, IsFileContent}
 use Rattle.vt_tree.specs.Maps.{BlockMap, IsWithin}
 
 -- a byte of a leaf that fits
@@ -50,7 +50,7 @@ nothing_below map e (suc d) score leaf byte none =
     let below = λ (s : List ℕ). byte_below map e d s (leaf % scores_in e.psize ^ d) byte in
     ap (λ (o : Option (List ℕ)). through (score_of_pointers e (suc d) place o) below)
     (none (pointer_kind (suc d)))
-    ∙ ap (λ (r : Result (Option (List ℕ)) Trouble). through r below)
+    ∙ ap (λ (r : Result (Option (List ℕ)) ContentError). through r below)
     (pointers_lead e d place [] (no_bytes_fit e d)
     ∙ ap (λ (o : Option (List ℕ)). Ok o) (no_score_there [] place (omega arith)))
 
@@ -65,7 +65,7 @@ below_pointers map e d score block s leaf byte held fits within is =
     let place : ℕ = leaf / scores_in e.psize ^ d in
     let below = λ (t : List ℕ). byte_below map e d t (leaf % scores_in e.psize ^ d) byte in
     ap (λ (o : Option (List ℕ)). through (score_of_pointers e (suc d) place o) below) held
-    ∙ ap (λ (r : Result (Option (List ℕ)) Trouble). through r below)
+    ∙ ap (λ (r : Result (Option (List ℕ)) ContentError). through r below)
     (pointers_lead e d place block fits
     ∙ ap (λ (o : Option (List ℕ)). Ok o) (score_there block place within))
     ∙ ap below is
@@ -78,7 +78,7 @@ past_pointers map e d score block leaf byte held fits past =
     let place : ℕ = leaf / scores_in e.psize ^ d in
     let below = λ (t : List ℕ). byte_below map e d t (leaf % scores_in e.psize ^ d) byte in
     ap (λ (o : Option (List ℕ)). through (score_of_pointers e (suc d) place o) below) held
-    ∙ ap (λ (r : Result (Option (List ℕ)) Trouble). through r below)
+    ∙ ap (λ (r : Result (Option (List ℕ)) ContentError). through r below)
     (pointers_lead e d place block fits
     ∙ ap (λ (o : Option (List ℕ)). Ok o) (no_score_there block place past))
 
@@ -96,7 +96,7 @@ deeper map e d depth score leaf byte leaves found o is leaves_is found_is told =
     ap (λ (k : ℕ). byte_below map e k score leaf byte) (sym is)
     ∙ (λ i. through (score_of_pointers e (is i) (leaf / power i) (block i))
     (λ s. byte_below map e d s (leaf % power i) byte))
-    ∙ ap (λ (r : Result (Option (List ℕ)) Trouble).
+    ∙ ap (λ (r : Result (Option (List ℕ)) ContentError).
     through r (λ s. byte_below map e d s (leaf % leaves) byte)) told
 
 -- ---- one leaf, none, and what isn't reached
@@ -129,7 +129,7 @@ one_leaf map e block p held fits depth within =
     (let one = pow-zero (scores_in e.psize) in omega arith)
     ∙ ap (byte_of_leaf e p) held ∙ leaf_byte e block p fits
 
-or_zero : (b : Bool) (x : Result ℕ Trouble) → x ≡ Ok 0 → cond b x (Ok 0) ≡ Ok 0
+or_zero : (b : Bool) (x : Result ℕ ContentError) → x ≡ Ok 0 → cond b x (Ok 0) ≡ Ok 0
 or_zero true x is = is
 or_zero false x is = refl
 
@@ -201,18 +201,18 @@ past_one_pointer_block map e pointers p held fits whole depth some past =
 
 -- ---- one content, which stays
 
-pub one_content : (map : BlockMap) (e : Entry) (a b : List ℕ) → IsContent map e a
-    → IsContent map e b → a ≡ b
+pub one_content : (map : BlockMap) (e : Entry) (a b : List ℕ) → IsFileContent map e a
+    → IsFileContent map e b → a ≡ b
 one_content map e a b x y = ext_get_or 0 a b (x.all ∙ sym y.all)
     (λ i within. same (byte_of map e (0 + i)) (get_or a i 0) (get_or b i 0) (x.each i within)
     (y.each i (let all : length a ≡ length b = x.all ∙ sym y.all in omega arith)))
   where
-    same : (r : Result ℕ Trouble) (m n : ℕ) → r ≡ Ok m → r ≡ Ok n → m ≡ n
+    same : (r : Result ℕ ContentError) (m n : ℕ) → r ≡ Ok m → r ≡ Ok n → m ≡ n
     same r m n p q = let both : Ok m ≡ Ok n = sym p ∙ q in cc
 
 module _ (old new : BlockMap) (within : IsWithin old new) (e : Entry) where
   -- what a block gave, it gives
-  found_stays : {X : Type 0} (from : Option (List ℕ) → Result X Trouble) (trouble : Trouble)
+  found_stays : {X : Type 0} (from : Option (List ℕ) → Result X ContentError) (trouble : ContentError)
       → from None ≡ Err trouble → (s : List ℕ) (kind : ℕ) (x : X)
       → from (old s kind) ≡ Ok x → from (new s kind) ≡ from (old s kind)
   found_stays {X} from trouble none s kind x given = of (old s kind) refl
@@ -223,7 +223,7 @@ module _ (old new : BlockMap) (within : IsWithin old new) (e : Entry) where
           let never : Err trouble ≡ Ok x = sym none ∙ ap from (sym is) ∙ given in cc
       of (Some block) is = ap from (within s kind block is ∙ sym is)
 
-  leads_on : (r : Result (Option (List ℕ)) Trouble) (f g : List ℕ → Result ℕ Trouble) (b : ℕ)
+  leads_on : (r : Result (Option (List ℕ)) ContentError) (f g : List ℕ → Result ℕ ContentError) (b : ℕ)
       → ((s : List ℕ) → f s ≡ Ok b → g s ≡ Ok b) → through r f ≡ Ok b → through r g ≡ Ok b
   leads_on (Err trouble) f g b more given = given
   leads_on (Ok None) f g b more given = given
@@ -250,7 +250,7 @@ module _ (old new : BlockMap) (within : IsWithin old new) (e : Entry) where
       (byte_below new e e.depth e.score.0 (p / e.dsize) (p % e.dsize))
       (below_stays e.depth e.score.0 (p / e.dsize) (p % e.dsize) b) given
     where
-      either : (t : Bool) (x y : Result ℕ Trouble) → (x ≡ Ok b → y ≡ Ok b)
+      either : (t : Bool) (x y : Result ℕ ContentError) → (x ≡ Ok b → y ≡ Ok b)
           → cond t x (Ok 0) ≡ Ok b → cond t y (Ok 0) ≡ Ok b
       either true x y more given = more given
       either false x y more given = given

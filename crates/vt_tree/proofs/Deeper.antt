@@ -5,12 +5,12 @@ use Rattle.std.proofs.lemmas.Bool.{cases_lt}
 use Rattle.std.proofs.lemmas.List.{map-append, nil_from_length}
 use Rattle.vt_base.specs.Protocol.{Operation}
 use Rattle.vt_base.specs.declared.score.Score.{Score}
-use Rattle.vt_tree.specs.declared.err.TreeErr.{TreeErr}
-use Rattle.vt_tree.specs.Calls.{Call, asked_of, write_of}
+use Rattle.vt_tree.specs.declared.error.TreeErr.{TreeErr}
+use Rattle.vt_tree.specs.Calls.{Call, asked_of, write_of_block}
 use Rattle.vt_tree.specs.Content.{scores_in}
 use Rattle.vt_tree.specs.Growing.{Next, TakesLeaves, HasFirst, GrowsTree, StopsTree}
 use Rattle.vt_tree.specs.Reading.{refusal_in}
-use Rattle.vt_tree.specs.Streams.{Shape, pieces, tree_of}
+use Rattle.vt_tree.specs.Streams.{Shape, pieces_of_len, tree_of}
 use Rattle.vt_tree.specs.Writing.{IsTaken, IsAll, IsGivenUpFor}
 use Rattle.vt_tree.proofs.Appending.{accepted_join, ends_more}
 use Rattle.vt_tree.proofs.Growth.{cut_all, cut_more, no_pieces, some_pieces, taken_more}
@@ -44,7 +44,7 @@ takes_join dsize a b c first second leaves more some x y still = elim (cases_lt 
             (subst (λ (ls : List (List ℕ)). a.leaf ++ first
             ≡ flat_map (λ (leaf : List ℕ). leaf) ls ++ c.leaf) same_leaves parts);
         cut = subst (λ (ls : List (List ℕ)). ls
-            ≡ pieces dsize (flat_map (λ (leaf : List ℕ). leaf) ls)) same_leaves x.cut;
+            ≡ pieces_of_len dsize (flat_map (λ (leaf : List ℕ). leaf) ls)) same_leaves x.cut;
         whole = λ later. absurd (omega (arith, ap length no_more));
         size = omega (arith, x.size, y.size, length-append first second, bytes);
         next = y.next;
@@ -110,11 +110,11 @@ module _ {S : Type 0} (does : S → Call → S → Type 0) (score_of : List ℕ 
         refused = ends_more (refusal_in err) f.calls a.calls f.accepted a.refused;
         rest = a.rest;
         puts =
-            ap (λ (l : List Operation). l ++ map write_of a.rest)
+            ap (λ (l : List Operation). l ++ map write_of_block a.rest)
             (map-append asked_of f.calls a.calls
             ∙ ap (λ (l : List Operation). l ++ map asked_of a.calls) f.puts)
             ∙ a.puts
-            ∙ ap (λ (ls : List (List ℕ)). map write_of (tree_of score_of shape (suc d)
+            ∙ ap (λ (ls : List (List ℕ)). map write_of_block (tree_of score_of shape (suc d)
             (take (scores_in shape.psize ^ suc d) ls)).blocks) all;
       },
       sizes,
@@ -123,8 +123,8 @@ module _ {S : Type 0} (does : S → Call → S → Type 0) (score_of : List ℕ 
         sizes : half.size + length a.bytes ≡ old.size + length (f.bytes ++ a.bytes)
         sizes = omega (arith, f.takes.size, length-append f.bytes a.bytes)
 
-        all : f.leaves ++ pieces shape.dsize (half.leaf ++ a.bytes)
-            ≡ pieces shape.dsize (old.leaf ++ (f.bytes ++ a.bytes))
+        all : f.leaves ++ pieces_of_len shape.dsize (half.leaf ++ a.bytes)
+            ≡ pieces_of_len shape.dsize (old.leaf ++ (f.bytes ++ a.bytes))
         all = elim (cases_lt 0 (length half.leaf)) [
           | inl left ↦
               sym (cut_more does score_of shape tells d some d_some old half f.bytes a.bytes
@@ -133,11 +133,11 @@ module _ {S : Type 0} (does : S → Call → S → Type 0) (score_of : List ℕ 
               let no_leaf : half.leaf ≡ [] = nil_from_length half.leaf (omega arith) in
               let no_bytes : a.bytes ≡ [] = a.still (omega arith) in
               ap (λ (ls : List (List ℕ)). f.leaves ++ ls)
-              ((λ i. pieces shape.dsize (no_leaf i ++ no_bytes i)) ∙ no_pieces shape.dsize d_some)
+              ((λ i. pieces_of_len shape.dsize (no_leaf i ++ no_bytes i)) ∙ no_pieces shape.dsize d_some)
               ∙ append-nil f.leaves
               ∙ sym (cut_all does score_of shape tells d some d_some old half f.bytes f.leaves
               (omega arith) f.takes)
-              ∙ ap (λ (l : List ℕ). pieces shape.dsize (old.leaf ++ l))
+              ∙ ap (λ (l : List ℕ). pieces_of_len shape.dsize (old.leaf ++ l))
               (sym (append-nil f.bytes)
               ∙ ap (λ (l : List ℕ). f.bytes ++ l) (sym no_bytes))
         ]
@@ -148,7 +148,7 @@ module _ {S : Type 0} (does : S → Call → S → Type 0) (score_of : List ℕ 
       → StopsTree does score_of s s' shape (suc d) old coming [] [] err
   stopped_first s s' old coming err came f =
       let more = begins score_of shape (suc d) d (omega arith)
-      (pieces shape.dsize (old.leaf ++ f.bytes))
+      (pieces_of_len shape.dsize (old.leaf ++ f.bytes))
       (some_pieces does score_of shape tells d some d_some (old.leaf ++ f.bytes)
       (omega (arith, length-append old.leaf f.bytes, came))) some in
       record {
@@ -162,12 +162,12 @@ module _ {S : Type 0} (does : S → Call → S → Type 0) (score_of : List ℕ 
         rest = f.rest ++ more.0;
         puts =
             ap (λ (l : List Operation). map asked_of f.calls ++ l)
-            (map-append write_of f.rest more.0)
-            ∙ sym (append_assoc (map asked_of f.calls) (map write_of f.rest) (map write_of more.0))
-            ∙ ap (λ (l : List Operation). l ++ map write_of more.0) f.puts
-            ∙ sym (map-append write_of (tree_of score_of shape d (take (scores_in shape.psize ^ d)
-            (pieces shape.dsize (old.leaf ++ f.bytes)))).blocks more.0)
-            ∙ ap (map write_of) more.1;
+            (map-append write_of_block f.rest more.0)
+            ∙ sym (append_assoc (map asked_of f.calls) (map write_of_block f.rest) (map write_of_block more.0))
+            ∙ ap (λ (l : List Operation). l ++ map write_of_block more.0) f.puts
+            ∙ sym (map-append write_of_block (tree_of score_of shape d (take (scores_in shape.psize ^ d)
+            (pieces_of_len shape.dsize (old.leaf ++ f.bytes)))).blocks more.0)
+            ∙ ap (map write_of_block) more.1;
       }
 
   -- ---- the same of any answer, at the depth that is written

@@ -6,10 +6,10 @@ use Rattle.std.proofs.lemmas.Bool.{cases_Bool, eqb-true}
 use Rattle.byteorder.specs.Endian.{big_number, big_bytes}
 use Rattle.byteorder.specs.Numbers.{big_number-reads_back, big_from-lt}
 use Rattle.vt_base.specs.Bytes.{AreBytes}
-use Rattle.vt_fields.specs.Fields.{drop-field, drop-number, drop-byte}
+use Rattle.vt_base.specs.Fields.{drop-field, drop-number, drop-byte}
 use Rattle.vt_tree.specs.declared.entry.Entry.{Entry}
-use Rattle.vt_tree.specs.declared.entry.BadEntry.{BadEntry}
-use Rattle.vt_tree.specs.Entries.{IsEntry, FitsEntry, HasRanges, SpellsEntry, spelled_with, flags_of, bit, entry_in, flags_in, entry_fault, fault_in, fault_behind}
+use Rattle.vt_tree.specs.declared.entry.EntryError.{EntryError}
+use Rattle.vt_tree.specs.Entries.{IsTreeEntry, FitsEntry, HasRanges, SpellsEntry, spelled_with, flags_of, bit, entry_in, flags_in, entry_fault, entry_fault_in, fault_behind}
 
 -- ---- bits
 
@@ -160,8 +160,8 @@ module _ (e : Entry) (fits : FitsEntry e) (ranges : HasRanges e) (between : List
 no_fault : (flags : ℕ) → flags / 64 % 2 ≡ 0 → fault_behind None flags ≡ None
 no_fault flags none = rw none refl
 
-pub spelled_is_read : (e : Entry) (bytes : List ℕ) → IsEntry e → SpellsEntry e bytes
-    → (entry_in bytes ≡ e) × (fault_in bytes ≡ None)
+pub spelled_is_read : (e : Entry) (bytes : List ℕ) → IsTreeEntry e → SpellsEntry e bytes
+    → (entry_in bytes ≡ e) × (entry_fault_in bytes ≡ None)
 spelled_is_read e bytes is s =
     let read : entry_in bytes ≡ e =
     ap entry_in s.is ∙ entry_read e is.fits is.ranges s.between s.five s.flag_20 s.flag_80 in
@@ -169,7 +169,7 @@ spelled_is_read e bytes is s =
     ap (λ (l : List ℕ). flags_in l / 64 % 2) s.is
     ∙ no_large e is.fits is.ranges s.between s.five s.flag_20 s.flag_80 in (
       read,
-      ap (λ (o : Option BadEntry). fault_behind o (flags_in bytes))
+      ap (λ (o : Option EntryError). fault_behind o (flags_in bytes))
           (ap entry_fault read ∙ is.allowed)
           ∙ no_fault (flags_in bytes) large,
     )
@@ -177,6 +177,6 @@ spelled_is_read e bytes is s =
 pub not_large : (flags : ℕ) → (flags / 64 % 2 ≡ 1 → ⊥) → flags / 64 % 2 ≡ 0
 not_large flags other = omega arith
 
-pub no_fault_said : (o : Option BadEntry) → ((b : BadEntry) → o ≡ Some b → ⊥) → o ≡ None
+pub no_fault_said : (o : Option EntryError) → ((b : EntryError) → o ≡ Some b → ⊥) → o ≡ None
 no_fault_said None other = refl
 no_fault_said (Some b) other = absurd (other b refl)

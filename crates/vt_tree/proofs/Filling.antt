@@ -6,9 +6,9 @@ use Rattle.std.proofs.lemmas.List.{length-take-le, take-append-le}
 use Rattle.std.proofs.lemmas.List.Sums.{suffix_len_is}
 use Rattle.vt_base.specs.Bytes.{AreBytes}
 use Rattle.vt_base.specs.Faults.{CountsFault}
-use Rattle.vt_tree.specs.declared.err.TreeErr.{TreeErr}
-use Rattle.vt_tree.specs.declared.err.TreeErr.TheVariants as errs
-use Rattle.vt_tree.specs.Growing.{IsOfBlock}
+use Rattle.vt_tree.specs.declared.error.TreeErr.{TreeErr}
+use Rattle.vt_tree.specs.declared.error.TreeErr.TheVariants as errs
+use Rattle.vt_tree.specs.Growing.{IsOfCall}
 use Rattle.vt_tree.specs.Streams.{without_end}
 use Rattle.vt_tree.specs.Writing.{IsTaken, is_source_fault}
 
@@ -67,7 +67,7 @@ counts_from {X} result a b c same counts =
     subst (λ (n : ℕ). CountsFault is_source_fault result n c) same counts
 
 pub no_source_fault : {X : Type 0} (result : Result X TreeErr) (a b : ℕ) → b ≡ a
-    → ((err : TreeErr) → result ≡ Err err → IsOfBlock err)
+    → ((err : TreeErr) → result ≡ Err err → IsOfCall err)
     → CountsFault is_source_fault result a b
 no_source_fault (Ok x) a b same plain = same
 no_source_fault (Err (errs.Block err)) a b same plain = same

@@ -2,14 +2,14 @@
 use Rattle.std.proofs.Common.{◌≡◌, ℕ, ◌+◌, ◌-◌, ◌<◌, inl, inr, Result, Ok, Err, List, ◌++◌, length, get_or, refl, sym, ◌∙◌, ap, subst, arith, length-append, add_assoc}
 use Rattle.std.proofs.lemmas.Bool.{cases_lt}
 use Rattle.std.proofs.lemmas.List.{get_or_append_left, get_or-append_right}
-use Rattle.vt_tree.specs.declared.err.TreeErr.{TreeErr}
-use Rattle.vt_tree.specs.declared.err.TreeErr.TheVariants as errs
-use Rattle.vt_tree.specs.declared.plain.Trouble.{Trouble}
-use Rattle.vt_tree.specs.declared.plain.Trouble.TheVariants.{Absent, BadBlock}
+use Rattle.vt_tree.specs.declared.error.TreeErr.{TreeErr}
+use Rattle.vt_tree.specs.declared.error.TreeErr.TheVariants as errs
+use Rattle.vt_tree.specs.declared.plain.ContentError.{ContentError}
+use Rattle.vt_tree.specs.declared.plain.ContentError.TheVariants.{Absent, BadBlock}
 use Rattle.vt_tree.specs.Content.{AreGiven, FirstTrouble}
-use Rattle.vt_tree.specs.Reading.{Gives}
+use Rattle.vt_tree.specs.Reading.{GivesBytes}
 
-module _ (byte : ℕ → Result ℕ Trouble) (at : ℕ) where
+module _ (byte : ℕ → Result ℕ ContentError) (at : ℕ) where
   -- bytes, and others behind them
   pub given_more : (xs ys : List ℕ) → AreGiven byte at xs → AreGiven byte (at + length xs) ys
       → AreGiven byte at (xs ++ ys)
@@ -24,7 +24,7 @@ module _ (byte : ℕ → Result ℕ Trouble) (at : ℕ) where
   ]
 
   -- bytes, and the first trouble behind them
-  pub trouble_behind : (xs : List ℕ) (len : ℕ) (trouble : Trouble) → AreGiven byte at xs
+  pub trouble_behind : (xs : List ℕ) (len : ℕ) (trouble : ContentError) → AreGiven byte at xs
       → FirstTrouble byte (at + length xs) len trouble
       → FirstTrouble byte at (length xs + len) trouble
   trouble_behind xs len trouble first later = record {
@@ -41,7 +41,7 @@ module _ (byte : ℕ → Result ℕ Trouble) (at : ℕ) where
     ];
   }
 
-  pub trouble_of_more : (len more : ℕ) (trouble : Trouble) → FirstTrouble byte at len trouble
+  pub trouble_of_more : (len more : ℕ) (trouble : ContentError) → FirstTrouble byte at len trouble
       → FirstTrouble byte at (len + more) trouble
   trouble_of_more len more trouble first = record {
     place = first.place;
@@ -51,9 +51,9 @@ module _ (byte : ℕ → Result ℕ Trouble) (at : ℕ) where
   }
 
 -- what is read where another function gives the same
-module _ (f g : ℕ → Result ℕ Trouble) (a b len : ℕ)
+module _ (f g : ℕ → Result ℕ ContentError) (a b len : ℕ)
     (same : (i : ℕ) → i < len → f (a + i) ≡ g (b + i)) where
-  trouble_there : (trouble : Trouble) → FirstTrouble g b len trouble
+  trouble_there : (trouble : ContentError) → FirstTrouble g b len trouble
       → FirstTrouble f a len trouble
   trouble_there trouble first = record {
     place = first.place;
@@ -64,8 +64,8 @@ module _ (f g : ℕ → Result ℕ Trouble) (a b len : ℕ)
         (found.0, same k (omega (arith, first.within)) ∙ found.1);
   }
 
-  pub gives_there : (result : Result (List ℕ) TreeErr) → Gives g b len result
-      → Gives f a len result
+  pub gives_there : (result : Result (List ℕ) TreeErr) → GivesBytes g b len result
+      → GivesBytes f a len result
   gives_there (Ok bytes) given =
       (given.0, λ i within. same i (omega (arith, given.0)) ∙ given.1 i within)
   gives_there (Err (errs.Block err)) given = λ refused. trouble_there Absent (given refused)
@@ -80,9 +80,9 @@ abbrev pub behind : List ℕ → Result (List ℕ) TreeErr → Result (List ℕ)
 behind xs (Ok ys) = Ok (xs ++ ys)
 behind xs (Err err) = Err err
 
-pub gives_more : (byte : ℕ → Result ℕ Trouble) (at n m : ℕ) (xs : List ℕ)
+pub gives_more : (byte : ℕ → Result ℕ ContentError) (at n m : ℕ) (xs : List ℕ)
     (result : Result (List ℕ) TreeErr) → length xs ≡ n → AreGiven byte at xs
-    → Gives byte (at + n) m result → Gives byte at (n + m) (behind xs result)
+    → GivesBytes byte (at + n) m result → GivesBytes byte at (n + m) (behind xs result)
 gives_more byte at n m xs (Ok ys) len first then = (
   omega (arith, length-append xs ys, then.0),
   given_more byte at xs ys first (subst (λ (k : ℕ). AreGiven byte (at + k) ys) (sym len) then.1),
@@ -101,8 +101,8 @@ gives_more byte at n m xs (Err errs.TooLong) len first then = tt
 gives_more byte at n m xs (Err errs.NoMemory) len first then = tt
 
 -- a first part that was given up is where the whole was
-pub gives_no_more : (byte : ℕ → Result ℕ Trouble) (at n m : ℕ) (err : TreeErr)
-    → Gives byte at n (Err err) → Gives byte at (n + m) (Err err)
+pub gives_no_more : (byte : ℕ → Result ℕ ContentError) (at n m : ℕ) (err : TreeErr)
+    → GivesBytes byte at n (Err err) → GivesBytes byte at (n + m) (Err err)
 gives_no_more byte at n m (errs.Block err) given = λ refused.
     trouble_of_more byte at n m Absent (given refused)
 gives_no_more byte at n m errs.SourceFault given = tt

@@ -10,13 +10,13 @@ use Rattle.vt_base.specs.Protocol.{Operation}
 use Rattle.vt_base.specs.Bytes.{AreBytes, AreBytes-append}
 use Rattle.vt_base.specs.declared.score.Score.{Score}
 use Rattle.vt_model.specs.History.{Block}
-use Rattle.vt_tree.specs.declared.err.TreeErr.{TreeErr}
-use Rattle.vt_tree.specs.declared.err.TreeErr.TheVariants as errs
-use Rattle.vt_tree.specs.Calls.{Call, asked_of, write_of, refusals_of}
+use Rattle.vt_tree.specs.declared.error.TreeErr.{TreeErr}
+use Rattle.vt_tree.specs.declared.error.TreeErr.TheVariants as errs
+use Rattle.vt_tree.specs.Calls.{Call, asked_of, write_of_block, refusals_of}
 use Rattle.vt_tree.specs.Content.{scores_in}
-use Rattle.vt_tree.specs.Growing.{Next, IsNext, TakesLeaves, GrowsTree, StopsTree, PutsBlock, IsOfBlock}
+use Rattle.vt_tree.specs.Growing.{Next, IsNextLeaf, TakesLeaves, GrowsTree, StopsTree, PutsBlock, IsOfCall}
 use Rattle.vt_tree.specs.Making.{Makes}
-use Rattle.vt_tree.specs.Streams.{Shape, Tree, pieces, pointer_block, tree_of}
+use Rattle.vt_tree.specs.Streams.{Shape, Tree, pieces_of_len, pointer_block, tree_of}
 use Rattle.vt_tree.specs.Writing.{IsTaken, IsAll, IsGivenUpFor}
 use Rattle.vt_tree.proofs.Appending.{accepted_join, ends_more}
 use Rattle.vt_tree.proofs.Beginnings.{begins_more, begins_all, blocks_below, own}
@@ -80,7 +80,7 @@ with_rest true a b xs are taken = (
   omega (arith, length-append xs b),
 )
 
-pub no_pieces : (len : ℕ) → 0 < len → pieces {A = ℕ} len [] ≡ []
+pub no_pieces : (len : ℕ) → 0 < len → pieces_of_len {A = ℕ} len [] ≡ []
 no_pieces len some =
     let none : count_of {A = ℕ} len [] ≡ 0 =
     omega (arith, pieces_fit {A = ℕ} len 0 [] some (omega arith)) in
@@ -88,17 +88,17 @@ no_pieces len some =
 
 -- what was asked first of blocks leaves the others
 pub rest_of : (asked rest : List Operation) (blocks : List Block)
-    → asked ++ rest ≡ map write_of blocks
-    → (behind : List Block) × (asked ++ map write_of behind ≡ map write_of blocks)
+    → asked ++ rest ≡ map write_of_block blocks
+    → (behind : List Block) × (asked ++ map write_of_block behind ≡ map write_of_block blocks)
 rest_of [] rest blocks is = (blocks, refl)
 rest_of (x ∷ asked) rest [] is = let never : ⊥ = cc in absurd never
 rest_of (x ∷ asked) rest (b ∷ blocks) is =
-    let first : x ≡ write_of b = cc in
-    let others : asked ++ rest ≡ map write_of blocks = cc in
+    let first : x ≡ write_of_block b = cc in
+    let others : asked ++ rest ≡ map write_of_block blocks = cc in
     let more = rest_of asked rest blocks others in
     (more.0, λ i. first i ∷ more.1 i)
 
-pub given_up : (err : TreeErr) (n : ℕ) → IsOfBlock err → IsGivenUpFor err n
+pub given_up : (err : TreeErr) (n : ℕ) → IsOfCall err → IsGivenUpFor err n
 given_up (errs.Block err) n is = tt
 given_up errs.SourceFault n is = tt
 given_up (errs.BadEntry bad) n is = is
@@ -126,12 +126,12 @@ module _ {S : Type 0} (does : S → Call → S → Type 0) (score_of : List ℕ 
     pub calls : List Call
     pub made : Makes does s calls s'
     pub accepted : refusals_of calls ≡ []
-    pub puts : map write_of (tree_of score_of shape d first).blocks ++ map asked_of calls
-        ≡ map write_of (blocks_below score_of shape d (first ++ leaves))
+    pub puts : map write_of_block (tree_of score_of shape d first).blocks ++ map asked_of calls
+        ≡ map write_of_block (blocks_below score_of shape d (first ++ leaves))
 
   module _ (some : 0 < scores_in shape.psize) (d_some : 0 < shape.dsize) where
     pub begin : (s : S) (next : Next) (left : List ℕ) (first : List (List ℕ)) (score : Score)
-        → IsNext shape.dsize next → 0 < length first
+        → IsNextLeaf shape.dsize next → 0 < length first
         → length first ≤ scores_in shape.psize ^ d
         → (0 < length next.leaf → length first ≡ scores_in shape.psize ^ d)
         → score.0 ≡ (tree_of score_of shape d first).score
@@ -165,8 +165,8 @@ module _ {S : Type 0} (does : S → Call → S → Type 0) (score_of : List ℕ 
       made = refl;
       accepted = refl;
       puts =
-          append-nil (map write_of (tree_of score_of shape d first).blocks)
-          ∙ ap (map write_of) (sym (append-nil (tree_of score_of shape d first).blocks)
+          append-nil (map write_of_block (tree_of score_of shape d first).blocks)
+          ∙ ap (map write_of_block) (sym (append-nil (tree_of score_of shape d first).blocks)
           ∙ ap (flat_map (λ (t : Tree). t.blocks))
           (sym (trees_one score_of shape d first came most))
           ∙ ap (λ (ls : List (List ℕ)). blocks_below score_of shape d ls) (sym (append-nil first)));
@@ -222,7 +222,7 @@ module _ {S : Type 0} (does : S → Call → S → Type 0) (score_of : List ℕ 
           made = makes_more does s mid s' a.calls b.calls a.made b.made;
           accepted = accepted_join a.calls b.calls a.accepted b.accepted;
           puts = put_more a.calls b.calls a.puts b.puts
-              ∙ ap (map write_of) (blocks_more more
+              ∙ ap (map write_of_block) (blocks_more more
               ∙ ap (λ (ls : List (List ℕ)). blocks_below score_of shape d ls) (sym joined));
         }
       where
@@ -243,19 +243,19 @@ module _ {S : Type 0} (does : S → Call → S → Type 0) (score_of : List ℕ 
             )
 
         put_more : (xs ys : List Call)
-            → map write_of (tree_of score_of shape d first).blocks ++ map asked_of xs
-            ≡ map write_of (blocks_below score_of shape d (first ++ a.leaves))
-            → map asked_of ys ≡ map write_of (tree_of score_of shape d b.leaves).blocks
-            → map write_of (tree_of score_of shape d first).blocks ++ map asked_of (xs ++ ys)
-            ≡ map write_of (blocks_below score_of shape d (first ++ a.leaves)
+            → map write_of_block (tree_of score_of shape d first).blocks ++ map asked_of xs
+            ≡ map write_of_block (blocks_below score_of shape d (first ++ a.leaves))
+            → map asked_of ys ≡ map write_of_block (tree_of score_of shape d b.leaves).blocks
+            → map write_of_block (tree_of score_of shape d first).blocks ++ map asked_of (xs ++ ys)
+            ≡ map write_of_block (blocks_below score_of shape d (first ++ a.leaves)
             ++ (tree_of score_of shape d b.leaves).blocks)
         put_more xs ys first_puts then_puts =
-            ap (λ (l : List Operation). map write_of (tree_of score_of shape d first).blocks ++ l)
+            ap (λ (l : List Operation). map write_of_block (tree_of score_of shape d first).blocks ++ l)
             (map-append asked_of xs ys)
-            ∙ sym (append_assoc (map write_of (tree_of score_of shape d first).blocks)
+            ∙ sym (append_assoc (map write_of_block (tree_of score_of shape d first).blocks)
             (map asked_of xs) (map asked_of ys))
             ∙ (λ i. first_puts i ++ then_puts i)
-            ∙ sym (map-append write_of (blocks_below score_of shape d (first ++ a.leaves))
+            ∙ sym (map-append write_of_block (blocks_below score_of shape d (first ++ a.leaves))
             (tree_of score_of shape d b.leaves).blocks)
 
         blocks_more : trees score_of shape d ((first ++ a.leaves) ++ b.leaves)
@@ -301,14 +301,14 @@ module _ {S : Type 0} (does : S → Call → S → Type 0) (score_of : List ℕ 
       score_is = b.scored ∙ ap (λ (ss : List (List ℕ)).
           score_of (pointer_block score_of (suc d) ss).bytes) a.scores_are;
       puts =
-          ap (λ (l : List Operation). map write_of (tree_of score_of shape d first).blocks ++ l)
+          ap (λ (l : List Operation). map write_of_block (tree_of score_of shape d first).blocks ++ l)
           (map-append asked_of a.calls b.calls)
-          ∙ sym (append_assoc (map write_of (tree_of score_of shape d first).blocks)
+          ∙ sym (append_assoc (map write_of_block (tree_of score_of shape d first).blocks)
           (map asked_of a.calls) (map asked_of b.calls))
-          ∙ (λ i. a.puts i ++ (b.asked ∙ ap (λ (ss : List (List ℕ)). map write_of
+          ∙ (λ i. a.puts i ++ (b.asked ∙ ap (λ (ss : List (List ℕ)). map write_of_block
           (cond (length (pointer_block score_of (suc d) ss).bytes == 0) []
           (pointer_block score_of (suc d) ss ∷ []))) a.scores_are) i)
-          ∙ sym (map-append write_of (blocks_below score_of shape d (first ++ a.leaves))
+          ∙ sym (map-append write_of_block (blocks_below score_of shape d (first ++ a.leaves))
           (own score_of shape d (first ++ a.leaves)));
     }
       where
@@ -320,32 +320,32 @@ module _ {S : Type 0} (does : S → Call → S → Type 0) (score_of : List ℕ 
     -- all leaves of what was taken: those that are below, and those that come
     pub cut_more : (old half : Next) (bytes more : List ℕ) (leaves : List (List ℕ))
         → 0 < length half.leaf → TakesLeaves shape.dsize old half bytes leaves
-        → pieces shape.dsize (old.leaf ++ (bytes ++ more))
-        ≡ leaves ++ pieces shape.dsize (half.leaf ++ more)
+        → pieces_of_len shape.dsize (old.leaf ++ (bytes ++ more))
+        ≡ leaves ++ pieces_of_len shape.dsize (half.leaf ++ more)
     cut_more old half bytes more leaves left takes =
         let flat = flat_map (λ (leaf : List ℕ). leaf) leaves in
-        ap (λ (l : List ℕ). pieces shape.dsize l)
+        ap (λ (l : List ℕ). pieces_of_len shape.dsize l)
         (sym (append_assoc old.leaf bytes more) ∙ ap (λ (l : List ℕ). l ++ more) takes.parts
         ∙ append_assoc flat half.leaf more)
         ∙ pieces_join shape.dsize flat (half.leaf ++ more) (length leaves) d_some (takes.whole left)
-        ∙ ap (λ (ls : List (List ℕ)). ls ++ pieces shape.dsize (half.leaf ++ more)) (sym takes.cut)
+        ∙ ap (λ (ls : List (List ℕ)). ls ++ pieces_of_len shape.dsize (half.leaf ++ more)) (sym takes.cut)
 
     pub cut_all : (old half : Next) (bytes : List ℕ) (leaves : List (List ℕ))
         → length half.leaf ≡ 0 → TakesLeaves shape.dsize old half bytes leaves
-        → pieces shape.dsize (old.leaf ++ bytes) ≡ leaves
+        → pieces_of_len shape.dsize (old.leaf ++ bytes) ≡ leaves
     cut_all old half bytes leaves none takes =
         let flat = flat_map (λ (leaf : List ℕ). leaf) leaves in
-        ap (λ (l : List ℕ). pieces shape.dsize l)
+        ap (λ (l : List ℕ). pieces_of_len shape.dsize l)
         (takes.parts ∙ ap (λ (l : List ℕ). flat ++ l) (nil_from_length half.leaf none)
         ∙ append-nil flat)
         ∙ sym takes.cut
 
-    pub some_pieces : (xs : List ℕ) → 0 < length xs → 0 < length (pieces shape.dsize xs)
+    pub some_pieces : (xs : List ℕ) → 0 < length xs → 0 < length (pieces_of_len shape.dsize xs)
     some_pieces xs came =
         let reach = pieces_reach shape.dsize xs d_some in
         of (count_of shape.dsize xs) refl
       where
-        of : (n : ℕ) → count_of shape.dsize xs ≡ n → 0 < length (pieces shape.dsize xs)
+        of : (n : ℕ) → count_of shape.dsize xs ≡ n → 0 < length (pieces_of_len shape.dsize xs)
         of zero is =
             let none : shape.dsize * count_of shape.dsize xs ≡ 0 =
             ap (λ (k : ℕ). shape.dsize * k) is ∙ mul-zero shape.dsize in
@@ -377,17 +377,17 @@ module _ {S : Type 0} (does : S → Call → S → Type 0) (score_of : List ℕ 
       refused = ends_more (refusal_in err) a.calls b.calls a.accepted b.refused;
       rest = b.rest ++ begins.0;
       puts =
-          regroup (map write_of (tree_of score_of shape d first).blocks) a.calls b.calls b.rest
+          regroup (map write_of_block (tree_of score_of shape d first).blocks) a.calls b.calls b.rest
           begins.0
-          ∙ (λ i. (a.puts i ++ b.puts i) ++ map write_of begins.0)
-          ∙ ap (λ (l : List Operation). l ++ map write_of begins.0)
-          (sym (map-append write_of (blocks_below score_of shape d (first ++ a.leaves))
+          ∙ (λ i. (a.puts i ++ b.puts i) ++ map write_of_block begins.0)
+          ∙ ap (λ (l : List Operation). l ++ map write_of_block begins.0)
+          (sym (map-append write_of_block (blocks_below score_of shape d (first ++ a.leaves))
           (tree_of score_of shape d (take (scores_in shape.psize ^ d)
-          (pieces shape.dsize (half.leaf ++ b.bytes)))).blocks))
-          ∙ sym (map-append write_of (blocks_below score_of shape d (first ++ a.leaves)
+          (pieces_of_len shape.dsize (half.leaf ++ b.bytes)))).blocks))
+          ∙ sym (map-append write_of_block (blocks_below score_of shape d (first ++ a.leaves)
           ++ (tree_of score_of shape d (take (scores_in shape.psize ^ d)
-          (pieces shape.dsize (half.leaf ++ b.bytes)))).blocks) begins.0)
-          ∙ ap (map write_of) (begins.1
+          (pieces_of_len shape.dsize (half.leaf ++ b.bytes)))).blocks) begins.0)
+          ∙ ap (map write_of_block) (begins.1
           ∙ ap (λ (ls : List (List ℕ)). (tree_of score_of shape (suc d)
           (take (scores_in shape.psize ^ suc d) ls)).blocks) all);
     }
@@ -395,18 +395,18 @@ module _ {S : Type 0} (does : S → Call → S → Type 0) (score_of : List ℕ 
         begins : (rest : List Block)
             × ((blocks_below score_of shape d (first ++ a.leaves)
             ++ (tree_of score_of shape d (take (scores_in shape.psize ^ d)
-            (pieces shape.dsize (half.leaf ++ b.bytes)))).blocks) ++ rest
+            (pieces_of_len shape.dsize (half.leaf ++ b.bytes)))).blocks) ++ rest
             ≡ (tree_of score_of shape (suc d) (take (scores_in shape.psize ^ suc d)
-            ((first ++ a.leaves) ++ pieces shape.dsize (half.leaf ++ b.bytes)))).blocks)
+            ((first ++ a.leaves) ++ pieces_of_len shape.dsize (half.leaf ++ b.bytes)))).blocks)
         begins = begins_more score_of shape some d (length scores) (first ++ a.leaves)
-            (pieces shape.dsize (half.leaf ++ b.bytes)) (a.full goes_on) few
+            (pieces_of_len shape.dsize (half.leaf ++ b.bytes)) (a.full goes_on) few
             (some_pieces (half.leaf ++ b.bytes)
             (omega (arith, length-append half.leaf b.bytes, goes_on)))
 
-        all : (first ++ a.leaves) ++ pieces shape.dsize (half.leaf ++ b.bytes)
-            ≡ first ++ pieces shape.dsize (old.leaf ++ (a.bytes ++ b.bytes))
+        all : (first ++ a.leaves) ++ pieces_of_len shape.dsize (half.leaf ++ b.bytes)
+            ≡ first ++ pieces_of_len shape.dsize (old.leaf ++ (a.bytes ++ b.bytes))
         all =
-            append_assoc first a.leaves (pieces shape.dsize (half.leaf ++ b.bytes))
+            append_assoc first a.leaves (pieces_of_len shape.dsize (half.leaf ++ b.bytes))
             ∙ ap (λ (ls : List (List ℕ)). first ++ ls)
             (sym (cut_more old half a.bytes b.bytes a.leaves goes_on a.takes))
 
@@ -414,12 +414,12 @@ module _ {S : Type 0} (does : S → Call → S → Type 0) (score_of : List ℕ 
         sizes = omega (arith, a.takes.size, length-append a.bytes b.bytes)
 
         regroup : (w : List Operation) (xs ys : List Call) (rest behind : List Block)
-            → (w ++ map asked_of (xs ++ ys)) ++ map write_of (rest ++ behind)
-            ≡ ((w ++ map asked_of xs) ++ (map asked_of ys ++ map write_of rest))
-            ++ map write_of behind
+            → (w ++ map asked_of (xs ++ ys)) ++ map write_of_block (rest ++ behind)
+            ≡ ((w ++ map asked_of xs) ++ (map asked_of ys ++ map write_of_block rest))
+            ++ map write_of_block behind
         regroup w xs ys rest behind =
-            (λ i. (w ++ map-append asked_of xs ys i) ++ map-append write_of rest behind i)
-            ∙ plain w (map asked_of xs) (map asked_of ys) (map write_of rest) (map write_of behind)
+            (λ i. (w ++ map-append asked_of xs ys i) ++ map-append write_of_block rest behind i)
+            ∙ plain w (map asked_of xs) (map asked_of ys) (map write_of_block rest) (map write_of_block behind)
           where
             plain : (a b c e f : List Operation)
                 → (a ++ (b ++ c)) ++ (e ++ f) ≡ ((a ++ b) ++ (c ++ e)) ++ f
@@ -433,15 +433,15 @@ module _ {S : Type 0} (does : S → Call → S → Type 0) (score_of : List ℕ 
         → blocks_below score_of shape d (first ++ so.leaves)
         ++ own score_of shape d (first ++ so.leaves)
         ≡ (tree_of score_of shape (suc d) (take (scores_in shape.psize ^ suc d)
-        (first ++ pieces shape.dsize (old.leaf ++ (so.bytes ++ more))))).blocks
+        (first ++ pieces_of_len shape.dsize (old.leaf ++ (so.bytes ++ more))))).blocks
     all_below s mid old new from to first scores over so more end =
         elim (cases_lt 0 (length new.leaf)) [
           | inr none ↦ ended (omega arith)
           | inl goes_on ↦ elim over [
             | inl none ↦ ended none
             | inr whole ↦
-                let behind = pieces shape.dsize (new.leaf ++ more) in
-                let cut : pieces shape.dsize (old.leaf ++ (so.bytes ++ more)) ≡ so.leaves ++ behind =
+                let behind = pieces_of_len shape.dsize (new.leaf ++ more) in
+                let cut : pieces_of_len shape.dsize (old.leaf ++ (so.bytes ++ more)) ≡ so.leaves ++ behind =
                 cut_more old new so.bytes more so.leaves goes_on so.takes in
                 let count : length (first ++ so.leaves) ≡ scores_in shape.psize ^ suc d =
                 so.full goes_on ∙ ap (λ (n : ℕ). scores_in shape.psize ^ d * n) whole ∙ sym wide in
@@ -463,13 +463,13 @@ module _ {S : Type 0} (does : S → Call → S → Type 0) (score_of : List ℕ 
             → blocks_below score_of shape d (first ++ so.leaves)
             ++ own score_of shape d (first ++ so.leaves)
             ≡ (tree_of score_of shape (suc d) (take (scores_in shape.psize ^ suc d)
-            (first ++ pieces shape.dsize (old.leaf ++ (so.bytes ++ more))))).blocks
+            (first ++ pieces_of_len shape.dsize (old.leaf ++ (so.bytes ++ more))))).blocks
         ended none =
             begins_all score_of shape some d (first ++ so.leaves) fits
             ∙ ap (λ (ls : List (List ℕ)). (tree_of score_of shape (suc d)
             (take (scores_in shape.psize ^ suc d) (first ++ ls))).blocks)
             (sym (cut_all old new so.bytes so.leaves none so.takes)
-            ∙ ap (λ (l : List ℕ). pieces shape.dsize (old.leaf ++ l))
+            ∙ ap (λ (l : List ℕ). pieces_of_len shape.dsize (old.leaf ++ l))
             (sym (append-nil so.bytes) ∙ ap (λ (l : List ℕ). so.bytes ++ l) (sym (end none))))
 
     -- and in any case it begins the tree
@@ -478,7 +478,7 @@ module _ {S : Type 0} (does : S → Call → S → Type 0) (score_of : List ℕ 
         → (length new.leaf ≡ 0 → more ≡ [])
         → (rest : List Block) × (blocks_below score_of shape d (first ++ so.leaves) ++ rest
         ≡ (tree_of score_of shape (suc d) (take (scores_in shape.psize ^ suc d)
-        (first ++ pieces shape.dsize (old.leaf ++ (so.bytes ++ more))))).blocks)
+        (first ++ pieces_of_len shape.dsize (old.leaf ++ (so.bytes ++ more))))).blocks)
     rest_here s mid old new from to first scores so more end =
         elim (cases_lt 0 (length new.leaf)) [
           | inr none ↦ (
@@ -491,8 +491,8 @@ module _ {S : Type 0} (does : S → Call → S → Type 0) (score_of : List ℕ 
               all_below s mid old new from to first scores (inr (omega (arith, so.few))) so more end,
             )
             | inl few ↦
-                let behind = pieces shape.dsize (new.leaf ++ more) in
-                let cut : pieces shape.dsize (old.leaf ++ (so.bytes ++ more)) ≡ so.leaves ++ behind =
+                let behind = pieces_of_len shape.dsize (new.leaf ++ more) in
+                let cut : pieces_of_len shape.dsize (old.leaf ++ (so.bytes ++ more)) ≡ so.leaves ++ behind =
                 cut_more old new so.bytes more so.leaves goes_on so.takes in
                 let next : List Block = (tree_of score_of shape d
                 (take (scores_in shape.psize ^ d) behind)).blocks in
@@ -513,7 +513,7 @@ module _ {S : Type 0} (does : S → Call → S → Type 0) (score_of : List ℕ 
 
     -- behind a leaf without bytes nothing comes
     none_comes : (new : Next) (left : List ℕ) (c : Comes tells new.ended left)
-        → IsNext shape.dsize new → length new.leaf ≡ 0 → c.more ≡ []
+        → IsNextLeaf shape.dsize new → length new.leaf ≡ 0 → c.more ≡ []
     none_comes new left c is none = elim (cases_Bool new.ended) [
       | inl over ↦ c.end over
       | inr going ↦ absurd (omega (arith, is.last going))
@@ -555,9 +555,9 @@ module _ {S : Type 0} (does : S → Call → S → Type 0) (score_of : List ℕ 
           refused = a.accepted;
           rest = rest.0;
           puts =
-              ap (λ (l : List Operation). l ++ map write_of rest.0) a.puts
-              ∙ sym (map-append write_of (blocks_below score_of shape d (first ++ a.leaves)) rest.0)
-              ∙ ap (map write_of) rest.1;
+              ap (λ (l : List Operation). l ++ map write_of_block rest.0) a.puts
+              ∙ sym (map-append write_of_block (blocks_below score_of shape d (first ++ a.leaves)) rest.0)
+              ∙ ap (map write_of_block) rest.1;
         }
 
     -- the pointer block isn't taken
@@ -570,10 +570,10 @@ module _ {S : Type 0} (does : S → Call → S → Type 0) (score_of : List ℕ 
         (tree_of score_of shape d first).blocks err
     stop_at_put s mid s' old new from to first scores err over a comes b =
         let end = none_comes new to comes a.takes.next in
-        let same : map write_of (cond (length (pointer_block score_of (suc d) scores).bytes == 0)
+        let same : map write_of_block (cond (length (pointer_block score_of (suc d) scores).bytes == 0)
         [] (pointer_block score_of (suc d) scores ∷ []))
-        ≡ map write_of (own score_of shape d (first ++ a.leaves)) =
-        ap (λ (ss : List (List ℕ)). map write_of
+        ≡ map write_of_block (own score_of shape d (first ++ a.leaves)) =
+        ap (λ (ss : List (List ℕ)). map write_of_block
         (cond (length (pointer_block score_of (suc d) ss).bytes == 0) []
         (pointer_block score_of (suc d) ss ∷ []))) a.scores_are in
         let behind = rest_of (map asked_of b.calls) b.asked.0
@@ -589,21 +589,21 @@ module _ {S : Type 0} (does : S → Call → S → Type 0) (score_of : List ℕ 
               b.refused;
           rest = behind.0;
           puts =
-              regroup (map write_of (tree_of score_of shape d first).blocks) a.calls b.calls
+              regroup (map write_of_block (tree_of score_of shape d first).blocks) a.calls b.calls
               behind.0
               ∙ (λ i. a.puts i ++ behind.1 i)
-              ∙ sym (map-append write_of (blocks_below score_of shape d (first ++ a.leaves))
+              ∙ sym (map-append write_of_block (blocks_below score_of shape d (first ++ a.leaves))
               (own score_of shape d (first ++ a.leaves)))
-              ∙ ap (map write_of)
+              ∙ ap (map write_of_block)
               (all_below s mid old new from to first scores over a comes.more end);
         }
       where
         regroup : (w : List Operation) (xs ys : List Call) (rest : List Block)
-            → (w ++ map asked_of (xs ++ ys)) ++ map write_of rest
-            ≡ (w ++ map asked_of xs) ++ (map asked_of ys ++ map write_of rest)
+            → (w ++ map asked_of (xs ++ ys)) ++ map write_of_block rest
+            ≡ (w ++ map asked_of xs) ++ (map asked_of ys ++ map write_of_block rest)
         regroup w xs ys rest =
-            (λ i. (w ++ map-append asked_of xs ys i) ++ map write_of rest)
-            ∙ plain w (map asked_of xs) (map asked_of ys) (map write_of rest)
+            (λ i. (w ++ map-append asked_of xs ys i) ++ map write_of_block rest)
+            ∙ plain w (map asked_of xs) (map asked_of ys) (map write_of_block rest)
           where
             plain : (a b c e : List Operation) → (a ++ (b ++ c)) ++ e ≡ (a ++ b) ++ (c ++ e)
             plain a b c e = simp append_assoc

@@ -7,14 +7,14 @@ use Rattle.vt_base.specs.declared.score.Score.{Score}
 use Rattle.vt_model.specs.History.{Block}
 use Rattle.vt_tree.specs.declared.entry.Entry.{Entry}
 use Rattle.vt_tree.specs.declared.entry.EntryField.TheVariants.{PSize, DSize}
-use Rattle.vt_tree.specs.declared.err.TreeErr.{TreeErr}
-use Rattle.vt_tree.specs.declared.err.TreeErr.TheVariants as errs
-use Rattle.vt_tree.specs.Calls.{Call, after, asked_of, refusals_of, write_of, Tells}
-use Rattle.vt_tree.specs.Entries.{IsEntry, bad}
-use Rattle.vt_tree.specs.Growing.{Next, Advances, StopsAhead, StopsStream, WritesTree}
+use Rattle.vt_tree.specs.declared.error.TreeErr.{TreeErr}
+use Rattle.vt_tree.specs.declared.error.TreeErr.TheVariants as errs
+use Rattle.vt_tree.specs.Calls.{Call, after, asked_of, refusals_of, write_of_block, TellsOfMap}
+use Rattle.vt_tree.specs.Entries.{IsTreeEntry, bad}
+use Rattle.vt_tree.specs.Growing.{Next, TakesNextLeaf, StopsAhead, StopsStream, WritesTree}
 use Rattle.vt_tree.specs.Making.{Makes, EndsBy}
 use Rattle.vt_tree.specs.Maps.{Maps, with_blocks, IsWriteOnce}
-use Rattle.vt_tree.specs.Streams.{Shape, FitsShape, entry_of, stream_of}
+use Rattle.vt_tree.specs.Streams.{Shape, FitsShape, entry_of_stream, stream_of}
 use Rattle.vt_tree.specs.Writing.{IsTaken, IsTakenWhole, IsAll, IsGivenUpFor, KeepsStream, WritesStream, GivesUpStream}
 use Rattle.vt_tree.proofs.Growth.{taken_more}
 use Rattle.vt_tree.proofs.Making.{told, puts_leave, puts_are_there}
@@ -23,7 +23,7 @@ use Rattle.vt_tree.proofs.ReadBack.{depth_below_8, stream_reads_back}
 module _ {S : Type 0} (does : S → Call → S → Type 0) (holds : S → Maps → Type 0)
     (score_of : List ℕ → List ℕ) (shape : Shape) (tells : Bool)
     (law : (s s' : S) (call : Call) (m : Maps) → does s call s' → holds s m
-    → Tells score_of m.held call × holds s' (after score_of call m)) where
+    → TellsOfMap score_of m.held call × holds s' (after score_of call m)) where
   -- the entry of a tree that was written of a stream
   abbrev pub entry_with : (depth size : ℕ) → Score → Entry
   entry_with depth size score = record {
@@ -42,10 +42,10 @@ module _ {S : Type 0} (does : S → Call → S → Type 0) (holds : S → Maps �
     -- a store that held a map holds the blocks that were put too, and the stream is there
     keeps : (s s' : S) (calls : List Call) (bytes : List ℕ) → length bytes ≤ 2 ^ 40
         → Makes does s calls s' → refusals_of calls ≡ []
-        → map asked_of calls ≡ map write_of (stream_of score_of shape bytes).blocks
+        → map asked_of calls ≡ map write_of_block (stream_of score_of shape bytes).blocks
         → (m : Maps) → holds s m
         → KeepsStream holds score_of s' m (stream_of score_of shape bytes).blocks
-        (entry_of score_of shape bytes) bytes
+        (entry_of_stream score_of shape bytes) bytes
     keeps s s' calls bytes most made accepted puts m held =
         let blocks : List Block = (stream_of score_of shape bytes).blocks in
         let after : Maps = record m { held = with_blocks score_of blocks m.held } in
@@ -89,7 +89,7 @@ module _ {S : Type 0} (does : S → Call → S → Type 0) (holds : S → Maps �
         most : length (next.leaf ++ w.bytes) ≤ 2 ^ 40
         most = omega (arith, size_is, w.most)
 
-        entry_is : entry_with depth new.size score ≡ entry_of score_of shape (next.leaf ++ w.bytes)
+        entry_is : entry_with depth new.size score ≡ entry_of_stream score_of shape (next.leaf ++ w.bytes)
         entry_is = λ i. entry_with (w.depth_is i) (size_is i) (record { 0 = w.score_is i })
 
     pub depth_small : (s s' : S) (next new : Next) (b c : List ℕ) (depth : ℕ) (score : Score)
@@ -162,7 +162,7 @@ module _ {S : Type 0} (does : S → Call → S → Type 0) (holds : S → Maps �
 -- a stream begins with its first leaf
 pub first_taken : (tells : Bool) (dsize : ℕ) (none next : Next) (a b : List ℕ)
     → none ≡ record { leaf = []; ended = false; size = 0 }
-    → Advances dsize none next (IsTaken tells a b)
+    → TakesNextLeaf dsize none next (IsTaken tells a b)
     → (next.size ≡ length next.leaf) × IsTaken tells a b next.leaf
 first_taken tells dsize none next a b is t = (
   omega (arith, t.size, ap (λ (n : Next). n.size) is, ap length t.leaf),
@@ -175,7 +175,7 @@ not_below a b least = le-ltb a b least
 -- the entry may stand in a directory
 pub entry_stands : (e : Entry) → e.generation ≡ 0 → e.depth < 8 → e.size ≤ 2 ^ 40
     → 500 ≤ e.psize → e.psize ≤ 57344 → 480 ≤ e.dsize → e.dsize ≤ 57344
-    → length e.score.0 ≡ 20 → IsEntry e
+    → length e.score.0 ≡ 20 → IsTreeEntry e
 entry_stands e generation depth size p_least p_most d_least d_most score = record {
   fits = record {
     depth = depth;

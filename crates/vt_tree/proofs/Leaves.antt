@@ -6,13 +6,13 @@ use Rattle.std.proofs.lemmas.Bool.{cases_Bool}
 use Rattle.std.proofs.lemmas.List.{take_all, take_at}
 use Rattle.vt_base.specs.declared.score.Score.{Score}
 use Rattle.vt_model.specs.History.{Block}
-use Rattle.vt_tree.specs.declared.err.TreeErr.{TreeErr}
-use Rattle.vt_tree.specs.declared.err.BlockErr.{BlockErr}
-use Rattle.vt_tree.specs.Calls.{Call, asked_of, write_of}
+use Rattle.vt_tree.specs.declared.error.TreeErr.{TreeErr}
+use Rattle.vt_tree.specs.declared.error.BlockErr.{BlockErr}
+use Rattle.vt_tree.specs.Calls.{Call, asked_of, write_of_block}
 use Rattle.vt_tree.specs.Content.{scores_in}
-use Rattle.vt_tree.specs.Growing.{Next, IsNext, Advances, StopsAhead, GrowsTree, StopsTree, PutsBlock}
+use Rattle.vt_tree.specs.Growing.{Next, IsNextLeaf, TakesNextLeaf, StopsAhead, GrowsTree, StopsTree, PutsBlock}
 use Rattle.vt_tree.specs.Making.{EndsBy}
-use Rattle.vt_tree.specs.Streams.{Shape, pieces, leaf_block, tree_of}
+use Rattle.vt_tree.specs.Streams.{Shape, pieces_of_len, leaf_block, tree_of}
 use Rattle.vt_tree.specs.Writing.{IsTaken, IsAll}
 use Rattle.vt_tree.proofs.Growth.{Comes, given_up, rest_of}
 use Rattle.vt_tree.proofs.Pieces.{one_piece}
@@ -25,10 +25,10 @@ kept shape leaf =
 
 module _ {S : Type 0} (does : S → Call → S → Type 0) (score_of : List ℕ → List ℕ)
     (shape : Shape) (tells : Bool) (d_some : 0 < shape.dsize) (s s' : S) (old : Next)
-    (came : 0 < length old.leaf) (is : IsNext shape.dsize old) where
+    (came : 0 < length old.leaf) (is : IsNextLeaf shape.dsize old) where
   -- a leaf behind which another comes is whole
   whole_leaf : (new : Next) (from to : List ℕ)
-      → Advances shape.dsize old new (IsTaken tells from to)
+      → TakesNextLeaf shape.dsize old new (IsTaken tells from to)
       → 0 < length new.leaf → length old.leaf ≡ shape.dsize
   whole_leaf new from to a more = elim (cases_Bool old.ended) [
     | inl ended ↦
@@ -39,7 +39,7 @@ module _ {S : Type 0} (does : S → Call → S → Type 0) (score_of : List ℕ 
 
   pub leaf_written : (new : Next) (from to : List ℕ) (score : Score)
       → PutsBlock does score_of s s' (leaf_block shape old.leaf) (Ok score)
-      → Advances shape.dsize old new (IsTaken tells from to)
+      → TakesNextLeaf shape.dsize old new (IsTaken tells from to)
       → GrowsTree does score_of s s' shape 0 old new (IsTaken tells from to) [] [] score
   leaf_written new from to score b a = record {
     bytes = a.bytes;
@@ -48,7 +48,7 @@ module _ {S : Type 0} (does : S → Call → S → Type 0) (score_of : List ℕ 
     takes = record {
       parts = λ i. sym (append-nil old.leaf) i ++ sym a.leaf i;
       cut = sym (one_piece shape.dsize old.leaf came is.most)
-          ∙ ap (λ (l : List ℕ). pieces shape.dsize l) (sym (append-nil old.leaf));
+          ∙ ap (λ (l : List ℕ). pieces_of_len shape.dsize l) (sym (append-nil old.leaf));
       whole = λ more.
           ap length (append-nil old.leaf) ∙ whole_leaf new from to a more
           ∙ sym (one_time shape.dsize);
@@ -71,17 +71,17 @@ module _ {S : Type 0} (does : S → Call → S → Type 0) (score_of : List ℕ 
 
   -- the tree of no depth of what was taken is that leaf
   first_alone : (more : List ℕ) → take shape.dsize (old.leaf ++ more) ≡ old.leaf
-      → map write_of (kept shape old.leaf)
-      ≡ map write_of (tree_of score_of shape 0 (take (scores_in shape.psize ^ 0)
-      ([] ++ pieces shape.dsize (old.leaf ++ more)))).blocks
+      → map write_of_block (kept shape old.leaf)
+      ≡ map write_of_block (tree_of score_of shape 0 (take (scores_in shape.psize ^ 0)
+      ([] ++ pieces_of_len shape.dsize (old.leaf ++ more)))).blocks
   first_alone more front =
       let cut = first_piece shape.dsize (old.leaf ++ more) d_some
       (omega (arith, length-append old.leaf more, came)) in
-      ap (λ (l : List ℕ). map write_of (kept shape l)) (sym front)
-      ∙ ap (λ (ls : List (List ℕ)). map write_of (tree_of score_of shape 0 (take 1 ls)).blocks)
+      ap (λ (l : List ℕ). map write_of_block (kept shape l)) (sym front)
+      ∙ ap (λ (ls : List (List ℕ)). map write_of_block (tree_of score_of shape 0 (take 1 ls)).blocks)
       (sym cut.1)
-      ∙ ap (λ (n : ℕ). map write_of (tree_of score_of shape 0
-      (take n (pieces shape.dsize (old.leaf ++ more)))).blocks)
+      ∙ ap (λ (n : ℕ). map write_of_block (tree_of score_of shape 0
+      (take n (pieces_of_len shape.dsize (old.leaf ++ more)))).blocks)
       (sym (pow-zero (scores_in shape.psize)))
 
   pub leaf_not_put : (left : List ℕ) (err : TreeErr) → Comes tells old.ended left

@@ -5,7 +5,7 @@ use Rattle.std.specs.List.{All, AllByRecursion}
 use Rattle.std.proofs.lemmas.List.{map-append}
 use Rattle.std.proofs.lemmas.List.Elements.{All-cons, All-nil, filter_map-append}
 use Rattle.vt_model.specs.History.{Block}
-use Rattle.vt_tree.specs.Calls.{Call, get, put, sync, write_of, asked_of, refusal_of, refusals_of, IsGet, Tells, after}
+use Rattle.vt_tree.specs.Calls.{Call, get, put, sync, write_of_block, asked_of, refusal_of, refusals_of, IsGet, TellsOfMap, after}
 use Rattle.vt_tree.specs.Making.{Makes, TellsEach, after_all}
 use Rattle.vt_tree.specs.MapLaws.{block_is_there, block_keeps, blocks_keep}
 use Rattle.vt_tree.specs.Maps.{Maps, with_block, with_blocks, Has, IsWithin}
@@ -32,7 +32,7 @@ asked_join xs ys = map-append asked_of xs ys
 pub told : {S : Type 0} (does : S → Call → S → Type 0) (holds : S → Maps → Type 0)
     (score_of : List ℕ → List ℕ)
     (law : (s s' : S) (call : Call) (m : Maps) → does s call s' → holds s m
-    → Tells score_of m.held call × holds s' (after score_of call m))
+    → TellsOfMap score_of m.held call × holds s' (after score_of call m))
     (s s' : S) (calls : List Call) (m : Maps) → Makes does s calls s' → holds s m
     → TellsEach score_of m calls × holds s' (after_all score_of calls m)
 told does holds score_of law s s' [] m made held = (tt, subst (λ t. holds t m) (sym made) held)
@@ -70,7 +70,7 @@ gets_leave score_of (sync answer ∷ calls) m gets = absurd gets.0
 
 pub gets_tell : (score_of : List ℕ → List ℕ) (calls : List Call) (m : Maps)
     → AllByRecursion IsGet calls → TellsEach score_of m calls
-    → AllByRecursion (Tells score_of m.held) calls
+    → AllByRecursion (TellsOfMap score_of m.held) calls
 gets_tell score_of [] m gets tells = tt
 gets_tell score_of (get kind s answer ∷ calls) m gets tells =
     (tells.0, gets_tell score_of calls m gets.1 tells.1)
@@ -81,7 +81,7 @@ gets_tell score_of (sync answer ∷ calls) m gets tells = absurd gets.0
 
 -- where none was refused, what is held after blocks were put has these
 pub puts_leave : (score_of : List ℕ → List ℕ) (calls : List Call) (blocks : List Block) (m : Maps)
-    → map asked_of calls ≡ map write_of blocks
+    → map asked_of calls ≡ map write_of_block blocks
     → refusals_of calls ≡ []
     → after_all score_of calls m ≡ record m { held = with_blocks score_of blocks m.held }
 puts_leave score_of [] [] m asked accepted = refl
@@ -94,7 +94,7 @@ puts_leave score_of (put a (Ok score) ∷ calls) [] m asked accepted = cc
 puts_leave score_of (put a (Ok score) ∷ calls) (b ∷ blocks) m asked accepted =
     let kinds : a.kind ≡ b.kind = cc in
     let bytes : a.bytes ≡ b.bytes = cc in
-    let others : map asked_of calls ≡ map write_of blocks = cc in
+    let others : map asked_of calls ≡ map write_of_block blocks = cc in
     let same : ◌≡◌ {A = Block} a b = λ i. record { kind = kinds i; bytes = bytes i } in
     puts_leave score_of calls blocks (record m { held = with_block score_of a m.held }) others
     accepted
@@ -105,7 +105,7 @@ puts_leave score_of (put a (Err err) ∷ calls) blocks m asked accepted = cc
 
 -- and each of them is there
 pub puts_are_there : (score_of : List ℕ → List ℕ) (calls : List Call) (blocks : List Block)
-    (m : Maps) → map asked_of calls ≡ map write_of blocks → refusals_of calls ≡ []
+    (m : Maps) → map asked_of calls ≡ map write_of_block blocks → refusals_of calls ≡ []
     → TellsEach score_of m calls
     → All (Has score_of (with_blocks score_of blocks m.held)) blocks
 puts_are_there score_of [] [] m asked accepted tells =
@@ -124,7 +124,7 @@ puts_are_there score_of (put a (Ok score) ∷ calls) [] m asked accepted tells =
 puts_are_there score_of (put a (Ok score) ∷ calls) (b ∷ blocks) m asked accepted tells =
     let kinds : a.kind ≡ b.kind = cc in
     let bytes : a.bytes ≡ b.bytes = cc in
-    let others : map asked_of calls ≡ map write_of blocks = cc in
+    let others : map asked_of calls ≡ map write_of_block blocks = cc in
     let same : ◌≡◌ {A = Block} a b = λ i. record { kind = kinds i; bytes = bytes i } in
     let first : Has score_of (with_block score_of a m.held) a =
     block_is_there score_of a m.held tells.0 in

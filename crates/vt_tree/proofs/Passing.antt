@@ -3,12 +3,12 @@ use Rattle.std.proofs.Common.{◌≡◌, ◌⊎◌, ℕ, ◌+◌, ◌-◌, ◌*�
 use Rattle.std.proofs.Math.Nat.{mod-lt}
 use Rattle.std.proofs.lemmas.Nat.{div-mul-add, mod-mul-add, div_below}
 use Rattle.vt_base.specs.Protocol.{Operation}
-use Rattle.vt_tree.specs.declared.err.TreeErr.{TreeErr}
+use Rattle.vt_tree.specs.declared.error.TreeErr.{TreeErr}
 use Rattle.vt_tree.specs.declared.entry.Entry.{Entry}
 use Rattle.vt_tree.specs.Calls.{Call}
 use Rattle.vt_tree.specs.Content.{led, score_in, scores_in, way_below, way_through}
 use Rattle.vt_tree.specs.Maps.{BlockMap}
-use Rattle.vt_tree.specs.Walking.{Appends, ReadsEach, ReadsAt, byte_under}
+use Rattle.vt_tree.specs.Walking.{AppendsRange, ReadsEach, ReadsAt, byte_under}
 use Rattle.vt_tree.proofs.Appending.{known, same_way, joined, given_up}
 use Rattle.vt_tree.proofs.Places.{child_of}
 use Rattle.vt_tree.proofs.Powers.{product_some}
@@ -101,7 +101,7 @@ module _ {S : Type 0} (does : S → Call → S → Type 0) (score_of : List ℕ 
     pub within : left ≤ len
     pub place : at ≡ from + (len - left)
     pub count : ℕ
-    pub part : Appends does score_of e s s' (λ blocks p. byte_under blocks e d pointers p)
+    pub part : AppendsRange does score_of e s s' (λ blocks p. byte_under blocks e d pointers p)
         (way_so count) from (len - left) old new (Ok tt)
     pub next : 0 < left → from / e.dsize / leaves + count ≡ at / (leaves * e.dsize)
     pub edge : 0 < left → (left ≡ len) ⊎ (at % (leaves * e.dsize) ≡ 0)
@@ -229,11 +229,11 @@ module _ {S : Type 0} (does : S → Call → S → Type 0) (score_of : List ℕ 
       moved = omega (arith, is)
 
       part_there : (n : Result (Unit {0}) TreeErr) → (m : ℕ) → m ≡ at
-          → Appends does score_of e mid s' (λ blocks p. byte_under blocks e d pointers p) way_at at
+          → AppendsRange does score_of e mid s' (λ blocks p. byte_under blocks e d pointers p) way_at at
           most half new n
-          → Appends does score_of e mid s' (λ blocks p. byte_under blocks e d pointers p) way_at m
+          → AppendsRange does score_of e mid s' (λ blocks p. byte_under blocks e d pointers p) way_at m
           most half new n
-      part_there n m same part = subst (λ (k : ℕ). Appends does score_of e mid s'
+      part_there n m same part = subst (λ (k : ℕ). AppendsRange does score_of e mid s'
           (λ blocks p. byte_under blocks e d pointers p) way_at k most half new n) (sym same) part
 
       pub step : ReadsAt does score_of mid s' e d pointers at most half new (Ok tt)
@@ -244,7 +244,7 @@ module _ {S : Type 0} (does : S → Call → S → Type 0) (score_of : List ℕ 
             let within = so.within in
             omega (arith, moved);
         count = so.count + 1;
-        part = subst (λ (k : ℕ). Appends does score_of e s s'
+        part = subst (λ (k : ℕ). AppendsRange does score_of e s s'
             (λ blocks p. byte_under blocks e d pointers p) (way_so (so.count + 1)) from k old new
             (Ok tt)) lens
             (same_way does score_of e s s' (λ blocks p. byte_under blocks e d pointers p)
@@ -303,7 +303,7 @@ module _ {S : Type 0} (does : S → Call → S → Type 0) (score_of : List ℕ 
         → SoFar s s' at left old new
         → ReadsEach does score_of s s' e d pointers from len old new (Ok tt)
     finish s s' at left old new over so =
-        subst (λ (k : ℕ). Appends does score_of e s s'
+        subst (λ (k : ℕ). AppendsRange does score_of e s s'
         (λ blocks p. byte_under blocks e d pointers p) (way_so places) from k old new (Ok tt))
         (ap (λ (k : ℕ). len - k) over ∙ whole len)
         (same_way does score_of e s s' (λ blocks p. byte_under blocks e d pointers p)

@@ -8,7 +8,7 @@ use Rattle.std.proofs.lemmas.List.Elements.{All-head, All-tail}
 use Rattle.std.proofs.lemmas.List.FromFn.{length-map-range_with_len, get_or-map-range_with_len}
 use Rattle.std.proofs.lemmas.Nat.{div-mul-add}
 use Rattle.std.proofs.lemmas.List.Sums.{prefix_len_passes, suffix_len-le-length}
-use Rattle.vt_tree.specs.Streams.{pieces, without_end}
+use Rattle.vt_tree.specs.Streams.{pieces_of_len, without_end}
 
 -- ---- pieces
 
@@ -16,12 +16,12 @@ use Rattle.vt_tree.specs.Streams.{pieces, without_end}
 abbrev pub count_of : {A : Type 0} (len : ℕ) (xs : List A) → ℕ
 count_of len xs = (length xs + (len - 1)) / len
 
-pub length-pieces : {A : Type 0} (len : ℕ) (xs : List A) → length (pieces len xs) ≡ count_of len xs
+pub length-pieces : {A : Type 0} (len : ℕ) (xs : List A) → length (pieces_of_len len xs) ≡ count_of len xs
 length-pieces len xs =
     length-map-range_with_len (λ i. take len (drop (len * i) xs)) 0 (count_of len xs)
 
 pub piece_at : {A : Type 0} (len : ℕ) (xs : List A) (i : ℕ) (d : List A) → i < count_of len xs
-    → get_or (pieces len xs) i d ≡ take len (drop (len * i) xs)
+    → get_or (pieces_of_len len xs) i d ≡ take len (drop (len * i) xs)
 piece_at len xs i d within =
     get_or-map-range_with_len (λ k. take len (drop (len * k) xs)) 0 (count_of len xs) i i d within
     (omega arith)
@@ -49,7 +49,7 @@ pieces_fit len n xs some fits = elim (cases_lt n (count_of len xs)) [
 
 -- an element of a list, by its piece
 pub element_at : {A : Type 0} (len : ℕ) (xs : List A) (i : ℕ) (d : A) → 0 < len
-    → get_or (get_or (pieces len xs) (i / len) []) (i % len) d ≡ get_or xs i d
+    → get_or (get_or (pieces_of_len len xs) (i / len) []) (i % len) d ≡ get_or xs i d
 element_at {A} len xs i d some = elim (cases_lt (i / len) (count_of len xs)) [
   | inl within ↦
       let small : i % len < len = omega arith in
@@ -60,8 +60,8 @@ element_at {A} len xs i d some = elim (cases_lt (i / len) (count_of len xs)) [
       ∙ ap (λ (k : ℕ). get_or xs k d) sum
   | inr past ↦
       let out : length xs ≤ i = omega (arith, no_piece_past len xs (i / len) some past) in
-      let none : get_or (pieces len xs) (i / len) [] ≡ [] =
-      get_or_past (pieces len xs) (i / len) [] (omega (arith, length-pieces len xs)) in
+      let none : get_or (pieces_of_len len xs) (i / len) [] ≡ [] =
+      get_or_past (pieces_of_len len xs) (i / len) [] (omega (arith, length-pieces len xs)) in
       ap (λ (piece : List A). get_or piece (i % len) d) none ∙ sym (get_or_past xs i d out)
 ]
 
@@ -119,9 +119,9 @@ score_at (s ∷ scores) (suc i) each within =
 
 -- where the first has whole pieces alone, those of the second stand behind them
 pub pieces_join : {A : Type 0} (len : ℕ) (xs ys : List A) (n : ℕ) → 0 < len
-    → length xs ≡ len * n → pieces len (xs ++ ys) ≡ pieces len xs ++ pieces len ys
+    → length xs ≡ len * n → pieces_of_len len (xs ++ ys) ≡ pieces_of_len len xs ++ pieces_of_len len ys
 pieces_join {A} len xs ys n some whole =
-    ext_get_or [] (pieces len (xs ++ ys)) (pieces len xs ++ pieces len ys) counts each
+    ext_get_or [] (pieces_of_len len (xs ++ ys)) (pieces_of_len len xs ++ pieces_of_len len ys) counts each
   where
     before : count_of len xs ≡ n
     before =
@@ -140,40 +140,40 @@ pieces_join {A} len xs ys n some whole =
         omega (arith, length-append xs ys, whole, split) in
         ap (λ (k : ℕ). k / len) sum ∙ div-mul-add (n + m) len r small
 
-    counts : length (pieces len (xs ++ ys)) ≡ length (pieces len xs ++ pieces len ys)
+    counts : length (pieces_of_len len (xs ++ ys)) ≡ length (pieces_of_len len xs ++ pieces_of_len len ys)
     counts =
         omega (
           arith,
           length-pieces len (xs ++ ys),
           length-pieces len xs,
           length-pieces len ys,
-          length-append (pieces len xs) (pieces len ys),
+          length-append (pieces_of_len len xs) (pieces_of_len len ys),
           before,
           both,
         )
 
-    each : (i : ℕ) → i < length (pieces len (xs ++ ys))
-        → get_or (pieces len (xs ++ ys)) i [] ≡ get_or (pieces len xs ++ pieces len ys) i []
+    each : (i : ℕ) → i < length (pieces_of_len len (xs ++ ys))
+        → get_or (pieces_of_len len (xs ++ ys)) i [] ≡ get_or (pieces_of_len len xs ++ pieces_of_len len ys) i []
     each i within =
         piece_at len (xs ++ ys) i [] (omega (arith, length-pieces len (xs ++ ys)))
         ∙ elim (cases_lt i n) [
           | inl front ↦
               let scaled : len * suc i ≤ len * n = mul-le-mul_left len front in
               let reached : len * i + len ≤ length xs = omega (arith, whole) in
-              let short : i < length (pieces len xs) =
+              let short : i < length (pieces_of_len len xs) =
               omega (arith, length-pieces len xs, before) in
               ap (λ (l : List A). take len l) (drop-append-le (len * i) xs ys (omega arith))
               ∙ take-append-le len (drop (len * i) xs) ys
               (omega (arith, length-drop (len * i) xs))
               ∙ sym (piece_at len xs i [] (omega (arith, before)))
-              ∙ sym (get_or_append_left (pieces len xs) (pieces len ys) [] i short)
+              ∙ sym (get_or_append_left (pieces_of_len len xs) (pieces_of_len len ys) [] i short)
           | inr behind ↦
               let k : ℕ = i - n in
               let sum : i ≡ n + k = omega arith in
               let place : len * i ≡ length xs + len * k =
               ap (λ (j : ℕ). len * j) sum ∙ mul-add len n k
               ∙ ap (λ (j : ℕ). j + len * k) (sym whole) in
-              let count : length (pieces len xs) ≡ n = length-pieces len xs ∙ before in
+              let count : length (pieces_of_len len xs) ≡ n = length-pieces len xs ∙ before in
               let there : k < count_of len ys =
               omega (arith, length-pieces len (xs ++ ys), both) in
               ap (λ (j : ℕ). take len (drop j (xs ++ ys))) place
@@ -181,12 +181,12 @@ pieces_join {A} len xs ys n some whole =
               (sym (drop-drop (len * k) (length xs) (xs ++ ys))
               ∙ ap (λ (l : List A). drop (len * k) l) (drop_at xs ys (length xs) refl))
               ∙ sym (piece_at len ys k [] there)
-              ∙ sym (get_or-append_right (pieces len xs) (pieces len ys) n i [] count behind)
+              ∙ sym (get_or-append_right (pieces_of_len len xs) (pieces_of_len len ys) n i [] count behind)
         ]
 
 -- a list that is no longer than a piece is one
 pub one_piece : {A : Type 0} (len : ℕ) (xs : List A) → 0 < length xs → length xs ≤ len
-    → pieces len xs ≡ xs ∷ []
+    → pieces_of_len len xs ≡ xs ∷ []
 one_piece {A} len xs some fits =
     let sum : length xs + (len - 1) ≡ 1 * len + (length xs - 1) = omega arith in
     let one : count_of len xs ≡ 1 =
@@ -198,7 +198,7 @@ one_piece {A} len xs some fits =
 
 pub one_piece_more : {A : Type 0} (len : ℕ) (xs ys : List A) (n : ℕ) → 0 < len
     → length xs ≡ len * n → 0 < length ys → length ys ≤ len
-    → pieces len (xs ++ ys) ≡ pieces len xs ++ ys ∷ []
+    → pieces_of_len len (xs ++ ys) ≡ pieces_of_len len xs ++ ys ∷ []
 one_piece_more {A} len xs ys n some whole more fits =
     pieces_join len xs ys n some whole
-    ∙ ap (λ (ps : List (List A)). pieces len xs ++ ps) (one_piece len ys more fits)
+    ∙ ap (λ (ps : List (List A)). pieces_of_len len xs ++ ps) (one_piece len ys more fits)

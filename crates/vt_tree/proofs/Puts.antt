@@ -5,9 +5,9 @@ use Rattle.std.proofs.lemmas.List.{nil_from_length}
 use Rattle.std.proofs.lemmas.Bool.{eqb-true}
 use Rattle.vt_base.specs.declared.score.Score.{Score}
 use Rattle.vt_model.specs.History.{Block}
-use Rattle.vt_tree.specs.declared.err.BlockErr.{BlockErr}
-use Rattle.vt_tree.specs.declared.err.TreeErr.TheVariants as errs
-use Rattle.vt_tree.specs.Calls.{Call, put, write_of}
+use Rattle.vt_tree.specs.declared.error.BlockErr.{BlockErr}
+use Rattle.vt_tree.specs.declared.error.TreeErr.TheVariants as errs
+use Rattle.vt_tree.specs.Calls.{Call, put, write_of_block}
 use Rattle.vt_tree.specs.Growing.{PutsBlock}
 use Rattle.vt_tree.proofs.Making.{makes_one}
 
@@ -20,7 +20,7 @@ module _ {S : Type 0} (does : S → Call → S → Type 0) (score_of : List ℕ 
     calls = [];
     made = refl;
     refused = refl;
-    asked = ap (λ (t : Bool). map write_of (cond t [] (b ∷ []))) (sym none);
+    asked = ap (λ (t : Bool). map write_of_block (cond t [] (b ∷ []))) (sym none);
     scored = is
         ∙ ap score_of (sym (nil_from_length b.bytes (eqb-true (length b.bytes) 0 none)));
     plain = tt;
@@ -32,14 +32,14 @@ module _ {S : Type 0} (does : S → Call → S → Type 0) (score_of : List ℕ 
     calls = [];
     made = refl;
     refused = refl;
-    asked = (map write_of (cond (length b.bytes == 0) [] (b ∷ [])), refl);
+    asked = (map write_of_block (cond (length b.bytes == 0) [] (b ∷ [])), refl);
     scored = tt;
     plain = tt;
   }
 
   module _ (s' : S) (some : (length b.bytes == 0) ≡ false) where
-    alone : write_of b ∷ [] ≡ map write_of (cond (length b.bytes == 0) [] (b ∷ []))
-    alone = ap (λ (t : Bool). map write_of (cond t [] (b ∷ []))) (sym some)
+    alone : write_of_block b ∷ [] ≡ map write_of_block (cond (length b.bytes == 0) [] (b ∷ []))
+    alone = ap (λ (t : Bool). map write_of_block (cond t [] (b ∷ []))) (sym some)
 
     pub was_put : (score : Score) → does s (put b (Ok score)) s' → score.0 ≡ score_of b.bytes
         → PutsBlock does score_of s s' b (Ok score)

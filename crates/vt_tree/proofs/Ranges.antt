@@ -1,13 +1,13 @@
 -- What is read of a file, as its caller is told.
 use Rattle.std.proofs.Common.{◌≡◌, ℕ, Result, Ok, Err, List, [], ◌++◌, refl, sym, ◌∙◌, ap, subst}
 use Rattle.vt_tree.specs.declared.entry.Entry.{Entry}
-use Rattle.vt_tree.specs.declared.err.TreeErr.{TreeErr}
-use Rattle.vt_tree.specs.declared.plain.Trouble.{Trouble}
-use Rattle.vt_tree.specs.Calls.{Call, Tells, after}
+use Rattle.vt_tree.specs.declared.error.TreeErr.{TreeErr}
+use Rattle.vt_tree.specs.declared.plain.ContentError.{ContentError}
+use Rattle.vt_tree.specs.Calls.{Call, TellsOfMap, after}
 use Rattle.vt_tree.specs.Content.{byte_of, way_to}
 use Rattle.vt_tree.specs.Making.{EndsBy}
 use Rattle.vt_tree.specs.Maps.{Maps, IsWriteOnce}
-use Rattle.vt_tree.specs.Reading.{EndsBadlyBy, Gives, ReadsRange, refusal_in}
+use Rattle.vt_tree.specs.Reading.{EndsBadlyBy, GivesBytes, ReadsRange, refusal_in}
 use Rattle.vt_tree.specs.Walking.{ReadsFile}
 use Rattle.vt_tree.proofs.Making.{gets_leave, gets_tell, told}
 
@@ -15,7 +15,7 @@ module _ {S : Type 0} (does : S → Call → S → Type 0) (score_of : List ℕ 
   -- nothing was asked for
   pub unread : (s : S) (e : Entry) (at len : ℕ) (err : TreeErr)
       → EndsBy (refusal_in err) [] → EndsBadlyBy e err []
-      → ((byte : ℕ → Result ℕ Trouble) → Gives byte at len (Err err))
+      → ((byte : ℕ → Result ℕ ContentError) → GivesBytes byte at len (Err err))
       → ReadsRange does score_of s s e at len (Err err)
   unread s e at len err ends bad gives = record {
     calls = [];
@@ -63,11 +63,11 @@ module _ {S : Type 0} (does : S → Call → S → Type 0) (score_of : List ℕ 
   -- what a store holds is read
   pub content_told : (holds : S → Maps → Type 0)
       (law : (s s' : S) (call : Call) (m : Maps) → does s call s' → holds s m
-      → Tells score_of m.held call × holds s' (after score_of call m))
+      → TellsOfMap score_of m.held call × holds s' (after score_of call m))
       (once : (s : S) (m : Maps) → holds s m → IsWriteOnce score_of m.held)
       (s s' : S) (e : Entry) (at len : ℕ) (result : Result (List ℕ) TreeErr)
       → ReadsRange does score_of s s' e at len result → (m : Maps) → holds s m
-      → holds s' m × Gives (byte_of m.held e) at len result
+      → holds s' m × GivesBytes (byte_of m.held e) at len result
   content_told holds law once s s' e at len result range m held =
       let all = told does holds score_of law s s' range.calls m range.made held in (
         subst (holds s') (gets_leave score_of range.calls m range.gets) all.1,

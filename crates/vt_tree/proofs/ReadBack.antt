@@ -13,9 +13,9 @@ use Rattle.std.proofs.lemmas.Nat.{mul-le, div_below}
 use Rattle.std.proofs.lemmas.Slice.Eq.{bytes_eq-Decides}
 use Rattle.vt_model.specs.History.{Block}
 use Rattle.vt_tree.specs.declared.entry.Entry.{Entry}
-use Rattle.vt_tree.specs.Content.{byte_of, byte_below, byte_of_leaf, fits_at, pointer_kind, scores_in, IsContent}
+use Rattle.vt_tree.specs.Content.{byte_of, byte_below, byte_of_leaf, fits_at, pointer_kind, scores_in, IsFileContent}
 use Rattle.vt_tree.specs.Maps.{BlockMap, Has, IsWriteOnce}
-use Rattle.vt_tree.specs.Streams.{Shape, FitsShape, Tree, reach, depth_of, pieces, leaves_of, without_end, leaf_block, pointer_block, topped, tree_of, stream_of, entry_of}
+use Rattle.vt_tree.specs.Streams.{Shape, FitsShape, Tree, reach, depth_of, pieces_of_len, leaves_of, without_end, leaf_block, pointer_block, topped, tree_of, stream_of, entry_of_stream}
 use Rattle.vt_tree.proofs.Contents.{leaf_byte, nothing_below, below_pointers, past_pointers}
 use Rattle.vt_tree.proofs.Parts.{front_of, last_of, part_of}
 use Rattle.vt_tree.proofs.Pieces.{count_of, length-pieces, piece_at, no_piece_past, pieces_fit, element_at, end_passes, length-without_end, left_at, length-scores, score_at}
@@ -91,7 +91,7 @@ module _ (score_of : List ℕ → List ℕ) (held : BlockMap) (e : Entry)
   tree_score_len zero leaves = len (leaf_block shape (get_or leaves 0 [])).bytes
   tree_score_len (suc d) leaves =
       len (pointer_block score_of (suc d)
-      (map (λ (t : Tree). t.score) (map (tree d) (pieces (scores_in e.psize ^ d) leaves)))).bytes
+      (map (λ (t : Tree). t.score) (map (tree d) (pieces_of_len (scores_in e.psize ^ d) leaves)))).bytes
 
   pub reads_back : (d : ℕ) (leaves : List (List ℕ)) → length leaves ≤ scores_in e.psize ^ d
       → All (λ (leaf : List ℕ). length leaf ≤ e.dsize) leaves
@@ -115,7 +115,7 @@ module _ (score_of : List ℕ → List ℕ) (held : BlockMap) (e : Entry)
       let p : ℕ = scores_in e.psize in
       let p_some : 0 < p = omega arith in
       let q_some : 1 ≤ q = one-le-pow d p p_some in
-      let cut : List (List (List ℕ)) = pieces q leaves in
+      let cut : List (List (List ℕ)) = pieces_of_len q leaves in
       let trees : List Tree = map (tree d) cut in
       let scores : List (List ℕ) = map (λ (t : Tree). t.score) trees in
       let kept : List (List ℕ) = without_end (bytes_eq (score_of [])) scores in
@@ -271,7 +271,7 @@ depth_is_least shape size d below =
 -- ---- the whole stream
 
 pieces_short : {A : Type 0} (n : ℕ) (xs : List A)
-    → All (λ (piece : List A). length piece ≤ n) (pieces n xs)
+    → All (λ (piece : List A). length piece ≤ n) (pieces_of_len n xs)
 pieces_short {A} n xs =
     All-map (λ (piece : List A). length piece ≤ n) (λ (i : ℕ). take n (drop (n * i) xs))
     (range_with_len 0 (count_of n xs))
@@ -284,16 +284,16 @@ pub stream_reads_back : (score_of : List ℕ → List ℕ) (held : BlockMap) (sh
     (bytes : List ℕ) → ((block : List ℕ) → length (score_of block) ≡ 20)
     → IsWriteOnce score_of held → FitsShape shape → length bytes ≤ 2 ^ 40
     → All (Has score_of held) (stream_of score_of shape bytes).blocks
-    → IsContent held (entry_of score_of shape bytes) bytes
+    → IsFileContent held (entry_of_stream score_of shape bytes) bytes
 stream_reads_back score_of held shape bytes len once fits most each = record {
   all = refl;
   each = λ i within.
-      subst (λ (k : ℕ). byte_of held (entry_of score_of shape bytes) k ≡ Ok (get_or bytes i 0))
+      subst (λ (k : ℕ). byte_of held (entry_of_stream score_of shape bytes) k ≡ Ok (get_or bytes i 0))
       (sym (zero-add i)) (byte_at i within);
 }
   where
     byte_at : (i : ℕ) → i < length bytes
-        → byte_of held (entry_of score_of shape bytes) i ≡ Ok (get_or bytes i 0)
+        → byte_of held (entry_of_stream score_of shape bytes) i ≡ Ok (get_or bytes i 0)
     byte_at i within =
         let d : ℕ = depth_of shape (length bytes) in
         let p : ℕ = scores_in shape.psize in
@@ -309,10 +309,10 @@ stream_reads_back score_of held shape bytes len once fits most each = record {
           pieces_fit shape.dsize (p ^ d) bytes some (omega arith),
         ) in
         let leaf : i / shape.dsize < p ^ d = div_below i shape.dsize (p ^ d) some (omega arith) in
-        ap (λ (b : Bool). cond b (byte_below held (entry_of score_of shape bytes) d
+        ap (λ (b : Bool). cond b (byte_below held (entry_of_stream score_of shape bytes) d
         (stream_of score_of shape bytes).score (i / shape.dsize) (i % shape.dsize)) (Ok 0))
         (lt-ltb (i / shape.dsize) (p ^ d) leaf)
-        ∙ reads_back score_of held (entry_of score_of shape bytes) len once some
+        ∙ reads_back score_of held (entry_of_stream score_of shape bytes) len once some
         (omega (arith, fits.psize_least)) d leaves few (pieces_short shape.dsize bytes) each
         (i / shape.dsize) (i % shape.dsize) leaf (mod-lt i some)
         ∙ ap (λ (b : ℕ). Ok b) (element_at shape.dsize bytes i 0 some)

@@ -5,9 +5,9 @@ use Rattle.byteorder.specs.Endian.{big_number, big_bytes}
 use Rattle.byteorder.specs.Numbers.{big_number-reads_back, big_from-lt}
 use Rattle.std.proofs.lemmas.List.{get_or-drop}
 use Rattle.vt_base.specs.Bytes.{AreBytes}
-use Rattle.vt_fields.specs.Fields.{drop-field, drop-number}
+use Rattle.vt_base.specs.Fields.{drop-field, drop-number}
 use Rattle.vt_tree.specs.declared.root.Root.{Root}
-use Rattle.vt_tree.specs.Roots.{IsRoot, spelled}
+use Rattle.vt_tree.specs.Roots.{IsRoot, root_bytes}
 
 -- what the fields of 300 bytes say
 abbrev pub root_in : List ℕ → Root
@@ -20,7 +20,7 @@ root_in bytes = record {
 }
 
 pub root_spelled : (bytes : List ℕ) → length bytes ≡ 300 → AreBytes bytes → big_number 2 bytes ≡ 2
-    → bytes ≡ spelled (root_in bytes)
+    → bytes ≡ root_bytes (root_in bytes)
 root_spelled bytes len are version =
     let front = drop-number 0 2 bytes (omega (arith, len)) are in
     let name = drop-field 2 128 bytes in
@@ -53,30 +53,30 @@ module _ (r : Root) (is : IsRoot r) where
   abbrev kinded : List ℕ
   kinded = r.kind ++ scored
 
-  from_130 : drop 130 (spelled r) ≡ kinded
-  from_130 = sym (drop-drop 128 2 (spelled r)) ∙ drop_at r.name kinded 128 is.name
+  from_130 : drop 130 (root_bytes r) ≡ kinded
+  from_130 = sym (drop-drop 128 2 (root_bytes r)) ∙ drop_at r.name kinded 128 is.name
 
-  from_258 : drop 258 (spelled r) ≡ scored
+  from_258 : drop 258 (root_bytes r) ≡ scored
   from_258 =
-      sym (drop-drop 128 130 (spelled r)) ∙ ap (λ (l : List ℕ). drop 128 l) from_130
+      sym (drop-drop 128 130 (root_bytes r)) ∙ ap (λ (l : List ℕ). drop 128 l) from_130
       ∙ drop_at r.kind scored 128 is.kind
 
-  from_278 : drop 278 (spelled r) ≡ sized
+  from_278 : drop 278 (root_bytes r) ≡ sized
   from_278 =
-      sym (drop-drop 20 258 (spelled r)) ∙ ap (λ (l : List ℕ). drop 20 l) from_258
+      sym (drop-drop 20 258 (root_bytes r)) ∙ ap (λ (l : List ℕ). drop 20 l) from_258
       ∙ drop_at r.score.0 sized 20 is.score
 
-  from_280 : drop 280 (spelled r) ≡ r.prev.0
-  from_280 = sym (drop-drop 2 278 (spelled r)) ∙ ap (λ (l : List ℕ). drop 2 l) from_278
+  from_280 : drop 280 (root_bytes r) ≡ r.prev.0
+  from_280 = sym (drop-drop 2 278 (root_bytes r)) ∙ ap (λ (l : List ℕ). drop 2 l) from_278
 
-  pub root_read : root_in (spelled r) ≡ r
+  pub root_read : root_in (root_bytes r) ≡ r
   root_read =
-      let name : take 128 (drop 2 (spelled r)) ≡ r.name = take_at r.name kinded 128 is.name in
-      let kind : take 128 (drop 130 (spelled r)) ≡ r.kind =
+      let name : take 128 (drop 2 (root_bytes r)) ≡ r.name = take_at r.name kinded 128 is.name in
+      let kind : take 128 (drop 130 (root_bytes r)) ≡ r.kind =
       ap (λ (l : List ℕ). take 128 l) from_130 ∙ take_at r.kind scored 128 is.kind in
-      let score : take 20 (drop 258 (spelled r)) ≡ r.score.0 =
+      let score : take 20 (drop 258 (root_bytes r)) ≡ r.score.0 =
       ap (λ (l : List ℕ). take 20 l) from_258 ∙ take_at r.score.0 sized 20 is.score in
-      let block_size : big_number 2 (drop 278 (spelled r)) ≡ r.block_size =
+      let block_size : big_number 2 (drop 278 (root_bytes r)) ≡ r.block_size =
       ap (λ (l : List ℕ). big_number 2 l) from_278
       ∙ big_number-reads_back 2 r.block_size r.prev.0 is.block_size in
       λ i. record {
@@ -87,7 +87,7 @@ module _ (r : Root) (is : IsRoot r) where
         prev = record { 0 = from_280 i };
       }
 
-  pub root_len : length (spelled r) ≡ 300
+  pub root_len : length (root_bytes r) ≡ 300
   root_len =
       omega (
         arith,
@@ -101,7 +101,7 @@ module _ (r : Root) (is : IsRoot r) where
         is.prev,
       )
 
-pub spelled_root_is_read : (r : Root) (bytes : List ℕ) → IsRoot r → bytes ≡ spelled r
+pub spelled_root_is_read : (r : Root) (bytes : List ℕ) → IsRoot r → bytes ≡ root_bytes r
     → (root_in bytes ≡ r) × (length bytes ≡ 300) × (big_number 2 bytes ≡ 2)
 spelled_root_is_read r bytes is s = (
   ap root_in s ∙ root_read r is,

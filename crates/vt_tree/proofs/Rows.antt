@@ -4,13 +4,13 @@ use Rattle.std.proofs.lemmas.Bool.{cases_Bool}
 use Rattle.std.proofs.lemmas.List.{length-map, length-take-le, map_push}
 use Rattle.vt_base.specs.Bytes.{AreBytes}
 use Rattle.vt_base.specs.declared.score.Score.{Score}
-use Rattle.vt_tree.specs.declared.err.TreeErr.{TreeErr}
-use Rattle.vt_tree.specs.declared.err.TreeErr.TheVariants as errs
+use Rattle.vt_tree.specs.declared.error.TreeErr.{TreeErr}
+use Rattle.vt_tree.specs.declared.error.TreeErr.TheVariants as errs
 use Rattle.vt_tree.specs.declared.writing.Ahead.{Ahead}
 use Rattle.vt_tree.specs.declared.writing.Cut.{Cut}
 use Rattle.vt_tree.specs.Calls.{Call}
 use Rattle.vt_tree.specs.Content.{scores_in}
-use Rattle.vt_tree.specs.Growing.{Advances, GrowsTree, HasFirst, IsReady, PutsBlock, StopsTree, next_of, shape_of}
+use Rattle.vt_tree.specs.Growing.{TakesNextLeaf, GrowsTree, HasFirst, IsReadyToWrite, PutsBlock, StopsTree, next_of, shape_of}
 use Rattle.vt_tree.specs.Streams.{FitsShape, pointer_block, tree_of}
 use Rattle.vt_tree.specs.Writing.{IsTaken, IsAll}
 use Rattle.vt_tree.proofs.Growth.{Comes, what_comes, SoFar, begin, finish, step, stop_at_put, stop_below, stop_here}
@@ -24,19 +24,19 @@ pub size_some : (cut : Cut) → FitsShape (shape_of cut) → 0 < cut.dsize
 size_some cut fits = omega (arith, fits.dsize_least)
 
 pub leaf_len : (score_of : List ℕ → List ℕ) (cut : Cut) (ahead : Ahead) (tells : Bool)
-    (left : List ℕ) → IsReady score_of cut ahead tells left
+    (left : List ℕ) → IsReadyToWrite score_of cut ahead tells left
     → length (next_of ahead).leaf ≡ ahead.filled
 leaf_len score_of cut ahead tells left ready =
     length-take-le ahead.filled ahead.leaf.items ready.filled
 
 -- it is ready for the next leaf
 pub ready_again : (score_of : List ℕ → List ℕ) (cut : Cut) (old new : Ahead) (tells : Bool)
-    (from to : List ℕ) → IsReady score_of cut old tells from
-    → Advances cut.dsize (next_of old) (next_of new) (IsTaken tells from to)
+    (from to : List ℕ) → IsReadyToWrite score_of cut old tells from
+    → TakesNextLeaf cut.dsize (next_of old) (next_of new) (IsTaken tells from to)
     → (old.ended ≡ false → new.ended ≡ true → IsTrue tells → to ≡ [])
     → (old.ended ≡ true → (new.ended ≡ true) × (to ≡ from))
     → length new.leaf.items ≡ length old.leaf.items → new.filled ≤ length new.leaf.items
-    → IsReady score_of cut new tells to
+    → IsReadyToWrite score_of cut new tells to
 ready_again score_of cut old new tells from to ready a end stays room filled = record {
   zero = ready.zero;
   fits = ready.fits;
@@ -51,7 +51,7 @@ ready_again score_of cut old new tells from to ready a end stays room filled = r
 
 -- behind the last leaf the source has nothing left
 pub nothing_left : (score_of : List ℕ → List ℕ) (cut : Cut) (ahead : Ahead) (tells : Bool)
-    (left : List ℕ) → IsReady score_of cut ahead tells left → ahead.filled ≡ 0
+    (left : List ℕ) → IsReadyToWrite score_of cut ahead tells left → ahead.filled ≡ 0
     → IsTrue tells → left ≡ []
 nothing_left score_of cut ahead tells left ready none = elim (cases_Bool ahead.ended) [
   | inl ended ↦ ready.end ended
@@ -75,12 +75,12 @@ module _ {S : Type 0} (does : S → Call → S → Type 0) (score_of : List ℕ 
         → HasFirst score_of (shape_of cut) d (next_of old) leaves first
         → SoFar does score_of (shape_of cut) tells d s s' (next_of old) (next_of new) from to
         leaves (map (λ (score : Score). score.0) scores)
-    pub ready : IsReady score_of cut new tells to
+    pub ready : IsReadyToWrite score_of cut new tells to
     pub few : length scores ≤ scores_in cut.psize
     pub faults : now ≡ before
 
   pub row_begun : (s : S) (ahead : Ahead) (left : List ℕ) (first : Score) (n : ℕ)
-      → IsReady score_of cut ahead tells left
+      → IsReadyToWrite score_of cut ahead tells left
       → Row s s ahead ahead left left first (first ∷ []) n n
   row_begun s ahead left first n ready = record {
     grown = λ leaves has.
@@ -105,7 +105,7 @@ module _ {S : Type 0} (does : S → Call → S → Type 0) (score_of : List ℕ 
     pub row_more : (score : Score)
         → GrowsTree does score_of mid s' (shape_of cut) d (next_of half) (next_of new)
         (IsTaken tells between to) [] [] score
-        → IsReady score_of cut new tells to → after ≡ now
+        → IsReadyToWrite score_of cut new tells to → after ≡ now
         → Row s s' old new from to first (scores ++ score ∷ []) before after
     row_more score grown ready faults = record {
       grown = λ leaves has.

@@ -10,7 +10,7 @@ use Rattle.vt_model.specs.History.{Block}
 use Rattle.vt_tree.specs.declared.mem_blocks.Stored.{Stored}
 use Rattle.vt_tree.specs.MapLaws.{is_key}
 use Rattle.vt_tree.specs.Maps.{BlockMap, no_blocks, with_block, with_blocks}
-use Rattle.vt_tree.specs.Memory.{Memory, block_of, map_of, held_in, IsKept}
+use Rattle.vt_tree.specs.Memory.{BlocksMemory, block_of, map_of, held_in, IsKeptBlock}
 
 pub searched : (score_of : List ℕ → List ℕ) (blocks : List Block) (m : BlockMap) (s : List ℕ)
     (kind : ℕ) → with_blocks score_of blocks m s kind
@@ -40,14 +40,14 @@ has_key s kind b = bytes_eq b.key.score.0 s && b.key.kind == kind
 
 -- the search among the blocks as they are kept
 pub kept_search : (score_of : List ℕ → List ℕ) (s : List ℕ) (kind : ℕ) (kept : List Stored)
-    → All (IsKept score_of) kept
+    → All (IsKeptBlock score_of) kept
     → option_map (λ (b : Stored). b.bytes) (find (has_key s kind) kept)
     ≡ option_map (λ (b : Block). b.bytes)
     (find (λ (b : Block). is_key score_of b s kind) (map block_of kept))
 kept_search score_of s kind [] scored = refl
 kept_search score_of s kind (b ∷ kept) scored =
-    let own = (All-head (IsKept score_of) b kept scored).own in
-    let rest = kept_search score_of s kind kept (All-tail (IsKept score_of) b kept scored) in
+    let own = (All-head (IsKeptBlock score_of) b kept scored).own in
+    let rest = kept_search score_of s kind kept (All-tail (IsKeptBlock score_of) b kept scored) in
     ap (λ (t : List ℕ). option_map (λ (x : Stored). x.bytes)
     (cond (bytes_eq t s && b.key.kind == kind) (Some b) (find (has_key s kind) kept))) own
     ∙ either (is_key score_of (block_of b) s kind) (find (has_key s kind) kept)
@@ -62,7 +62,7 @@ kept_search score_of s kind (b ∷ kept) scored =
 
 -- what is held under a score that isn't that of no bytes is found by a search
 pub search_finds : (score_of : List ℕ → List ℕ) (kept : List Stored) (s : List ℕ) (kind : ℕ)
-    → All (IsKept score_of) kept → bytes_eq s (score_of []) ≡ false
+    → All (IsKeptBlock score_of) kept → bytes_eq s (score_of []) ≡ false
     → option_map (λ (b : Stored). b.bytes) (find (has_key s kind) kept)
     ≡ map_of score_of (map block_of kept) s kind
 search_finds score_of kept s kind scored other =
@@ -73,7 +73,7 @@ search_finds score_of kept s kind scored other =
     (find (λ (b : Block). is_key score_of b s kind) (map block_of kept)))) other)
 
 -- and no bytes are held under that
-pub none_is_held : (score_of : List ℕ → List ℕ) (m : Memory) (s : List ℕ) (kind : ℕ)
+pub none_is_held : (score_of : List ℕ → List ℕ) (m : BlocksMemory) (s : List ℕ) (kind : ℕ)
     → bytes_eq s (score_of []) ≡ true → Some [] ≡ held_in score_of m s kind
 none_is_held score_of m s kind zero =
     sym (searched score_of m.blocks (no_blocks score_of) s kind

@@ -9,17 +9,17 @@ use Rattle.std.proofs.lemmas.List.Concat.{flat_map-append}
 use Rattle.vt_model.specs.History.{Block}
 use Rattle.vt_tree.specs.Content.{scores_in}
 use Rattle.vt_tree.specs.Growing.{Next, TakesLeaves}
-use Rattle.vt_tree.specs.Streams.{Shape, Tree, pieces, pointer_block, tree_of}
+use Rattle.vt_tree.specs.Streams.{Shape, Tree, pieces_of_len, pointer_block, tree_of}
 use Rattle.vt_tree.proofs.Pieces.{count_of, pieces_reach, pieces_join, one_piece, one_piece_more}
 
 -- ---- the first piece, and the others
 
 pub first_piece : {A : Type 0} (q : ℕ) (xs : List A) → 0 < q → 0 < length xs
-    → (others : List (List A)) × (pieces q xs ≡ take q xs ∷ others)
+    → (others : List (List A)) × (pieces_of_len q xs ≡ take q xs ∷ others)
 first_piece {A} q xs some came = of (count_of q xs) refl
   where
     of : (n : ℕ) → count_of q xs ≡ n
-        → (others : List (List A)) × (pieces q xs ≡ take q xs ∷ others)
+        → (others : List (List A)) × (pieces_of_len q xs ≡ take q xs ∷ others)
     of zero none =
         let all : length xs ≤ q * count_of q xs = pieces_reach q xs some in
         let nothing : q * count_of q xs ≡ 0 = ap (λ (k : ℕ). q * k) none ∙ mul-zero q in
@@ -35,7 +35,7 @@ first_piece {A} q xs some came = of (count_of q xs) refl
 
 module _ (score_of : List ℕ → List ℕ) (shape : Shape) where
   abbrev pub trees : (d : ℕ) → List (List ℕ) → List Tree
-  trees d leaves = map (tree_of score_of shape d) (pieces (scores_in shape.psize ^ d) leaves)
+  trees d leaves = map (tree_of score_of shape d) (pieces_of_len (scores_in shape.psize ^ d) leaves)
 
   pub trees_one : (d : ℕ) (leaves : List (List ℕ)) → 0 < length leaves
       → length leaves ≤ scores_in shape.psize ^ d
@@ -52,7 +52,7 @@ module _ (score_of : List ℕ → List ℕ) (shape : Shape) where
       let one : 1 ≤ q = one-le-pow d (scores_in shape.psize) some in
       ap (map (tree_of score_of shape d))
       (one_piece_more q leaves more c (omega arith) whole came few)
-      ∙ map-append (tree_of score_of shape d) (pieces q leaves) (more ∷ [])
+      ∙ map-append (tree_of score_of shape d) (pieces_of_len q leaves) (more ∷ [])
 
   -- ---- a tree that has begun
 
@@ -177,7 +177,7 @@ takes_more dsize a b c first second leaves more some left x y =
           (λ i. x.cut i ++ y.cut i)
           ∙ sym (pieces_join dsize (flat_map (λ (leaf : List ℕ). leaf) leaves)
           (flat_map (λ (leaf : List ℕ). leaf) more) (length leaves) some whole)
-          ∙ ap (λ (l : List ℕ). pieces dsize l) (sym joined);
+          ∙ ap (λ (l : List ℕ). pieces_of_len dsize l) (sym joined);
       whole = λ later.
           omega (
             arith,

@@ -6,7 +6,7 @@ use Rattle.std.proofs.lemmas.Bool.{cases_lt}
 use Rattle.std.proofs.lemmas.List.Concat.{flat_map-append}
 use Rattle.std.proofs.lemmas.Nat.{le-div, div_below, div-mul-add}
 use Rattle.vt_base.specs.Protocol.{Operation}
-use Rattle.vt_tree.specs.declared.plain.Trouble.{Trouble}
+use Rattle.vt_tree.specs.declared.plain.ContentError.{ContentError}
 use Rattle.vt_tree.specs.Content.{led, way_through}
 
 -- ---- numbers one after another
@@ -30,7 +30,7 @@ range_split a (suc n) m =
 
 -- ---- the places so far
 
-module _ (leaves : ℕ) (score_at : ℕ → Result (Option (List ℕ)) Trouble)
+module _ (leaves : ℕ) (score_at : ℕ → Result (Option (List ℕ)) ContentError)
     (way : List ℕ → (first end : ℕ) → List Operation) (first end : ℕ) where
   -- the way at one place
   abbrev pub at_place : (place : ℕ) → List Operation

@@ -8,11 +8,11 @@ use Rattle.std.proofs.lemmas.List.{map-append, nil_from_length}
 use Rattle.vt_base.specs.Protocol.{Operation}
 use Rattle.vt_base.specs.declared.score.Score.{Score}
 use Rattle.vt_model.specs.History.{Block}
-use Rattle.vt_tree.specs.declared.err.TreeErr.{TreeErr}
-use Rattle.vt_tree.specs.Calls.{Call, asked_of, write_of}
+use Rattle.vt_tree.specs.declared.error.TreeErr.{TreeErr}
+use Rattle.vt_tree.specs.Calls.{Call, asked_of, write_of_block}
 use Rattle.vt_tree.specs.Content.{scores_in}
 use Rattle.vt_tree.specs.Growing.{Next, HasFirst, GrowsTree, StopsTree, WritesTree, StopsStream}
-use Rattle.vt_tree.specs.Streams.{Shape, Tree, FitsShape, reach, depth_of, pieces, leaf_block, tree_of, stream_of, without_end}
+use Rattle.vt_tree.specs.Streams.{Shape, Tree, FitsShape, reach, depth_of, pieces_of_len, leaf_block, tree_of, stream_of, without_end}
 use Rattle.vt_tree.specs.Writing.{IsTaken, IsAll}
 use Rattle.vt_tree.proofs.Deeper.{grown_deeper, is_first, stopped_later}
 use Rattle.vt_tree.proofs.Growth.{cut_all, no_pieces, some_pieces}
@@ -87,11 +87,11 @@ module _ {S : Type 0} (does : S → Call → S → Type 0) (score_of : List ℕ 
             zero ∙ ap score_of (sym (no_bytes_kept shape)) ∙ ap (λ (t : Tree). t.score) tree
             ∙ ap (λ (l : List ℕ). (stream_of score_of shape l).score) empty;
         puts =
-            ap (λ (l : List ℕ). map write_of
+            ap (λ (l : List ℕ). map write_of_block
             (if length l == 0 then [] else leaf_block shape [] ∷ []))
             (sym (no_bytes_kept shape))
-            ∙ ap (λ (t : Tree). map write_of t.blocks) tree
-            ∙ ap (λ (l : List ℕ). map write_of (stream_of score_of shape l).blocks) empty;
+            ∙ ap (λ (t : Tree). map write_of_block t.blocks) tree
+            ∙ ap (λ (l : List ℕ). map write_of_block (stream_of score_of shape l).blocks) empty;
       }
     where
       no_more : (n : ℕ) → n ≡ n + 0
@@ -101,10 +101,10 @@ module _ {S : Type 0} (does : S → Call → S → Type 0) (score_of : List ℕ 
 
   -- a depth that has room for its leaves reaches them
   reached : (all : List ℕ) (depth : ℕ)
-      → length (pieces shape.dsize all) ≤ scores_in shape.psize ^ depth
+      → length (pieces_of_len shape.dsize all) ≤ scores_in shape.psize ^ depth
       → length all ≤ reach shape depth
   reached all depth few =
-      let covers : length all ≤ shape.dsize * length (pieces shape.dsize all) =
+      let covers : length all ≤ shape.dsize * length (pieces_of_len shape.dsize all) =
       omega (
         arith,
         pieces_reach shape.dsize all d_some,
@@ -121,10 +121,10 @@ module _ {S : Type 0} (does : S → Call → S → Type 0) (score_of : List ℕ 
   begun_of : 0 < scores_in shape.psize → (all : List ℕ) (depth : ℕ) → depth < 8
       → 0 < length all → ((k : ℕ) → k < depth → reach shape k < length all)
       → (rest : List Block) × ((tree_of score_of shape depth
-      (take (scores_in shape.psize ^ depth) (pieces shape.dsize all))).blocks ++ rest
+      (take (scores_in shape.psize ^ depth) (pieces_of_len shape.dsize all))).blocks ++ rest
       ≡ (stream_of score_of shape all).blocks)
   begun_of some all depth shallow came least =
-      begins_whole score_of shape (depth_of shape (length all)) depth low (pieces shape.dsize all)
+      begins_whole score_of shape (depth_of shape (length all)) depth low (pieces_of_len shape.dsize all)
       (some_pieces does score_of shape tells depth some d_some all came) some whole
     where
       low : depth ≤ depth_of shape (length all)
@@ -139,7 +139,7 @@ module _ {S : Type 0} (does : S → Call → S → Type 0) (score_of : List ℕ 
       ]
 
       whole : depth ≡ depth_of shape (length all)
-          → length (pieces shape.dsize all) ≤ scores_in shape.psize ^ depth
+          → length (pieces_of_len shape.dsize all) ≤ scores_in shape.psize ^ depth
       whole same =
           let here : length all ≤ reach shape depth =
           subst (λ (k : ℕ). length all ≤ reach shape k) (sym same)
@@ -249,10 +249,10 @@ module _ {S : Type 0} (does : S → Call → S → Type 0) (score_of : List ℕ 
           g.tree.score_is ∙ (λ i. (tree_of score_of shape (depth_is i) (cut i)).score);
       puts =
           g.tree.puts
-          ∙ (λ i. map write_of (tree_of score_of shape (depth_is i) (cut i)).blocks);
+          ∙ (λ i. map write_of_block (tree_of score_of shape (depth_is i) (cut i)).blocks);
     }
       where
-        cut : g.tree.leaves ≡ pieces shape.dsize (old.leaf ++ g.tree.bytes)
+        cut : g.tree.leaves ≡ pieces_of_len shape.dsize (old.leaf ++ g.tree.bytes)
         cut = sym (cut_all does score_of shape tells depth some d_some old new g.tree.bytes
             g.tree.leaves none g.tree.takes)
 
@@ -260,7 +260,7 @@ module _ {S : Type 0} (does : S → Call → S → Type 0) (score_of : List ℕ 
         size_all =
             omega (arith, g.tree.takes.size, size_is, length-append old.leaf g.tree.bytes)
 
-        few : length (pieces shape.dsize (old.leaf ++ g.tree.bytes)) ≤ scores_in shape.psize ^ depth
+        few : length (pieces_of_len shape.dsize (old.leaf ++ g.tree.bytes)) ≤ scores_in shape.psize ^ depth
         few = subst (λ (ls : List (List ℕ)). length ls ≤ scores_in shape.psize ^ depth) cut
             g.tree.most
 
@@ -285,13 +285,13 @@ module _ {S : Type 0} (does : S → Call → S → Type 0) (score_of : List ℕ 
       rest = t.rest ++ begun.0;
       puts =
           ap (λ (l : List Operation). map asked_of t.calls ++ l)
-          (map-append write_of t.rest begun.0)
-          ∙ sym (append_assoc (map asked_of t.calls) (map write_of t.rest) (map write_of begun.0))
-          ∙ ap (λ (l : List Operation). l ++ map write_of begun.0) t.puts
-          ∙ sym (map-append write_of (tree_of score_of shape depth
+          (map-append write_of_block t.rest begun.0)
+          ∙ sym (append_assoc (map asked_of t.calls) (map write_of_block t.rest) (map write_of_block begun.0))
+          ∙ ap (λ (l : List Operation). l ++ map write_of_block begun.0) t.puts
+          ∙ sym (map-append write_of_block (tree_of score_of shape depth
           (take (scores_in shape.psize ^ depth)
-          (pieces shape.dsize (old.leaf ++ t.bytes)))).blocks begun.0)
-          ∙ ap (map write_of) begun.1;
+          (pieces_of_len shape.dsize (old.leaf ++ t.bytes)))).blocks begun.0)
+          ∙ ap (map write_of_block) begun.1;
     }
       where
         total : old.size + length t.bytes ≡ length (old.leaf ++ t.bytes)
@@ -299,7 +299,7 @@ module _ {S : Type 0} (does : S → Call → S → Type 0) (score_of : List ℕ 
 
         begun : (rest : List Block) × ((tree_of score_of shape depth
             (take (scores_in shape.psize ^ depth)
-            (pieces shape.dsize (old.leaf ++ t.bytes)))).blocks ++ rest
+            (pieces_of_len shape.dsize (old.leaf ++ t.bytes)))).blocks ++ rest
             ≡ (stream_of score_of shape (old.leaf ++ t.bytes)).blocks)
         begun = begun_of some (old.leaf ++ t.bytes) depth shallow
             (omega (arith, total, came, length-append old.leaf t.bytes))

@@ -6,8 +6,8 @@ use Rattle.vt_base.specs.Protocol.{Operation, read, write, sync as sync_all}
 use Rattle.vt_base.specs.declared.TheConstants.{MAX_BLOCK}
 use Rattle.vt_base.specs.declared.score.Score.{Score}
 use Rattle.vt_model.specs.History.{Block}
-use Rattle.vt_tree.specs.declared.err.BlockErr.{BlockErr}
-use Rattle.vt_tree.specs.declared.err.BlockErr.TheVariants.{Fault, Refused, WrongScore, Damaged, NoMemory}
+use Rattle.vt_tree.specs.declared.error.BlockErr.{BlockErr}
+use Rattle.vt_tree.specs.declared.error.BlockErr.TheVariants.{Fault, Refused, WrongScore, Damaged, NoMemory}
 use Rattle.vt_tree.specs.Maps.{BlockMap, Maps, with_block, HasNoOther}
 
 -- a call, and its answer: the block of a type and score, the score of a block that is put, or that
@@ -18,12 +18,12 @@ pub data Call : Type 0 where
   sync : Result (Unit {0}) BlockErr → Call
 
 -- what is asked by it (venti(6): Tread, Twrite, Tsync)
-abbrev pub write_of : Block → Operation
-write_of b = write b.kind b.bytes
+abbrev pub write_of_block : Block → Operation
+write_of_block b = write b.kind b.bytes
 
 abbrev pub asked_of : Call → Operation
 asked_of (get kind s answer) = read s kind MAX_BLOCK
-asked_of (put b answer) = write_of b
+asked_of (put b answer) = write_of_block b
 asked_of (sync answer) = sync_all
 
 -- it asks for a block
@@ -48,12 +48,12 @@ abbrev pub refusals_of : List Call → List BlockErr
 refusals_of calls = filter_map refusal_of calls
 
 -- it is neither a fault nor want of memory
-abbrev pub IsRefusal : BlockErr → Type 0
-IsRefusal Fault = ⊥
-IsRefusal (Refused text) = ⊤
-IsRefusal (WrongScore want found) = ⊤
-IsRefusal (Damaged want found) = ⊤
-IsRefusal NoMemory = ⊥
+abbrev pub IsBlockRefusal : BlockErr → Type 0
+IsBlockRefusal Fault = ⊥
+IsBlockRefusal (Refused text) = ⊤
+IsBlockRefusal (WrongScore want found) = ⊤
+IsBlockRefusal (Damaged want found) = ⊤
+IsBlockRefusal NoMemory = ⊥
 
 -- how many calls have failed, and how many were refused for a reason other than want of memory
 pub record Counts : Type 0 where
@@ -61,24 +61,24 @@ pub record Counts : Type 0 where
   pub refusals : ℕ
 
 -- the counts with this refusal, if there is one
-abbrev pub counted : Option BlockErr → Counts → Counts
-counted None c = c
-counted (Some Fault) c = record c { faults = one_more c.faults }
-counted (Some (Refused text)) c = record c { refusals = one_more c.refusals }
-counted (Some (WrongScore want found)) c = record c { refusals = one_more c.refusals }
-counted (Some (Damaged want found)) c = record c { refusals = one_more c.refusals }
-counted (Some NoMemory) c = c
+abbrev pub with_refusal : Option BlockErr → Counts → Counts
+with_refusal None c = c
+with_refusal (Some Fault) c = record c { faults = one_more c.faults }
+with_refusal (Some (Refused text)) c = record c { refusals = one_more c.refusals }
+with_refusal (Some (WrongScore want found)) c = record c { refusals = one_more c.refusals }
+with_refusal (Some (Damaged want found)) c = record c { refusals = one_more c.refusals }
+with_refusal (Some NoMemory) c = c
 
 -- ---- the map
 
 -- What an answer says of a store that held this map: it has the block; it doesn't have it; it had
 -- no other bytes under the score of a block that it took in.
-abbrev pub Tells : (score_of : List ℕ → List ℕ) → BlockMap → Call → Type 0
-Tells score_of map (get kind s (Ok bytes)) = map s kind ≡ Some bytes
-Tells score_of map (get kind s (Err err)) = IsRefusal err → map s kind ≡ None
-Tells score_of map (put b (Ok score)) = HasNoOther score_of map b
-Tells score_of map (put b (Err err)) = ⊤
-Tells score_of map (sync answer) = ⊤
+abbrev pub TellsOfMap : (score_of : List ℕ → List ℕ) → BlockMap → Call → Type 0
+TellsOfMap score_of map (get kind s (Ok bytes)) = map s kind ≡ Some bytes
+TellsOfMap score_of map (get kind s (Err err)) = IsBlockRefusal err → map s kind ≡ None
+TellsOfMap score_of map (put b (Ok score)) = HasNoOther score_of map b
+TellsOfMap score_of map (put b (Err err)) = ⊤
+TellsOfMap score_of map (sync answer) = ⊤
 
 -- what is held, and what is synced, after a call
 abbrev pub after : (score_of : List ℕ → List ℕ) → Call → Maps → Maps

@@ -6,8 +6,8 @@ use Rattle.std.specs.Str.{bytes_eq}
 use Rattle.vt_base.specs.Protocol.{Operation, read}
 use Rattle.vt_base.specs.declared.TheConstants.{MAX_BLOCK}
 use Rattle.vt_tree.specs.declared.entry.Entry.{Entry}
-use Rattle.vt_tree.specs.declared.plain.Trouble.{Trouble}
-use Rattle.vt_tree.specs.declared.plain.Trouble.TheVariants.{Absent, BadBlock}
+use Rattle.vt_tree.specs.declared.plain.ContentError.{ContentError}
+use Rattle.vt_tree.specs.declared.plain.ContentError.TheVariants.{Absent, BadBlock}
 use Rattle.vt_tree.specs.Maps.{BlockMap}
 
 -- how many bytes the file has; an entry that isn't active is an empty file
@@ -33,7 +33,7 @@ fits_at e zero block = nat_le (length block) e.dsize
 fits_at e (suc d) block = nat_le (length block) e.psize && length block % 20 == 0
 
 -- a byte of a leaf, which is zero where the leaf was cut at its end
-abbrev pub byte_of_leaf : Entry → (byte : ℕ) → Option (List ℕ) → Result ℕ Trouble
+abbrev pub byte_of_leaf : Entry → (byte : ℕ) → Option (List ℕ) → Result ℕ ContentError
 byte_of_leaf e byte None = Err Absent
 byte_of_leaf e byte (Some block) =
     if fits_at e 0 block then Ok (slice_index block byte) else Err (BadBlock 0 (length block))
@@ -44,22 +44,22 @@ score_in block place =
     if nat_lt (20 * place) (length block) then Some (take 20 (drop (20 * place) block)) else None
 
 abbrev pub score_of_pointers : Entry → (depth place : ℕ) → Option (List ℕ)
-    → Result (Option (List ℕ)) Trouble
+    → Result (Option (List ℕ)) ContentError
 score_of_pointers e depth place None = Err Absent
 score_of_pointers e depth place (Some block) =
     if fits_at e depth block then Ok (score_in block place)
     else Err (BadBlock depth (length block))
 
 -- what a score leads to, and a zero byte where none is
-abbrev pub through : Result (Option (List ℕ)) Trouble → (List ℕ → Result ℕ Trouble)
-    → Result ℕ Trouble
+abbrev pub through : Result (Option (List ℕ)) ContentError → (List ℕ → Result ℕ ContentError)
+    → Result ℕ ContentError
 through (Err trouble) below = Err trouble
 through (Ok None) below = Ok 0
 through (Ok (Some score)) below = below score
 
 -- the byte of a leaf, both by number, below as many pointer blocks as the depth says
 abbrev pub byte_below : BlockMap → Entry → (depth : ℕ) → (score : List ℕ) → (leaf byte : ℕ)
-    → Result ℕ Trouble
+    → Result ℕ ContentError
 byte_below map e zero score leaf byte = byte_of_leaf e byte (map score (leaf_kind e.is_dir))
 byte_below map e (suc d) score leaf byte =
     let leaves = scores_in e.psize ^ d in
@@ -68,7 +68,7 @@ byte_below map e (suc d) score leaf byte =
 
 -- Byte p of the file: byte p mod dsize of leaf p / dsize, and zero where that leaf lies past what
 -- the depth reaches.
-abbrev pub byte_of : BlockMap → Entry → (p : ℕ) → Result ℕ Trouble
+abbrev pub byte_of : BlockMap → Entry → (p : ℕ) → Result ℕ ContentError
 byte_of map e p =
     if nat_lt (p / e.dsize) (scores_in e.psize ^ e.depth)
     then byte_below map e e.depth e.score.0 (p / e.dsize) (p % e.dsize)
@@ -77,12 +77,12 @@ byte_of map e p =
 -- ---- many bytes
 
 -- the bytes are those that this gives from a place on
-abbrev pub AreGiven : (ℕ → Result ℕ Trouble) → (at : ℕ) → List ℕ → Type 0
+abbrev pub AreGiven : (ℕ → Result ℕ ContentError) → (at : ℕ) → List ℕ → Type 0
 AreGiven byte at bytes =
     (i : ℕ) → i < length bytes → byte (at + i) ≡ Ok (slice_index bytes i)
 
 -- a byte among these has this trouble, and none before it has any
-pub record FirstTrouble (byte : ℕ → Result ℕ Trouble) (at len : ℕ) (trouble : Trouble)
+pub record FirstTrouble (byte : ℕ → Result ℕ ContentError) (at len : ℕ) (trouble : ContentError)
     : Type 0 where
   pub place : ℕ
   pub within : place < len
@@ -90,21 +90,21 @@ pub record FirstTrouble (byte : ℕ → Result ℕ Trouble) (at len : ℕ) (trou
   pub before : (k : ℕ) → k < place → (b : ℕ) × (byte (at + k) ≡ Ok b)
 
 -- the bytes are the whole file
-pub record IsContent (map : BlockMap) (e : Entry) (bytes : List ℕ) : Type 0 where
+pub record IsFileContent (map : BlockMap) (e : Entry) (bytes : List ℕ) : Type 0 where
   pub all : length bytes ≡ size_of e
   pub each : AreGiven (byte_of map e) 0 bytes
 
 -- ---- the blocks on the way to bytes
 
 -- what a score leads to, if one is there
-abbrev pub led : Result (Option (List ℕ)) Trouble → (List ℕ → List Operation) → List Operation
+abbrev pub led : Result (Option (List ℕ)) ContentError → (List ℕ → List Operation) → List Operation
 led (Err trouble) below = []
 led (Ok None) below = []
 led (Ok (Some score)) below = below score
 
 -- The blocks on the way to the leaves from `first` up to `end`, below the scores at the places of a
 -- pointer block that has so many leaves below each; `way` gives those below a score.
-abbrev pub way_through : (leaves : ℕ) → (score_at : ℕ → Result (Option (List ℕ)) Trouble)
+abbrev pub way_through : (leaves : ℕ) → (score_at : ℕ → Result (Option (List ℕ)) ContentError)
     → (way : List ℕ → (first end : ℕ) → List Operation) → (first end : ℕ) → List Operation
 way_through leaves score_at way first end = flat_map
     (λ place. led (score_at place)

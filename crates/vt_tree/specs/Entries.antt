@@ -8,19 +8,19 @@ use Rattle.byteorder.specs.Endian.{big_bytes, big_number}
 use Rattle.vt_tree.specs.declared.entry.Entry.{Entry}
 use Rattle.vt_tree.specs.declared.entry.EntryField.{EntryField}
 use Rattle.vt_tree.specs.declared.entry.EntryField.TheVariants.{PSize, DSize, Flags}
-use Rattle.vt_tree.specs.declared.entry.BadEntry.{BadEntry}
+use Rattle.vt_tree.specs.declared.entry.EntryError.{EntryError}
 
 -- what the fields of an entry have room for, beyond their types
 pub record FitsEntry (e : Entry) : Type 0 where
   pub depth : e.depth < 8
   pub size : e.size < 2 ^ 48
 
-abbrev pub bad : EntryField → ℕ → BadEntry
+abbrev pub bad : EntryField → ℕ → EntryError
 bad field found = record { field = field; found = found }
 
 -- The first field that can't stand in an active entry: a pointer block has room for a score, a leaf
 -- for a byte, and a leaf of a directory for an entry.
-abbrev pub entry_fault : Entry → Option BadEntry
+abbrev pub entry_fault : Entry → Option EntryError
 entry_fault e =
     if not e.active then None
     else if nat_lt e.psize 20 then Some (bad PSize e.psize)
@@ -35,7 +35,7 @@ pub record HasRanges (e : Entry) : Type 0 where
   pub score : length e.score.0 ≡ 20
 
 -- an entry that may stand in a directory
-pub record IsEntry (e : Entry) : Type 0 where
+pub record IsTreeEntry (e : Entry) : Type 0 where
   pub fits : FitsEntry e
   pub ranges : HasRanges e
   pub allowed : entry_fault e ≡ None
@@ -54,8 +54,8 @@ spelled_with e flags between =
     ++ (flags ∷ (between ++ (big_bytes 6 e.size ++ e.score.0)))))
 
 -- an entry's bytes as they are written
-abbrev pub spelled : Entry → List ℕ
-spelled e = spelled_with e (flags_of e) (0 ∷ 0 ∷ 0 ∷ 0 ∷ 0 ∷ [])
+abbrev pub tree_entry_bytes : Entry → List ℕ
+tree_entry_bytes e = spelled_with e (flags_of e) (0 ∷ 0 ∷ 0 ∷ 0 ∷ 0 ∷ [])
 
 -- the bytes spell the entry
 pub record SpellsEntry (e : Entry) (bytes : List ℕ) : Type 0 where
@@ -82,9 +82,9 @@ entry_in bytes = record {
 }
 
 -- The first field of 40 bytes that can't stand there. The flag 0x40 is looked at last.
-abbrev pub fault_behind : Option BadEntry → ℕ → Option BadEntry
+abbrev pub fault_behind : Option EntryError → ℕ → Option EntryError
 fault_behind (Some fault) flags = Some fault
 fault_behind None flags = if flags / 64 % 2 == 1 then Some (bad Flags flags) else None
 
-abbrev pub fault_in : List ℕ → Option BadEntry
-fault_in bytes = fault_behind (entry_fault (entry_in bytes)) (flags_in bytes)
+abbrev pub entry_fault_in : List ℕ → Option EntryError
+entry_fault_in bytes = fault_behind (entry_fault (entry_in bytes)) (flags_in bytes)

@@ -3,15 +3,15 @@ use Rattle.std.specs.Prelude.{ℕ, ◌≡◌, ◌+◌, ◌*◌, ◌<◌, ◌≤�
 use Rattle.std.specs.List.{flat_map}
 use Rattle.vt_base.specs.declared.score.Score.{Score}
 use Rattle.vt_model.specs.History.{Block}
-use Rattle.vt_tree.specs.declared.err.TreeErr.{TreeErr}
-use Rattle.vt_tree.specs.declared.err.TreeErr.TheVariants.{Block as BlockRefused, SourceFault, BadEntry, BadBlock, TooLong, NoMemory}
+use Rattle.vt_tree.specs.declared.error.TreeErr.{TreeErr}
+use Rattle.vt_tree.specs.declared.error.TreeErr.TheVariants.{Block as BlockRefused, SourceFault, BadEntry, BadBlock, TooLong, NoMemory}
 use Rattle.vt_tree.specs.declared.writing.Ahead.{Ahead}
 use Rattle.vt_tree.specs.declared.writing.Cut.{Cut}
-use Rattle.vt_tree.specs.Calls.{Call, asked_of, write_of, refusals_of}
+use Rattle.vt_tree.specs.Calls.{Call, asked_of, write_of_block, refusals_of}
 use Rattle.vt_tree.specs.Content.{scores_in}
 use Rattle.vt_tree.specs.Making.{Makes, EndsBy}
 use Rattle.vt_tree.specs.Reading.{refusal_in, refused_by, AsksFor}
-use Rattle.vt_tree.specs.Streams.{Shape, FitsShape, tree_of, depth_of, stream_of, pieces}
+use Rattle.vt_tree.specs.Streams.{Shape, FitsShape, tree_of, depth_of, stream_of, pieces_of_len}
 use Rattle.vt_tree.specs.Writing.{IsGivenUpFor}
 
 -- what was taken ahead of a stream: the next leaf, whether the source has ended, and how many bytes
@@ -22,7 +22,7 @@ pub record Next : Type 0 where
   pub size : ℕ
 
 -- A leaf that is shorter than dsize is the last one, and behind the end none comes.
-pub record IsNext (dsize : ℕ) (next : Next) : Type 0 where
+pub record IsNextLeaf (dsize : ℕ) (next : Next) : Type 0 where
   pub most : length next.leaf ≤ dsize
   pub last : next.ended ≡ false → length next.leaf ≡ dsize
   pub size : next.size ≤ 2 ^ 40
@@ -35,23 +35,23 @@ shape_of cut = record { psize = cut.psize; dsize = cut.dsize; is_dir = cut.is_di
 
 -- What a writing goes by: the zero score, sizes that fit, a buffer for a leaf, and what was taken
 -- ahead; a source that has ended has nothing left.
-pub record IsReady (score_of : List ℕ → List ℕ) (cut : Cut) (ahead : Ahead) (tells : Bool)
+pub record IsReadyToWrite (score_of : List ℕ → List ℕ) (cut : Cut) (ahead : Ahead) (tells : Bool)
     (left : List ℕ) : Type 0 where
   pub zero : cut.zero.0 ≡ score_of []
   pub fits : FitsShape (shape_of cut)
   pub room : length ahead.leaf.items ≡ cut.dsize
   pub filled : ahead.filled ≤ length ahead.leaf.items
-  pub next : IsNext cut.dsize (next_of ahead)
+  pub next : IsNextLeaf cut.dsize (next_of ahead)
   pub end : ahead.ended ≡ true → IsTrue tells → left ≡ []
 
 -- the next leaf was taken, which is what was taken of the source
-pub record Advances (dsize : ℕ) (old new : Next) (taken : List ℕ → Type 0) : Type 0 where
+pub record TakesNextLeaf (dsize : ℕ) (old new : Next) (taken : List ℕ → Type 0) : Type 0 where
   pub bytes : List ℕ
   pub is_taken : taken bytes
   pub leaf : new.leaf ≡ bytes
   pub behind_end : old.ended ≡ true → bytes ≡ []
   pub size : new.size ≡ old.size + length bytes
-  pub next : IsNext dsize new
+  pub next : IsNextLeaf dsize new
 
 -- or the source, from which these come, failed, or has too many bytes; behind its end it isn't asked
 pub record StopsAhead (old : Next) (coming : List ℕ → Type 0) (err : TreeErr) : Type 0 where
@@ -66,11 +66,11 @@ pub record StopsAhead (old : Next) (coming : List ℕ → Type 0) (err : TreeErr
 pub record TakesLeaves (dsize : ℕ) (old new : Next) (bytes : List ℕ) (leaves : List (List ℕ))
     : Type 0 where
   pub parts : old.leaf ++ bytes ≡ flat_map (λ (leaf : List ℕ). leaf) leaves ++ new.leaf
-  pub cut : leaves ≡ pieces dsize (flat_map (λ (leaf : List ℕ). leaf) leaves)
+  pub cut : leaves ≡ pieces_of_len dsize (flat_map (λ (leaf : List ℕ). leaf) leaves)
   pub whole : 0 < length new.leaf
       → length (flat_map (λ (leaf : List ℕ). leaf) leaves) ≡ dsize * length leaves
   pub size : new.size ≡ old.size + length bytes
-  pub next : IsNext dsize new
+  pub next : IsNextLeaf dsize new
 
 -- A tree of this depth was written of the next leaves, as many as it reaches or as came; its first
 -- leaves, which had a tree of their own, were there before.
@@ -89,8 +89,8 @@ pub record GrowsTree {S : Type 0} (does : S → Call → S → Type 0) (score_of
   pub made : Makes does s calls s'
   pub accepted : refusals_of calls ≡ []
   pub score_is : score.0 ≡ (tree_of score_of shape depth (first ++ leaves)).score
-  pub puts : map write_of written ++ map asked_of calls
-      ≡ map write_of (tree_of score_of shape depth (first ++ leaves)).blocks
+  pub puts : map write_of_block written ++ map asked_of calls
+      ≡ map write_of_block (tree_of score_of shape depth (first ++ leaves)).blocks
 
 -- The tree of all leaves was written: the first of them was taken before.
 pub record WritesTree {S : Type 0} (does : S → Call → S → Type 0) (score_of : List ℕ → List ℕ)
@@ -106,7 +106,7 @@ pub record WritesTree {S : Type 0} (does : S → Call → S → Type 0) (score_o
   pub accepted : refusals_of calls ≡ []
   pub score_is : score.0 ≡ (stream_of score_of shape (old.leaf ++ bytes)).score
   pub puts : map asked_of calls
-      ≡ map write_of (stream_of score_of shape (old.leaf ++ bytes)).blocks
+      ≡ map write_of_block (stream_of score_of shape (old.leaf ++ bytes)).blocks
 
 -- It was given up: of the tree of the leaf that was taken and of all that comes, the first blocks
 -- were put.
@@ -120,8 +120,8 @@ pub record StopsStream {S : Type 0} (does : S → Call → S → Type 0) (score_
   pub made : Makes does s calls s'
   pub refused : EndsBy (refusal_in err) calls
   pub rest : List Block
-  pub puts : map asked_of calls ++ map write_of rest
-      ≡ map write_of (stream_of score_of shape (old.leaf ++ bytes)).blocks
+  pub puts : map asked_of calls ++ map write_of_block rest
+      ≡ map write_of_block (stream_of score_of shape (old.leaf ++ bytes)).blocks
 
 -- It was given up: of the tree of these, as far as it reaches, the first blocks were put.
 pub record StopsTree {S : Type 0} (does : S → Call → S → Type 0) (score_of : List ℕ → List ℕ)
@@ -135,9 +135,9 @@ pub record StopsTree {S : Type 0} (does : S → Call → S → Type 0) (score_of
   pub made : Makes does s calls s'
   pub refused : EndsBy (refusal_in err) calls
   pub rest : List Block
-  pub puts : map write_of written ++ map asked_of calls ++ map write_of rest
-      ≡ map write_of (tree_of score_of shape depth (take (scores_in shape.psize ^ depth)
-      (first ++ pieces shape.dsize (old.leaf ++ bytes)))).blocks
+  pub puts : map write_of_block written ++ map asked_of calls ++ map write_of_block rest
+      ≡ map write_of_block (tree_of score_of shape depth (take (scores_in shape.psize ^ depth)
+      (first ++ pieces_of_len shape.dsize (old.leaf ++ bytes)))).blocks
 
 -- a tree of this depth that was written before, with its leaves
 pub record HasFirst (score_of : List ℕ → List ℕ) (shape : Shape) (depth : ℕ) (next : Next)
@@ -148,13 +148,13 @@ pub record HasFirst (score_of : List ℕ → List ℕ) (shape : Shape) (depth : 
   pub score_is : score.0 ≡ (tree_of score_of shape depth leaves).score
 
 -- it is the answer to a call, or want of memory
-abbrev pub IsOfBlock : TreeErr → Type 0
-IsOfBlock (BlockRefused err) = ⊤
-IsOfBlock SourceFault = ⊥
-IsOfBlock (BadEntry bad) = ⊥
-IsOfBlock (BadBlock depth len) = ⊥
-IsOfBlock TooLong = ⊥
-IsOfBlock NoMemory = ⊤
+abbrev pub IsOfCall : TreeErr → Type 0
+IsOfCall (BlockRefused err) = ⊤
+IsOfCall SourceFault = ⊥
+IsOfCall (BadEntry bad) = ⊥
+IsOfCall (BadBlock depth len) = ⊥
+IsOfCall TooLong = ⊥
+IsOfCall NoMemory = ⊤
 
 -- a block was put, unless it has no bytes
 pub record PutsBlock {S : Type 0} (does : S → Call → S → Type 0) (score_of : List ℕ → List ℕ)
@@ -163,6 +163,6 @@ pub record PutsBlock {S : Type 0} (does : S → Call → S → Type 0) (score_of
   pub made : Makes does s calls s'
   pub refused : EndsBy (refused_by result) calls
   pub asked : AsksFor result (map asked_of calls)
-      (map write_of (if length b.bytes == 0 then [] else b ∷ []))
+      (map write_of_block (if length b.bytes == 0 then [] else b ∷ []))
   pub scored : IfOk result (λ score. score.0 ≡ score_of b.bytes)
-  pub plain : IfErr result IsOfBlock
+  pub plain : IfErr result IsOfCall

@@ -1,7 +1,7 @@
 -- Calls of a store of blocks, one after another.
 use Rattle.std.specs.Prelude.{ℕ, ◌≡◌, ⊤, Option, Some, None, List, [], ◌∷◌, ◌++◌}
-use Rattle.vt_tree.specs.declared.err.BlockErr.{BlockErr}
-use Rattle.vt_tree.specs.Calls.{Call, refusal_of, refusals_of, Tells, after}
+use Rattle.vt_tree.specs.declared.error.BlockErr.{BlockErr}
+use Rattle.vt_tree.specs.Calls.{Call, refusal_of, refusals_of, TellsOfMap, after}
 use Rattle.vt_tree.specs.Maps.{Maps}
 
 -- it was called for these, in this order, answered so, and wasn't called for anything else
@@ -31,4 +31,4 @@ after_all score_of (call ∷ calls) m = after_all score_of calls (after score_of
 abbrev pub TellsEach : (score_of : List ℕ → List ℕ) → Maps → List Call → Type 0
 TellsEach score_of m [] = ⊤
 TellsEach score_of m (call ∷ calls) =
-    Tells score_of m.held call × TellsEach score_of (after score_of call m) calls
+    TellsOfMap score_of m.held call × TellsEach score_of (after score_of call m) calls

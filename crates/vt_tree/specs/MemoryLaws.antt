@@ -3,15 +3,15 @@ use Rattle.std.proofs.Common.{◌≡◌, ℕ, ◌≤◌, cond, Option, Some, Non
 use Rattle.std.specs.Prelude.{is_some, Contains, ◌<◌}
 use Rattle.std.proofs.lemmas.List.{take_all, take-append-le}
 use Rattle.vt_model.specs.History.{Block}
-use Rattle.vt_tree.specs.Calls.{Call, get, put, sync, Tells, after}
+use Rattle.vt_tree.specs.Calls.{Call, get, put, sync, TellsOfMap, after}
 use Rattle.vt_tree.specs.Maps.{BlockMap, Maps, no_blocks, with_block, HasNoOther, IsWithin, IsWriteOnce}
 use Rattle.vt_tree.specs.MapLaws.{Same, block_same, blocks_join, blocks_keep, block_again, once_with}
-use Rattle.vt_tree.specs.Memory.{Memory, map_of, held_in, HoldsInMemory, DoesInMemory, blocks_after, synced_after}
+use Rattle.vt_tree.specs.Memory.{BlocksMemory, map_of, held_in, HoldsInMemory, DoesInMemory, blocks_after, synced_after}
 
 module _ (score_of : List ℕ → List ℕ) where
   -- an answer that is true of a map is true of an equal one
-  tells_same : (a b : BlockMap) (call : Call) → Same a b → Tells score_of b call
-      → Tells score_of a call
+  tells_same : (a b : BlockMap) (call : Call) → Same a b → TellsOfMap score_of b call
+      → TellsOfMap score_of a call
   tells_same a b (get kind s (Ok bytes)) same tells = same s kind ∙ tells
   tells_same a b (get kind s (Err err)) same tells = λ refused. same s kind ∙ tells refused
   tells_same a b (put x (Ok score)) same tells =
@@ -20,7 +20,7 @@ module _ (score_of : List ℕ → List ℕ) where
   tells_same a b (sync answer) same tells = tt
 
   -- where the blocks, and how many are synced, stay, the maps do
-  stays : (m m' : Memory) (maps : Maps) → HoldsInMemory score_of m maps
+  stays : (m m' : BlocksMemory) (maps : Maps) → HoldsInMemory score_of m maps
       → m'.blocks ≡ m.blocks → m'.synced ≡ m.synced → m'.refusing ≡ []
       → HoldsInMemory score_of m' maps
   stays m m' maps holds blocks synced honest = record {
@@ -36,7 +36,7 @@ module _ (score_of : List ℕ → List ℕ) where
   }
 
   -- a block that wasn't there stands at the end
-  takes_new : (m m' : Memory) (b : Block) (maps : Maps) → HoldsInMemory score_of m maps
+  takes_new : (m m' : BlocksMemory) (b : Block) (maps : Maps) → HoldsInMemory score_of m maps
       → HasNoOther score_of (held_in score_of m) b
       → m'.blocks ≡ m.blocks ++ b ∷ [] → m'.synced ≡ m.synced → m'.refusing ≡ []
       → HoldsInMemory score_of m' (record maps { held = with_block score_of b maps.held })
@@ -67,7 +67,7 @@ module _ (score_of : List ℕ → List ℕ) where
       }
 
   -- one that was there changes nothing
-  takes_again : (m m' : Memory) (b : Block) (maps : Maps) (bytes : List ℕ)
+  takes_again : (m m' : BlocksMemory) (b : Block) (maps : Maps) (bytes : List ℕ)
       → HoldsInMemory score_of m maps
       → held_in score_of m (score_of b.bytes) b.kind ≡ Some bytes
       → m'.blocks ≡ m.blocks → m'.synced ≡ m.synced → m'.refusing ≡ []
@@ -85,7 +85,7 @@ module _ (score_of : List ℕ → List ℕ) where
       }
 
   -- either way
-  is_taken : (m m' : Memory) (b : Block) (maps : Maps) → HoldsInMemory score_of m maps
+  is_taken : (m m' : BlocksMemory) (b : Block) (maps : Maps) → HoldsInMemory score_of m maps
       → HasNoOther score_of (held_in score_of m) b
       → m'.blocks
       ≡ cond (is_some (held_in score_of m (score_of b.bytes) b.kind)) m.blocks (m.blocks ++ b ∷ [])
@@ -102,7 +102,7 @@ module _ (score_of : List ℕ → List ℕ) where
       synced honest
 
   -- all is synced
-  syncs : (m m' : Memory) (maps : Maps) → HoldsInMemory score_of m maps
+  syncs : (m m' : BlocksMemory) (maps : Maps) → HoldsInMemory score_of m maps
       → m'.blocks ≡ m.blocks → m'.synced ≡ length m.blocks → m'.refusing ≡ []
       → HoldsInMemory score_of m' (record maps { synced = maps.held })
   syncs m m' maps holds blocks synced honest = record {
@@ -119,13 +119,13 @@ module _ (score_of : List ℕ → List ℕ) where
   }
 
   -- no call is refused on demand by one that tells
-  none_listed : (m : Memory) → m.refusing ≡ [] → ¬ Contains m.refusing m.calls
+  none_listed : (m : BlocksMemory) → m.refusing ≡ [] → ¬ Contains m.refusing m.calls
   none_listed m honest listed =
       let among : listed.0 < length m.refusing = listed.1 in omega (arith, ap length honest)
 
-  pub tells : (m m' : Memory) (call : Call) (maps : Maps) → DoesInMemory score_of m call m'
+  pub tells : (m m' : BlocksMemory) (call : Call) (maps : Maps) → DoesInMemory score_of m call m'
       → HoldsInMemory score_of m maps
-      → Tells score_of maps.held call × HoldsInMemory score_of m' (after score_of call maps)
+      → TellsOfMap score_of maps.held call × HoldsInMemory score_of m' (after score_of call maps)
   tells m m' call maps does holds =
       let true_of = does.answers.tells (none_listed m holds.honest) in (
         tells_same maps.held (held_in score_of m) call holds.held true_of,
@@ -135,7 +135,7 @@ module _ (score_of : List ℕ → List ℕ) where
       honest : m'.refusing ≡ []
       honest = does.leaves.refusing ∙ holds.honest
 
-      leaves : (c : Call) → Tells score_of (held_in score_of m) c
+      leaves : (c : Call) → TellsOfMap score_of (held_in score_of m) c
           → m'.blocks ≡ blocks_after score_of m c → m'.synced ≡ synced_after m c
           → HoldsInMemory score_of m' (after score_of c maps)
       leaves (get kind s answer) true_of blocks synced = stays m m' maps holds blocks synced honest
@@ -156,14 +156,14 @@ module _ (score_of : List ℕ → List ℕ) where
       ∙ ap (λ (f : BlockMap). f s kind) whole
       ∙ blocks_keep score_of (drop n blocks) (map_of score_of (take n blocks)) s kind bytes has
 
-  pub synced_is_held : (m : Memory) (maps : Maps) → HoldsInMemory score_of m maps
+  pub synced_is_held : (m : BlocksMemory) (maps : Maps) → HoldsInMemory score_of m maps
       → IsWithin maps.synced maps.held
   synced_is_held m maps holds s kind bytes has =
       holds.held s kind
       ∙ front_within m.synced m.blocks s kind bytes (sym (holds.synced s kind) ∙ has)
 
   -- an equal map is as much a write-once one
-  pub write_once : (m : Memory) (maps : Maps) → HoldsInMemory score_of m maps
+  pub write_once : (m : BlocksMemory) (maps : Maps) → HoldsInMemory score_of m maps
       → IsWriteOnce score_of maps.held
   write_once m maps holds = record {
     scores = λ s kind bytes has.

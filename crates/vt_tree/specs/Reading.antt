@@ -3,13 +3,13 @@ use Rattle.std.specs.Prelude.{ℕ, ◌≡◌, ◌^◌, ⊤, false, nat_lt, if◌
 use Rattle.std.specs.List.{AllByRecursion}
 use Rattle.vt_base.specs.Protocol.{Operation}
 use Rattle.vt_tree.specs.declared.entry.Entry.{Entry}
-use Rattle.vt_tree.specs.declared.entry.BadEntry.{BadEntry}
-use Rattle.vt_tree.specs.declared.err.BlockErr.{BlockErr}
-use Rattle.vt_tree.specs.declared.err.TreeErr.{TreeErr}
-use Rattle.vt_tree.specs.declared.err.TreeErr.TheVariants as errs
-use Rattle.vt_tree.specs.declared.plain.Trouble.{Trouble}
-use Rattle.vt_tree.specs.declared.plain.Trouble.TheVariants.{Absent, BadBlock}
-use Rattle.vt_tree.specs.Calls.{Call, get, asked_of, IsGet, IsRefusal, Tells}
+use Rattle.vt_tree.specs.declared.entry.EntryError.{EntryError}
+use Rattle.vt_tree.specs.declared.error.BlockErr.{BlockErr}
+use Rattle.vt_tree.specs.declared.error.TreeErr.{TreeErr}
+use Rattle.vt_tree.specs.declared.error.TreeErr.TheVariants as errs
+use Rattle.vt_tree.specs.declared.plain.ContentError.{ContentError}
+use Rattle.vt_tree.specs.declared.plain.ContentError.TheVariants.{Absent, BadBlock}
+use Rattle.vt_tree.specs.Calls.{Call, get, asked_of, IsGet, IsBlockRefusal, TellsOfMap}
 use Rattle.vt_tree.specs.Content.{size_of, fits_at, byte_of}
 use Rattle.vt_tree.specs.Content.{AreGiven, FirstTrouble, way_to}
 use Rattle.vt_tree.specs.Entries.{entry_fault}
@@ -18,7 +18,7 @@ use Rattle.vt_tree.specs.Maps.{BlockMap, IsWriteOnce}
 
 -- Why nothing of an entry's file is read, whatever its blocks are: a field that can't stand there,
 -- or more than 2^40 bytes.
-abbrev pub unfit_by : Option BadEntry → (size : ℕ) → Option TreeErr
+abbrev pub unfit_by : Option EntryError → (size : ℕ) → Option TreeErr
 unfit_by (Some bad) size = Some (errs.BadEntry bad)
 unfit_by None size = if nat_lt (2 ^ 40) size then Some errs.TooLong else None
 
@@ -36,15 +36,16 @@ IsOfEntry errs.NoMemory = ⊥
 
 -- What a reading gives of the bytes from a place on: these, or the first trouble that one of them
 -- has.
-abbrev pub Gives : (ℕ → Result ℕ Trouble) → (at len : ℕ) → Result (List ℕ) TreeErr → Type 0
-Gives byte at len (Ok bytes) = (length bytes ≡ len) × AreGiven byte at bytes
-Gives byte at len (Err (errs.Block err)) = IsRefusal err → FirstTrouble byte at len Absent
-Gives byte at len (Err errs.SourceFault) = ⊤
-Gives byte at len (Err (errs.BadEntry bad)) = ⊤
-Gives byte at len (Err (errs.BadBlock depth size)) =
+abbrev pub GivesBytes : (ℕ → Result ℕ ContentError) → (at len : ℕ) → Result (List ℕ) TreeErr
+    → Type 0
+GivesBytes byte at len (Ok bytes) = (length bytes ≡ len) × AreGiven byte at bytes
+GivesBytes byte at len (Err (errs.Block err)) = IsBlockRefusal err → FirstTrouble byte at len Absent
+GivesBytes byte at len (Err errs.SourceFault) = ⊤
+GivesBytes byte at len (Err (errs.BadEntry bad)) = ⊤
+GivesBytes byte at len (Err (errs.BadBlock depth size)) =
     FirstTrouble byte at len (BadBlock depth size)
-Gives byte at len (Err errs.TooLong) = ⊤
-Gives byte at len (Err errs.NoMemory) = ⊤
+GivesBytes byte at len (Err errs.TooLong) = ⊤
+GivesBytes byte at len (Err errs.NoMemory) = ⊤
 
 -- the refusal of a call that is handed on, if one is
 abbrev pub refusal_in : TreeErr → Option BlockErr
@@ -100,8 +101,8 @@ pub record ReadsRange {S : Type 0} (does : S → Call → S → Type 0)
   pub refused : EndsBy (refused_by result) calls
   pub bad : EndsBadly e result calls
   pub asked : (blocks : BlockMap) → IsWriteOnce score_of blocks
-      → AllByRecursion (Tells score_of blocks) calls
+      → AllByRecursion (TellsOfMap score_of blocks) calls
       → AsksFor result (map asked_of calls) (way_to (score_of []) blocks e at len)
   pub gives : (blocks : BlockMap) → IsWriteOnce score_of blocks
-      → AllByRecursion (Tells score_of blocks) calls
-      → Gives (byte_of blocks e) at len result
+      → AllByRecursion (TellsOfMap score_of blocks) calls
+      → GivesBytes (byte_of blocks e) at len result

@@ -4,8 +4,8 @@
 use Rattle.std.specs.Prelude.{ℕ, ◌≡◌, ◌<◌, ◌^◌, ◌==◌, not, if◌then◌else◌, Option, Some, None, List, ◌++◌, length}
 use Rattle.byteorder.specs.Endian.{big_bytes, big_number}
 use Rattle.vt_tree.specs.declared.root.Root.{Root}
-use Rattle.vt_tree.specs.declared.root.RootField.{RootField}
-use Rattle.vt_tree.specs.declared.root.RootField.TheVariants.{Length, Version}
+use Rattle.vt_tree.specs.declared.root.RootError.{RootError}
+use Rattle.vt_tree.specs.declared.root.RootError.TheVariants.{Length, Version}
 
 -- what the fields of a root have room for
 pub record IsRoot (r : Root) : Type 0 where
@@ -16,13 +16,13 @@ pub record IsRoot (r : Root) : Type 0 where
   pub prev : length r.prev.0 ≡ 20
 
 -- a root's bytes
-abbrev pub spelled : Root → List ℕ
-spelled r =
+abbrev pub root_bytes : Root → List ℕ
+root_bytes r =
     big_bytes 2 2
     ++ (r.name ++ (r.kind ++ (r.score.0 ++ (big_bytes 2 r.block_size ++ r.prev.0))))
 
 -- the first thing that makes bytes no root
-abbrev pub root_fault : List ℕ → Option RootField
+abbrev pub root_fault : List ℕ → Option RootError
 root_fault bytes =
     if not (length bytes == 300) then Some Length
     else if not (big_number 2 bytes == 2) then Some Version

@@ -32,13 +32,13 @@ abbrev pub depth_of : Shape → (size : ℕ) → ℕ
 depth_of shape size = prefix_len (λ d. nat_lt (reach shape d) size) (range_with_len 0 8)
 
 -- a list cut into pieces of this length, of which the last may be shorter
-abbrev pub pieces : {A : Type 0} → (len : ℕ) → List A → List (List A)
-pieces len xs =
+abbrev pub pieces_of_len : {A : Type 0} → (len : ℕ) → List A → List (List A)
+pieces_of_len len xs =
     map (λ i. take len (drop (len * i) xs)) (range_with_len 0 ((length xs + (len - 1)) / len))
 
 -- the bytes of the leaves
 abbrev pub leaves_of : Shape → List ℕ → List (List ℕ)
-leaves_of shape bytes = pieces shape.dsize bytes
+leaves_of shape bytes = pieces_of_len shape.dsize bytes
 
 -- a list without those at its end that pass the test
 abbrev pub without_end : {A : Type 0} → (A → Bool) → List A → List A
@@ -75,7 +75,7 @@ abbrev pub tree_of : (score_of : List ℕ → List ℕ) → Shape → (depth : �
 tree_of score_of shape zero leaves =
     topped score_of [] (leaf_block shape (slice_index_or leaves 0 []))
 tree_of score_of shape (suc d) leaves =
-    let trees = map (tree_of score_of shape d) (pieces (scores_in shape.psize ^ d) leaves) in
+    let trees = map (tree_of score_of shape d) (pieces_of_len (scores_in shape.psize ^ d) leaves) in
     topped score_of (flat_map (λ t. t.blocks) trees)
     (pointer_block score_of (suc d) (map (λ t. t.score) trees))
 
@@ -84,8 +84,8 @@ abbrev pub stream_of : (score_of : List ℕ → List ℕ) → Shape → List ℕ
 stream_of score_of shape bytes =
     tree_of score_of shape (depth_of shape (length bytes)) (leaves_of shape bytes)
 
-abbrev pub entry_of : (score_of : List ℕ → List ℕ) → Shape → List ℕ → Entry
-entry_of score_of shape bytes = record {
+abbrev pub entry_of_stream : (score_of : List ℕ → List ℕ) → Shape → List ℕ → Entry
+entry_of_stream score_of shape bytes = record {
   generation = 0;
   psize = shape.psize;
   dsize = shape.dsize;

@@ -3,15 +3,15 @@ use Rattle.std.specs.Prelude.{ℕ, ◌≡◌, ◌+◌, ◌-◌, ◌*◌, ◌/◌
 use Rattle.std.specs.List.{AllByRecursion}
 use Rattle.vt_base.specs.Protocol.{Operation}
 use Rattle.vt_tree.specs.declared.entry.Entry.{Entry}
-use Rattle.vt_tree.specs.declared.err.TreeErr.{TreeErr}
-use Rattle.vt_tree.specs.declared.err.TreeErr.TheVariants as errs
-use Rattle.vt_tree.specs.declared.plain.Trouble.{Trouble}
-use Rattle.vt_tree.specs.Calls.{Call, get, asked_of, IsGet, Tells}
+use Rattle.vt_tree.specs.declared.error.TreeErr.{TreeErr}
+use Rattle.vt_tree.specs.declared.error.TreeErr.TheVariants as errs
+use Rattle.vt_tree.specs.declared.plain.ContentError.{ContentError}
+use Rattle.vt_tree.specs.Calls.{Call, get, asked_of, IsGet, TellsOfMap}
 use Rattle.vt_tree.specs.Content.{scores_in, fits_at, score_in, through, byte_below, byte_of}
 use Rattle.vt_tree.specs.Content.{led, way_below, way_through, way_to}
 use Rattle.vt_tree.specs.Making.{Makes, EndsBy}
 use Rattle.vt_tree.specs.Maps.{BlockMap, IsWriteOnce}
-use Rattle.vt_tree.specs.Reading.{IsOfEntry, Gives, EndsBadly, refused_by, AsksFor}
+use Rattle.vt_tree.specs.Reading.{IsOfEntry, GivesBytes, EndsBadly, refused_by, AsksFor}
 
 -- a block that was asked for, and whether it fits
 abbrev pub ReadsBlock : {S : Type 0} → (does : S → Call → S → Type 0) → (s s' : S) → Entry
@@ -39,14 +39,14 @@ AppendsBytes bytes old new result =
     MatchResult result (λ _. new ≡ old ++ bytes) (λ err. err ≡ errs.NoMemory)
 
 -- bytes where a reading went well, and else its refusal
-abbrev pub with_bytes : Result (Unit {0}) TreeErr → List ℕ → Result (List ℕ) TreeErr
-with_bytes (Ok done) bytes = Ok bytes
-with_bytes (Err err) bytes = Err err
+abbrev pub answered_bytes : Result (Unit {0}) TreeErr → List ℕ → Result (List ℕ) TreeErr
+answered_bytes (Ok done) bytes = Ok bytes
+answered_bytes (Err err) bytes = Err err
 
 -- So many bytes from a place on were appended to a buffer: those that `byte` gives, and the blocks
 -- asked for are those on `way`. Both are taken from a write-once map of which the answers are true.
-pub record Appends {S : Type 0} (does : S → Call → S → Type 0) (score_of : List ℕ → List ℕ)
-    (e : Entry) (s s' : S) (byte : BlockMap → ℕ → Result ℕ Trouble)
+pub record AppendsRange {S : Type 0} (does : S → Call → S → Type 0) (score_of : List ℕ → List ℕ)
+    (e : Entry) (s s' : S) (byte : BlockMap → ℕ → Result ℕ ContentError)
     (way : BlockMap → List Operation)
     (from len : ℕ) (old new : List ℕ) (result : Result (Unit {0}) TreeErr) : Type 0 where
   pub calls : List Call
@@ -58,18 +58,18 @@ pub record Appends {S : Type 0} (does : S → Call → S → Type 0) (score_of :
   pub bytes : List ℕ
   pub appended : OnOk result ((new ≡ old ++ bytes) × (length bytes ≡ len))
   pub asked : (blocks : BlockMap) → IsWriteOnce score_of blocks
-      → AllByRecursion (Tells score_of blocks) calls
+      → AllByRecursion (TellsOfMap score_of blocks) calls
       → AsksFor result (map asked_of calls) (way blocks)
   pub gives : (blocks : BlockMap) → IsWriteOnce score_of blocks
-      → AllByRecursion (Tells score_of blocks) calls
-      → Gives (byte blocks) from len (with_bytes result bytes)
+      → AllByRecursion (TellsOfMap score_of blocks) calls
+      → GivesBytes (byte blocks) from len (answered_bytes result bytes)
 
 -- the same below a score
 abbrev pub ReadsBelow : {S : Type 0} → (does : S → Call → S → Type 0)
     → (score_of : List ℕ → List ℕ) → (s s' : S) → Entry → (depth : ℕ) → (score : List ℕ)
     → (from len : ℕ) → (old new : List ℕ) → Result (Unit {0}) TreeErr → Type 0
 ReadsBelow does score_of s s' e depth score from len old new result =
-    Appends does score_of e s s'
+    AppendsRange does score_of e s s'
     (λ blocks p. byte_below blocks e depth score (p / e.dsize) (p % e.dsize))
     (λ blocks. way_below (score_of []) blocks e depth score (from / e.dsize)
     ((from + len - 1) / e.dsize + 1))
@@ -77,7 +77,7 @@ ReadsBelow does score_of s s' e depth score from len old new result =
 
 -- and below the scores of a pointer block, each of which leads d blocks further down
 abbrev pub byte_under : BlockMap → Entry → (d : ℕ) → (pointers : List ℕ) → (p : ℕ)
-    → Result ℕ Trouble
+    → Result ℕ ContentError
 byte_under blocks e d pointers p =
     let leaves = scores_in e.psize ^ d in
     through (Ok (score_in pointers (p / e.dsize / leaves)))
@@ -87,7 +87,7 @@ abbrev pub ReadsEach : {S : Type 0} → (does : S → Call → S → Type 0)
     → (score_of : List ℕ → List ℕ) → (s s' : S) → Entry → (d : ℕ) → (pointers : List ℕ)
     → (from len : ℕ) → (old new : List ℕ) → Result (Unit {0}) TreeErr → Type 0
 ReadsEach does score_of s s' e d pointers from len old new result =
-    Appends does score_of e s s'
+    AppendsRange does score_of e s s'
     (λ blocks p. byte_under blocks e d pointers p)
     (λ blocks. way_through (scores_in e.psize ^ d) (λ place. Ok (score_in pointers place))
     (way_below (score_of []) blocks e d) (from / e.dsize) ((from + len - 1) / e.dsize + 1))
@@ -100,7 +100,7 @@ abbrev pub ReadsAt : {S : Type 0} → (does : S → Call → S → Type 0)
 ReadsAt does score_of s s' e d pointers from len old new result =
     let span = scores_in e.psize ^ d * e.dsize in
     let inside = from % span in
-    Appends does score_of e s s'
+    AppendsRange does score_of e s s'
     (λ blocks p. byte_under blocks e d pointers p)
     (λ blocks. led (Ok (score_in pointers (from / span)))
     (λ s. way_below (score_of []) blocks e d s (inside / e.dsize)
@@ -112,5 +112,5 @@ abbrev pub ReadsFile : {S : Type 0} → (does : S → Call → S → Type 0)
     → (score_of : List ℕ → List ℕ) → (s s' : S) → Entry
     → (from len : ℕ) → (old new : List ℕ) → Result (Unit {0}) TreeErr → Type 0
 ReadsFile does score_of s s' e from len old new result =
-    Appends does score_of e s s' (λ blocks p. byte_of blocks e p)
+    AppendsRange does score_of e s s' (λ blocks p. byte_of blocks e p)
     (λ blocks. way_to (score_of []) blocks e from len) from len old new result

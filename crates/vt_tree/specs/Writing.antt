@@ -3,14 +3,14 @@ use Rattle.std.specs.Prelude.{ℕ, ◌≡◌, ◌≤◌, ◌<◌, ◌^◌, ⊤, 
 use Rattle.vt_base.specs.Bytes.{AreBytes}
 use Rattle.vt_model.specs.History.{Block}
 use Rattle.vt_tree.specs.declared.entry.Entry.{Entry}
-use Rattle.vt_tree.specs.declared.err.TreeErr.{TreeErr}
-use Rattle.vt_tree.specs.declared.err.TreeErr.TheVariants.{Block as BlockRefused, SourceFault, BadEntry, BadBlock, TooLong, NoMemory}
-use Rattle.vt_tree.specs.Calls.{Call, asked_of, write_of, refusals_of}
-use Rattle.vt_tree.specs.Content.{IsContent}
+use Rattle.vt_tree.specs.declared.error.TreeErr.{TreeErr}
+use Rattle.vt_tree.specs.declared.error.TreeErr.TheVariants.{Block as BlockRefused, SourceFault, BadEntry, BadBlock, TooLong, NoMemory}
+use Rattle.vt_tree.specs.Calls.{Call, asked_of, write_of_block, refusals_of}
+use Rattle.vt_tree.specs.Content.{IsFileContent}
 use Rattle.vt_tree.specs.Making.{Makes, EndsBy, after_all}
 use Rattle.vt_tree.specs.Maps.{Maps, with_blocks}
 use Rattle.vt_tree.specs.Reading.{refusal_in}
-use Rattle.vt_tree.specs.Streams.{Shape, stream_of, entry_of}
+use Rattle.vt_tree.specs.Streams.{Shape, stream_of, entry_of_stream}
 
 -- bytes that were taken from the front of a source, which are those that it tells, if it does
 pub record IsTaken (tells : Bool) (old new taken : List ℕ) : Type 0 where
@@ -31,7 +31,7 @@ pub record IsTakenWhole (tells : Bool) (old new taken : List ℕ) : Type 0 where
 pub record KeepsStream {S : Type 0} (holds : S → Maps → Type 0) (score_of : List ℕ → List ℕ)
     (s' : S) (m : Maps) (blocks : List Block) (e : Entry) (bytes : List ℕ) : Type 0 where
   pub held : holds s' (record m { held = with_blocks score_of blocks m.held })
-  pub content : IsContent (with_blocks score_of blocks m.held) e bytes
+  pub content : IsFileContent (with_blocks score_of blocks m.held) e bytes
 
 -- A stream was written whole: the blocks of its tree were put, each once, each behind those that it
 -- names, and nothing else was asked for; and the entry stands for it.
@@ -41,11 +41,11 @@ pub record WritesStream {S : Type 0} (does : S → Call → S → Type 0) (holds
   pub bytes : List ℕ
   pub is_taken : taken bytes
   pub most : length bytes ≤ 2 ^ 40
-  pub entry_is : e ≡ entry_of score_of shape bytes
+  pub entry_is : e ≡ entry_of_stream score_of shape bytes
   pub calls : List Call
   pub made : Makes does s calls s'
   pub accepted : refusals_of calls ≡ []
-  pub puts : map asked_of calls ≡ map write_of (stream_of score_of shape bytes).blocks
+  pub puts : map asked_of calls ≡ map write_of_block (stream_of score_of shape bytes).blocks
   pub keeps : (m : Maps) → holds s m
       → KeepsStream holds score_of s' m (stream_of score_of shape bytes).blocks e bytes
 
@@ -78,6 +78,6 @@ pub record GivesUpStream {S : Type 0} (does : S → Call → S → Type 0) (hold
   pub made : Makes does s calls s'
   pub refused : EndsBy (refusal_in err) calls
   pub rest : List Block
-  pub puts : map asked_of calls ++ map write_of rest
-      ≡ map write_of (stream_of score_of shape bytes).blocks
+  pub puts : map asked_of calls ++ map write_of_block rest
+      ≡ map write_of_block (stream_of score_of shape bytes).blocks
   pub keeps : (m : Maps) → holds s m → holds s' (after_all score_of calls m)

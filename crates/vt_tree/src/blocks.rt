@@ -2,7 +2,7 @@
 
 ghost use Rattle.std.specs.Prelude.{◌≡◌, ◌≤◌, IfOk, length};
 ghost use Rattle.vt_base.specs.declared.TheConstants.{MAX_BLOCK};
-ghost use Rattle.vt_tree.specs.Calls.{Call, get, put, sync, Counts, refusal_of, counted, Tells};
+ghost use Rattle.vt_tree.specs.Calls.{Call, get, put, sync, Counts, refusal_of, with_refusal, TellsOfMap};
 ghost use Rattle.vt_tree.specs.Calls.{after};
 ghost use Rattle.vt_tree.specs.Maps.{Maps, IsWithin, IsWriteOnce};
 
@@ -47,7 +47,7 @@ pub trait Blocks: Scorer {
     /// Each answer is true of what was held, and what is held afterwards is that, with the block
     /// that was put. An answered sync covers it.
     ghost tells: { (s s' : Self) (call : Call) (m : Maps) → does s call s' → holds s m
-        → Tells Self.score_of m.held call × holds s' (after Self.score_of call m) };
+        → TellsOfMap Self.score_of m.held call × holds s' (after Self.score_of call m) };
 
     /// No more is synced than is held.
     ghost synced_is_held: { (s : Self) (m : Maps) → holds s m → IsWithin m.synced m.held };
@@ -56,5 +56,5 @@ pub trait Blocks: Scorer {
 
     /// Each failed call counts, and each refused one, and no other.
     ghost counting: { (s s' : Self) (call : Call) → does s call s'
-        → counts s' ≡ counted (refusal_of call) (counts s) };
+        → counts s' ≡ with_refusal (refusal_of call) (counts s) };
 }

@@ -2,11 +2,11 @@
 
 ghost use Rattle.std.specs.Prelude.{◌≡◌, Some, IfOk, IfErr, IsOkAnd};
 ghost use Rattle.vt_tree.specs.declared.entry.Entry.{Entry};
-ghost use Rattle.vt_tree.specs.Entries.{FitsEntry, IsEntry, SpellsEntry, spelled};
-ghost use Rattle.vt_tree.specs.Entries.{entry_in, entry_fault, fault_in, flags_of};
+ghost use Rattle.vt_tree.specs.Entries.{FitsEntry, IsTreeEntry, SpellsEntry, tree_entry_bytes};
+ghost use Rattle.vt_tree.specs.Entries.{entry_in, entry_fault, entry_fault_in, flags_of};
 
 use vt_base::Score;
-use vt_fields::{put, put_u8, put_u16, put_u32, put_u48, u16_at, u32_at, u48_at};
+use vt_base::fields::{put, put_u8, put_u16, put_u32, put_u48, u16_at, u32_at, u48_at};
 
 /// How many bytes an entry has.
 pub const ENTRY_LEN: usize = 40;
@@ -40,7 +40,7 @@ pub enum EntryField {
 
 /// What stands in a field of an entry, and can't stand there.
 #[derive(Clone, Copy, Debug, PartialEq, Eq)]
-pub struct BadEntry {
+pub struct EntryError {
     pub field: EntryField,
     pub found: u16,
 }
@@ -48,11 +48,11 @@ pub struct BadEntry {
 impl Entry {
     /// The entry that these bytes spell, or the first field that can't stand in an entry: psize,
     /// dsize, and then the flag 0x40.
-    pub fn decode(bytes: &[u8; 40]) -> Result<Self, BadEntry>
-        ensures ok { IfOk result (λ entry. IsEntry entry × SpellsEntry entry bytes.now) }
-        ensures only { (entry : Entry) → IsEntry entry → SpellsEntry entry bytes.now
+    pub fn decode(bytes: &[u8; 40]) -> Result<Self, EntryError>
+        ensures ok { IfOk result (λ entry. IsTreeEntry entry × SpellsEntry entry bytes.now) }
+        ensures only { (entry : Entry) → IsTreeEntry entry → SpellsEntry entry bytes.now
             → IsOkAnd result (λ e. e ≡ entry) }
-        ensures bad { IfErr result (λ bad. fault_in bytes.now ≡ Some bad) }
+        ensures bad { IfErr result (λ bad. entry_fault_in bytes.now ≡ Some bad) }
     {
         let flags = bytes[8];
         let entry = fields(bytes);
@@ -61,7 +61,7 @@ impl Entry {
         }
         // (the flag 0x40)
         if flags / 64 % 2 == 1 {
-            return Err(BadEntry {
+            return Err(EntryError {
                 field: EntryField::Flags,
                 found: u16::from(flags),
             });
@@ -72,7 +72,7 @@ impl Entry {
     /// The bytes of an entry.
     pub fn encode(&self) -> [u8; 40]
         requires { FitsEntry self.now }
-        ensures bytes { result ≡ spelled self.now }
+        ensures bytes { result ≡ tree_entry_bytes self.now }
         ensures spells { SpellsEntry self.now result }
     {
         let mut bytes = [0; 40];
@@ -87,21 +87,21 @@ impl Entry {
     }
 
     /// The first field that can't stand in an active entry.
-    pub fn fault(&self) -> Option<BadEntry>
+    pub fn fault(&self) -> Option<EntryError>
         ensures { result ≡ entry_fault self.now }
     {
         if !self.active {
             return None;
         }
         if self.psize < 20 {
-            return Some(BadEntry {
+            return Some(EntryError {
                 field: EntryField::PSize,
                 found: self.psize,
             });
         }
         let least = if self.is_dir { 40 } else { 1 };
         if self.dsize < least {
-            return Some(BadEntry {
+            return Some(EntryError {
                 field: EntryField::DSize,
                 found: self.dsize,
             });

@@ -7,27 +7,27 @@ ghost use Rattle.std.specs.List.{All, AllByRecursion};
 ghost use Rattle.vt_model.specs.History.{Block};
 ghost use Rattle.vt_tree.specs.declared.entry.Entry.{Entry};
 ghost use Rattle.vt_tree.specs.declared.root.Root.{Root};
-ghost use Rattle.vt_tree.specs.Calls.{Call, asked_of, write_of, refusals_of, IsGet, Tells};
-ghost use Rattle.vt_tree.specs.Content.{byte_of, leaf_kind, scores_in, IsContent, AreGiven};
-ghost use Rattle.vt_tree.specs.Entries.{IsEntry, SpellsEntry};
+ghost use Rattle.vt_tree.specs.Calls.{Call, asked_of, write_of_block, refusals_of, IsGet, TellsOfMap};
+ghost use Rattle.vt_tree.specs.Content.{byte_of, leaf_kind, scores_in, IsFileContent, AreGiven};
+ghost use Rattle.vt_tree.specs.Entries.{IsTreeEntry, SpellsEntry};
 ghost use Rattle.vt_tree.specs.Making.{Makes, TellsEach, after_all};
 ghost use Rattle.vt_tree.specs.Maps.{BlockMap, Maps, with_blocks, Has, IsWithin, IsWriteOnce};
-ghost use Rattle.vt_tree.specs.Memory.{Memory, DoesInMemory, HoldsInMemory};
-ghost use Rattle.vt_tree.specs.Roots.{IsRoot, spelled};
-ghost use Rattle.vt_tree.specs.Streams.{Shape, FitsShape, reach, depth_of, stream_of, entry_of};
+ghost use Rattle.vt_tree.specs.Memory.{BlocksMemory, DoesInMemory, HoldsInMemory};
+ghost use Rattle.vt_tree.specs.Roots.{IsRoot, root_bytes};
+ghost use Rattle.vt_tree.specs.Streams.{Shape, FitsShape, reach, depth_of, stream_of, entry_of_stream};
 
 use crate::{Blocks, MemBlocks};
 use vt_base::Scorer;
 
 /// No bytes spell two entries.
 pub fn one_entry()
-    ensures { (a b : Entry) (bytes : List ℕ) → IsEntry a → IsEntry b →
+    ensures { (a b : Entry) (bytes : List ℕ) → IsTreeEntry a → IsTreeEntry b →
         SpellsEntry a bytes → SpellsEntry b bytes → a ≡ b }
 {}
 
 /// No bytes spell two roots.
 pub fn one_root()
-    ensures { (a b : Root) → IsRoot a → IsRoot b → spelled a ≡ spelled b → a ≡ b }
+    ensures { (a b : Root) → IsRoot a → IsRoot b → root_bytes a ≡ root_bytes b → a ≡ b }
 {}
 
 /// What calls answer is true of what a store holds, and what it holds after them is that with what
@@ -51,28 +51,28 @@ pub fn gets_change_nothing()
         AllByRecursion IsGet calls → after_all score_of calls m ≡ m }
     ensures told { (score_of : List ℕ → List ℕ) (calls : List Call) (m : Maps) →
         AllByRecursion IsGet calls → TellsEach score_of m calls →
-        AllByRecursion (Tells score_of m.held) calls }
+        AllByRecursion (TellsOfMap score_of m.held) calls }
 {}
 
 /// Where calls are puts of these blocks, in this order, and each was answered, they are held,
 /// beside what was.
 pub fn puts_are_held()
     ensures map { (score_of : List ℕ → List ℕ) (calls : List Call) (blocks : List Block)
-        (m : Maps) → map asked_of calls ≡ map write_of blocks → refusals_of calls ≡ [] →
+        (m : Maps) → map asked_of calls ≡ map write_of_block blocks → refusals_of calls ≡ [] →
         after_all score_of calls m ≡ record m { held = with_blocks score_of blocks m.held } }
     ensures each { (score_of : List ℕ → List ℕ) (calls : List Call) (blocks : List Block)
-        (m : Maps) → map asked_of calls ≡ map write_of blocks → refusals_of calls ≡ [] →
+        (m : Maps) → map asked_of calls ≡ map write_of_block blocks → refusals_of calls ≡ [] →
         TellsEach score_of m calls →
         All (Has score_of (with_blocks score_of blocks m.held)) blocks }
 {}
 
 /// Blocks in memory, in the words of the trait.
 pub fn memory_as_blocks<S: Scorer>()
-    ensures does { (m m' : Memory) (call : Call) →
+    ensures does { (m m' : BlocksMemory) (call : Call) →
         ⟦<MemBlocks<S> as Blocks>⟧.does m call m' ↔ DoesInMemory S.score_of m call m' }
-    ensures holds { (m : Memory) (maps : Maps) →
+    ensures holds { (m : BlocksMemory) (maps : Maps) →
         ⟦<MemBlocks<S> as Blocks>⟧.holds m maps ↔ HoldsInMemory S.score_of m maps }
-    ensures counts { (m : Memory) → ⟦<MemBlocks<S> as Blocks>⟧.counts m ≡ m.counts }
+    ensures counts { (m : BlocksMemory) → ⟦<MemBlocks<S> as Blocks>⟧.counts m ≡ m.counts }
 {}
 
 /// A file in one leaf is that block, with the zeros that were cut from its end.
@@ -112,7 +112,7 @@ pub fn one_pointer_block()
 /// A map has one content of an entry at most.
 pub fn one_content()
     ensures { (map : BlockMap) (e : Entry) (a b : List ℕ) →
-        IsContent map e a → IsContent map e b → a ≡ b }
+        IsFileContent map e a → IsFileContent map e b → a ≡ b }
 {}
 
 /// What a map gives of a file stays when blocks are added.
@@ -135,5 +135,5 @@ pub fn streams_read_back()
         ((block : List ℕ) → length (score_of block) ≡ 20) → IsWriteOnce score_of map →
         FitsShape shape → length bytes ≤ 2 ^ 40 →
         All (Has score_of map) (stream_of score_of shape bytes).blocks →
-        IsContent map (entry_of score_of shape bytes) bytes }
+        IsFileContent map (entry_of_stream score_of shape bytes) bytes }
 {}

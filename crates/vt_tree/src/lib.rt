@@ -5,7 +5,7 @@
 
 mod blocks;
 mod entry;
-mod err;
+mod error;
 pub mod laws;
 mod mem_blocks;
 mod plain;
@@ -14,10 +14,10 @@ mod root;
 mod writing;
 
 pub use blocks::Blocks;
-pub use entry::{BadEntry, ENTRY_LEN, Entry, EntryField};
-pub use err::{BlockErr, TreeErr};
+pub use entry::{ENTRY_LEN, Entry, EntryError, EntryField};
+pub use error::{BlockErr, TreeErr};
 pub use mem_blocks::{MemBlocks, Stored};
-pub use plain::{Trouble, byte_at, content};
+pub use plain::{ContentError, byte_at, content};
 pub use reading::read_range;
-pub use root::{ROOT_LEN, Root, RootField};
+pub use root::{ROOT_LEN, Root, RootError};
 pub use writing::write_stream;

@@ -36,9 +36,9 @@ pub struct MemBlocks<S: Scorer> {
 impl<S: Scorer> Model for MemBlocks<S> {
     ghost use Rattle.std.specs.Prelude.{◌≡◌, map};
     ghost use Rattle.std.specs.List.{All};
-    ghost use Rattle.vt_tree.specs.Memory.{Memory, block_of, IsKept};
+    ghost use Rattle.vt_tree.specs.Memory.{BlocksMemory, block_of, IsKeptBlock};
 
-    ghost Value = { Memory };
+    ghost Value = { BlocksMemory };
 
     ghost view = { λ m. record {
       blocks = map block_of m.kept.items;
@@ -51,7 +51,7 @@ impl<S: Scorer> Model for MemBlocks<S> {
       puts = m.puts.items;
     } };
 
-    ghost invariant = { λ m. All (IsKept S.score_of) m.kept.items };
+    ghost invariant = { λ m. All (IsKeptBlock S.score_of) m.kept.items };
 }
 
 impl<S: Scorer> MemBlocks<S> {
@@ -201,8 +201,8 @@ impl<S: Scorer> MemBlocks<S> {
     ghost use Rattle.std.specs.Prelude.{OnOk, OnErr, MatchBool, ℕ};
     ghost use Rattle.vt_base.specs.Faults.{one_more};
     ghost use Rattle.vt_base.specs.declared.TheConstants.{MAX_BLOCK};
-    ghost use Rattle.vt_tree.specs.Calls.{counted, put};
-    ghost use Rattle.vt_tree.specs.declared.err.BlockErr.{BlockErr};
+    ghost use Rattle.vt_tree.specs.Calls.{with_refusal, put};
+    ghost use Rattle.vt_tree.specs.declared.error.BlockErr.{BlockErr};
     ghost use Rattle.vt_tree.specs.Memory.{held_in, MeetsFate, IsByText, GivesInMemory};
     ghost use Rattle.vt_tree.specs.Maps.{HasNoOther};
     ghost use Rattle.vt_tree.specs.Memory.{TakesInMemory, Collides, blocks_after};
@@ -227,7 +227,7 @@ impl<S: Scorer> MemBlocks<S> {
     fn fault(&mut self) -> BlockErr
         ensures err { result ≡ BlockErr.Fault }
         ensures left { self.new
-            ≡ record self.old { counts = counted (Some result) self.old.counts } }
+            ≡ record self.old { counts = with_refusal (Some result) self.old.counts } }
     {
         self.faults = self.faults.saturating_add(1);
         BlockErr::Fault
@@ -237,7 +237,7 @@ impl<S: Scorer> MemBlocks<S> {
     fn refusal(&mut self, alloc: Global, text: &str) -> BlockErr
         ensures err { IsByText text.now result }
         ensures left { self.new
-            ≡ record self.old { counts = counted (Some result) self.old.counts } }
+            ≡ record self.old { counts = with_refusal (Some result) self.old.counts } }
     {
         match Text::copy_of(alloc, text.as_bytes()) {
             Ok(text) => {

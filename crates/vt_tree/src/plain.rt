@@ -6,7 +6,7 @@ ghost use Rattle.std.specs.Prelude.{length};
 ghost use Rattle.std.specs.Option.{option_copied, option_map};
 ghost use Rattle.vt_tree.specs.Content.{size_of, scores_in, leaf_kind, pointer_kind, fits_at};
 ghost use Rattle.vt_tree.specs.Content.{byte_of_leaf, score_in, score_of_pointers, byte_below};
-ghost use Rattle.vt_tree.specs.Content.{byte_of, IsContent, FirstTrouble};
+ghost use Rattle.vt_tree.specs.Content.{byte_of, IsFileContent, FirstTrouble};
 ghost use Rattle.vt_tree.specs.Entries.{FitsEntry};
 ghost use Rattle.vt_tree.specs.Memory.{held_in};
 
@@ -21,7 +21,7 @@ const _: () = prove!(SCORE_LEN == 20);
 
 /// Why a byte of a file can't be told.
 #[derive(Clone, Copy, Debug, PartialEq, Eq)]
-pub enum Trouble {
+pub enum ContentError {
     /// A block on the way to it isn't held.
     Absent,
     /// A leaf (depth 0) or a pointer block on the way to it is longer than the entry says, or a
@@ -94,7 +94,11 @@ pub(crate) fn score_in(block: &[u8], place: u128) -> Option<Score>
 }
 
 /// Byte `place` of the file.
-pub fn byte_at<S: Scorer>(blocks: &MemBlocks<S>, entry: &Entry, place: u64) -> Result<u8, Trouble>
+pub fn byte_at<S: Scorer>(
+    blocks: &MemBlocks<S>,
+    entry: &Entry,
+    place: u64,
+) -> Result<u8, ContentError>
     requires fits { FitsEntry entry.now }
     requires size { 0 < entry.now.dsize }
     ensures { result ≡ byte_of (held_in S.score_of blocks.now) entry.now place }
@@ -116,7 +120,7 @@ fn byte_below<S: Scorer>(
     score: &Score,
     leaf: u128,
     byte: usize,
-) -> Result<u8, Trouble>
+) -> Result<u8, ContentError>
     requires depth { depth < 8 }
     requires reached { leaf < scores_in entry.now.psize ^ depth }
     ensures { result ≡ byte_below (held_in S.score_of blocks.now) entry.now depth score.now.0
@@ -134,12 +138,12 @@ fn byte_below<S: Scorer>(
 }
 
 /// A byte of a leaf.
-fn byte_of_leaf(entry: &Entry, byte: usize, block: Option<&[u8]>) -> Result<u8, Trouble>
+fn byte_of_leaf(entry: &Entry, byte: usize, block: Option<&[u8]>) -> Result<u8, ContentError>
     ensures { result ≡ byte_of_leaf entry.now byte (option_copied block.entry) }
 {
-    let block = block.ok_or(Trouble::Absent)?;
+    let block = block.ok_or(ContentError::Absent)?;
     if !fits(entry, 0, block) {
-        return Err(Trouble::BadBlock {
+        return Err(ContentError::BadBlock {
             depth: 0,
             len: block.len(),
         });
@@ -153,15 +157,15 @@ fn score_of_pointers(
     depth: u8,
     place: u128,
     block: Option<&[u8]>,
-) -> Result<Option<Score>, Trouble>
+) -> Result<Option<Score>, ContentError>
     requires { 0 < depth }
     ensures { let wanted = score_of_pointers entry.now depth place (option_copied block.entry) in
         MatchResult result (λ score. wanted ≡ Ok (option_map (λ s. s.0) score))
         (λ trouble. wanted ≡ Err trouble) }
 {
-    let block = block.ok_or(Trouble::Absent)?;
+    let block = block.ok_or(ContentError::Absent)?;
     if !fits(entry, depth, block) {
-        return Err(Trouble::BadBlock {
+        return Err(ContentError::BadBlock {
             depth,
             len: block.len(),
         });
@@ -174,11 +178,11 @@ pub fn content<S: Scorer>(
     alloc: Global,
     blocks: &MemBlocks<S>,
     entry: &Entry,
-) -> Result<Result<Bytes, Trouble>, AllocError>
+) -> Result<Result<Bytes, ContentError>, AllocError>
     requires fits { FitsEntry entry.now }
     requires size { 0 < entry.now.dsize }
     ensures ok { IfOk result (λ found. IfOk found
-        (IsContent (held_in S.score_of blocks.now) entry.now)) }
+        (IsFileContent (held_in S.score_of blocks.now) entry.now)) }
     ensures bad { IfOk result (λ found. IfErr found
         (FirstTrouble (byte_of (held_in S.score_of blocks.now) entry.now) 0
         (size_of entry.now))) }

@@ -2,11 +2,11 @@
 
 ghost use Rattle.std.specs.Prelude.{◌≡◌, ◌+◌, ◌-◌, ◌*◌, ◌%◌, ◌<◌, ◌≤◌, ◌^◌, Some, [], true};
 ghost use Rattle.std.specs.Prelude.{min, length, replicate, IfErr};
-ghost use Rattle.vt_tree.specs.declared.err.TreeErr.{TreeErr};
+ghost use Rattle.vt_tree.specs.declared.error.TreeErr.{TreeErr};
 ghost use Rattle.vt_tree.specs.Content.{size_of, scores_in, fits_at, byte_of};
 ghost use Rattle.vt_tree.specs.Entries.{FitsEntry};
 ghost use Rattle.vt_tree.specs.Maps.{Maps};
-ghost use Rattle.vt_tree.specs.Reading.{unfit, IsOfEntry, Gives, ReadsRange};
+ghost use Rattle.vt_tree.specs.Reading.{unfit, IsOfEntry, GivesBytes, ReadsRange};
 ghost use Rattle.vt_tree.specs.Walking.{ReadsBelow, ReadsEach};
 ghost use Rattle.vt_tree.specs.Walking.{ReadsAt, ReadsFile};
 ghost use Rattle.vt_tree.specs.Walking.{ReadsBlock, AppendsBytes, cut_out};
@@ -42,7 +42,7 @@ pub fn read_range<B: Blocks>(
 
     // The same of a store that tells what it holds.
     ensures content { (m : Maps) → B.holds blocks.old m → B.holds blocks.new m
-        × Gives (byte_of m.held entry.now) at (min n (size_of entry.now - at)) result }
+        × GivesBytes (byte_of m.held entry.now) at (min n (size_of entry.now - at)) result }
 {
     if let Some(bad) = entry.fault() {
         return Err(TreeErr::BadEntry(bad));

@@ -2,10 +2,10 @@
 
 ghost use Rattle.std.specs.Prelude.{◌≡◌, Some, IfOk, IfErr, IsOkAnd};
 ghost use Rattle.vt_tree.specs.declared.root.Root.{Root};
-ghost use Rattle.vt_tree.specs.Roots.{IsRoot, spelled, root_fault};
+ghost use Rattle.vt_tree.specs.Roots.{IsRoot, root_bytes, root_fault};
 
 use vt_base::Score;
-use vt_fields::{put, put_u16, u16_at};
+use vt_base::fields::{put, put_u16, u16_at};
 
 /// How many bytes a root has.
 pub const ROOT_LEN: usize = 300;
@@ -26,7 +26,7 @@ pub struct Root {
 
 /// What is tested of a root: how many bytes it has, and its version.
 #[derive(Clone, Copy, Debug, PartialEq, Eq)]
-pub enum RootField {
+pub enum RootError {
     Length,
     Version,
 }
@@ -34,17 +34,17 @@ pub enum RootField {
 impl Root {
     /// The root that these bytes spell, or what makes them none: that they aren't 300 bytes, or
     /// else a version other than 2.
-    pub fn decode(bytes: &[u8]) -> Result<Self, RootField>
-        ensures ok { IfOk result (λ root. IsRoot root × (bytes.now ≡ spelled root)) }
-        ensures only { (root : Root) → IsRoot root → bytes.now ≡ spelled root
+    pub fn decode(bytes: &[u8]) -> Result<Self, RootError>
+        ensures ok { IfOk result (λ root. IsRoot root × (bytes.now ≡ root_bytes root)) }
+        ensures only { (root : Root) → IsRoot root → bytes.now ≡ root_bytes root
             → IsOkAnd result (λ r. r ≡ root) }
         ensures bad { IfErr result (λ field. root_fault bytes.now ≡ Some field) }
     {
         if bytes.len() != ROOT_LEN {
-            return Err(RootField::Length);
+            return Err(RootError::Length);
         }
         if u16_at(bytes, 0) != 2 {
-            return Err(RootField::Version);
+            return Err(RootError::Version);
         }
         let mut root = Root {
             name: [0; 128],
@@ -62,7 +62,7 @@ impl Root {
 
     /// The bytes of a root.
     pub fn encode(&self) -> [u8; 300]
-        ensures { result ≡ spelled self.now }
+        ensures { result ≡ root_bytes self.now }
     {
         let mut bytes = [0; ROOT_LEN];
         let at = put_u16(&mut bytes, 0, 2);

@@ -5,9 +5,9 @@ ghost use Rattle.std.specs.Prelude.{◌*◌, IsTrue, IfOk, IfErr, OnOk, length, 
 ghost use Rattle.std.specs.List.{flat_map};
 ghost use Rattle.std.specs.Str.{bytes_eq};
 ghost use Rattle.vt_base.specs.Faults.{CountsFault};
-ghost use Rattle.vt_tree.specs.declared.err.TreeErr.{TreeErr};
-ghost use Rattle.vt_tree.specs.Entries.{IsEntry};
-ghost use Rattle.vt_tree.specs.Growing.{next_of, shape_of, IsReady, Advances, StopsAhead};
+ghost use Rattle.vt_tree.specs.declared.error.TreeErr.{TreeErr};
+ghost use Rattle.vt_tree.specs.Entries.{IsTreeEntry};
+ghost use Rattle.vt_tree.specs.Growing.{next_of, shape_of, IsReadyToWrite, TakesNextLeaf, StopsAhead};
 ghost use Rattle.vt_tree.specs.Growing.{HasFirst, GrowsTree, WritesTree, StopsTree};
 ghost use Rattle.vt_tree.specs.Growing.{StopsStream, PutsBlock};
 ghost use Rattle.vt_tree.specs.Streams.{Shape, leaf_block, pointer_block, tree_of, without_end};
@@ -44,7 +44,7 @@ pub fn write_stream<B: Blocks, R: Source>(
         = record { psize = psize; dsize = dsize; is_dir = is_dir } in
         IfOk result (WritesStream B.does B.holds B.score_of blocks.old blocks.new shape
         (IsTakenWhole R.tells (R.left source.old) (R.left source.new))) }
-    ensures entry { IfOk result IsEntry }
+    ensures entry { IfOk result IsTreeEntry }
     ensures refused { let shape : Shape
         = record { psize = psize; dsize = dsize; is_dir = is_dir } in
         IfErr result (GivesUpStream B.does B.holds B.score_of blocks.old blocks.new shape
@@ -107,7 +107,7 @@ impl Ahead {
         requires filled { self.old.filled ≤ length self.old.leaf.items }
         requires size { self.old.size ≤ 2 ^ 40 }
         requires room { length self.old.leaf.items ≤ MAX_BLOCK }
-        ensures ok { OnOk result (Advances (length self.old.leaf.items)
+        ensures ok { OnOk result (TakesNextLeaf (length self.old.leaf.items)
             (next_of self.old) (next_of self.new)
             (IsTaken R.tells (R.left source.old) (R.left source.new))) }
         ensures end { OnOk result (self.old.ended ≡ false → self.new.ended ≡ true
@@ -180,7 +180,7 @@ impl Cut {
         source: &mut R,
         ahead: &mut Ahead,
     ) -> Result<(u8, Score), TreeErr>
-        requires ready { IsReady B.score_of self.now ahead.old R.tells (R.left source.old) }
+        requires ready { IsReadyToWrite B.score_of self.now ahead.old R.tells (R.left source.old) }
         requires size { ahead.old.size ≡ ahead.old.filled }
         ensures grown { IfOk result (λ top. WritesTree B.does B.score_of blocks.old blocks.new
             (shape_of self.now) (next_of ahead.old) (next_of ahead.new)
@@ -212,13 +212,13 @@ impl Cut {
         source: &mut R,
         ahead: &mut Ahead,
     ) -> Result<Score, TreeErr>
-        requires ready { IsReady B.score_of self.now ahead.old R.tells (R.left source.old) }
+        requires ready { IsReadyToWrite B.score_of self.now ahead.old R.tells (R.left source.old) }
         requires some { 0 < ahead.old.filled }
         ensures grown { IfOk result (GrowsTree B.does B.score_of blocks.old blocks.new
             (shape_of self.now) 0 (next_of ahead.old) (next_of ahead.new)
             (IsTaken R.tells (R.left source.old) (R.left source.new)) [] []) }
         ensures ready { OnOk result
-            (IsReady B.score_of self.now ahead.new R.tells (R.left source.new)) }
+            (IsReadyToWrite B.score_of self.now ahead.new R.tells (R.left source.new)) }
         ensures stopped { IfErr result (StopsTree B.does B.score_of blocks.old blocks.new
             (shape_of self.now) 0 (next_of ahead.old)
             (IsAll R.tells (R.left source.old)) [] []) }
@@ -240,14 +240,14 @@ impl Cut {
         ahead: &mut Ahead,
         depth: u8,
     ) -> Result<Score, TreeErr>
-        requires ready { IsReady B.score_of self.now ahead.old R.tells (R.left source.old) }
+        requires ready { IsReadyToWrite B.score_of self.now ahead.old R.tells (R.left source.old) }
         requires some { 0 < ahead.old.filled }
         requires depth { depth < 8 }
         ensures grown { IfOk result (GrowsTree B.does B.score_of blocks.old blocks.new
             (shape_of self.now) depth (next_of ahead.old) (next_of ahead.new)
             (IsTaken R.tells (R.left source.old) (R.left source.new)) [] []) }
         ensures ready { OnOk result
-            (IsReady B.score_of self.now ahead.new R.tells (R.left source.new)) }
+            (IsReadyToWrite B.score_of self.now ahead.new R.tells (R.left source.new)) }
         ensures stopped { IfErr result (StopsTree B.does B.score_of blocks.old blocks.new
             (shape_of self.now) depth (next_of ahead.old)
             (IsAll R.tells (R.left source.old)) [] []) }
@@ -273,7 +273,7 @@ impl Cut {
         depth: u8,
         first: &Score,
     ) -> Result<Score, TreeErr>
-        requires ready { IsReady B.score_of self.now ahead.old R.tells (R.left source.old) }
+        requires ready { IsReadyToWrite B.score_of self.now ahead.old R.tells (R.left source.old) }
         requires depth { (0 < depth) × (depth < 8) }
         ensures grown { (leaves : List (List ℕ))
             → HasFirst B.score_of (shape_of self.now) (depth - 1) (next_of ahead.old) leaves
@@ -283,7 +283,7 @@ impl Cut {
             (IsTaken R.tells (R.left source.old) (R.left source.new)) leaves
             (tree_of B.score_of (shape_of self.now) (depth - 1) leaves).blocks) }
         ensures ready { OnOk result
-            (IsReady B.score_of self.now ahead.new R.tells (R.left source.new)) }
+            (IsReadyToWrite B.score_of self.now ahead.new R.tells (R.left source.new)) }
         ensures stopped { (leaves : List (List ℕ))
             → HasFirst B.score_of (shape_of self.now) (depth - 1) (next_of ahead.old) leaves
             first.now

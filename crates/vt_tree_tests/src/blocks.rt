@@ -1,7 +1,7 @@
 //! Blocks and streams that are put into a store.
 
 ghost use Rattle.std.specs.Prelude.{◌≡◌, ◌≤◌, length, IfOk};
-ghost use Rattle.vt_tree.specs.Entries.{IsEntry};
+ghost use Rattle.vt_tree.specs.Entries.{IsTreeEntry};
 
 use std::alloc::Global;
 use std::test::Fail;
@@ -31,7 +31,7 @@ pub fn stream<B: Blocks>(
     bytes: &[u8],
     is_dir: bool,
 ) -> Result<Entry, Fail>
-    ensures entry { IfOk result IsEntry }
+    ensures entry { IfOk result IsTreeEntry }
     ensures kind { IfOk result (λ e. e.is_dir ≡ is_dir) }
 {
     let mut source = MemSource::new(alloc, Vec::from_slice(alloc, bytes)?);

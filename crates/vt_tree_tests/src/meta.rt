@@ -1,10 +1,10 @@
 //! A folder's metadata byte for byte, and each flaw with its place.
 
-ghost use Rattle.vac_meta.specs.Records.{IsName};
+ghost use Rattle.vac_meta.specs.Records.{IsItemName};
 
 use std::alloc::{AllocError, Global};
 use std::test::Fail;
-use vac_meta::{Flaw, MetaErr, Record, RecordKind, decode, encode};
+use vac_meta::{MetaErr, Record, RecordCause, RecordKind, decode, encode};
 use vt_base::Text;
 use vt_rows::Rows;
 
@@ -101,32 +101,32 @@ fn refusal(alloc: Global, len: usize, at: usize, byte: u8) -> Option<MetaErr> {
 }
 
 /// How many bytes there are, which one is changed, and the flaw and its place.
-type Row = (usize, usize, u8, usize, Flaw);
+type Row = (usize, usize, u8, usize, RecordCause);
 
 const FLAWS: &[Row] = &[
-    (1, 0, 0, 1, Flaw::Cut),
-    (2, 0, 0, 2, Flaw::Cut),
-    (3, 0, 0, 3, Flaw::Cut),
-    (23, 0, 0, 23, Flaw::Cut),
-    (25, 0, 0, 25, Flaw::Cut),
-    (29, 0, 0, 29, Flaw::Cut),
-    (31, 0, 0, 31, Flaw::Cut),
-    (59, 0, 0, 59, Flaw::Cut),
-    (60, 0, 1, 0, Flaw::NameLength),
-    (60, 1, 0, 0, Flaw::NameLength),
-    (60, 2, b'/', 2, Flaw::NameByte),
-    (60, 2, 0, 2, Flaw::NameByte),
-    (60, 3, 2, 3, Flaw::Kind),
-    (60, 24, 1, 24, Flaw::OwnerLength),
-    (60, 27, 1, 27, Flaw::OwnerLength),
-    (60, 32, b'a', 30, Flaw::Order),
-    (60, 32, b'Z', 30, Flaw::Order),
-    (60, 33, 9, 33, Flaw::Kind),
-    (2, 0, 1, 0, Flaw::NameLength),
-    (4, 2, b'/', 2, Flaw::NameByte),
-    (4, 3, 2, 3, Flaw::Kind),
-    (33, 32, b'a', 30, Flaw::Order),
-    (59, 57, 1, 57, Flaw::OwnerLength),
+    (1, 0, 0, 1, RecordCause::Cut),
+    (2, 0, 0, 2, RecordCause::Cut),
+    (3, 0, 0, 3, RecordCause::Cut),
+    (23, 0, 0, 23, RecordCause::Cut),
+    (25, 0, 0, 25, RecordCause::Cut),
+    (29, 0, 0, 29, RecordCause::Cut),
+    (31, 0, 0, 31, RecordCause::Cut),
+    (59, 0, 0, 59, RecordCause::Cut),
+    (60, 0, 1, 0, RecordCause::NameLength),
+    (60, 1, 0, 0, RecordCause::NameLength),
+    (60, 2, b'/', 2, RecordCause::NameByte),
+    (60, 2, 0, 2, RecordCause::NameByte),
+    (60, 3, 2, 3, RecordCause::Kind),
+    (60, 24, 1, 24, RecordCause::OwnerLength),
+    (60, 27, 1, 27, RecordCause::OwnerLength),
+    (60, 32, b'a', 30, RecordCause::Order),
+    (60, 32, b'Z', 30, RecordCause::Order),
+    (60, 33, 9, 33, RecordCause::Kind),
+    (2, 0, 1, 0, RecordCause::NameLength),
+    (4, 2, b'/', 2, RecordCause::NameByte),
+    (4, 3, 2, 3, RecordCause::Kind),
+    (33, 32, b'a', 30, RecordCause::Order),
+    (59, 57, 1, 57, RecordCause::OwnerLength),
 ];
 
 /// Each flaw is told, with its place.

@@ -1,8 +1,8 @@
 //! Archives that are written by hand: what of them is read, and what of a broken one is told.
 
 ghost use Rattle.std.specs.Prelude.{◌≡◌, ◌<◌, ◌≤◌, length, IfOk, IfSome};
-ghost use Rattle.vt_tree.specs.Entries.{IsEntry};
-ghost use Rattle.vac_read.specs.Nodes.{AreEntries, IsDirectory};
+ghost use Rattle.vt_tree.specs.Entries.{IsTreeEntry};
+ghost use Rattle.vac_read.specs.Nodes.{AreNodeEntries, IsDirectory};
 ghost use Rattle.vac_read.specs.declared.node.Stored.{Stored};
 
 use crate::blocks::{put, stream};
@@ -11,7 +11,7 @@ use std::test::Fail;
 use vac_meta::RecordKind;
 use vac_read::{Archive, Node, RootField, Stored, VacBad, list, read, walk};
 use vt_base::{Kind, Score, Sha1Scorer, Text};
-use vt_folder::{Item, ItemKind};
+use vt_out::{Item, ItemKind};
 use vt_rows::Rows;
 use vt_tree::{BlockErr, Blocks, Entry, MemBlocks, Root, TreeErr};
 
@@ -64,7 +64,7 @@ fn opened_as<B: Blocks>(alloc: Global, blocks: &mut B, score: &Score) -> Told {
 
 /// What is told where a folder is listed.
 fn listed_as<B: Blocks>(alloc: Global, blocks: &mut B, folder: &Node) -> Told
-    requires { AreEntries folder.now.stored }
+    requires { AreNodeEntries folder.now.stored }
 {
     match list(alloc, blocks, folder) {
         Ok(nodes) => Told::Items(nodes.as_slice().len()),
@@ -229,8 +229,8 @@ fn two_records(first: &[u8; 28], second: &[u8; 28]) -> [u8; 56] {
 
 /// A folder of these two streams.
 fn node(alloc: Global, entries: Entry, metadata: Entry) -> Result<Node, AllocError>
-    requires { AreEntries (Stored.Folder entries metadata) }
-    ensures { IfOk result (λ node. AreEntries node.stored) }
+    requires { AreNodeEntries (Stored.Folder entries metadata) }
+    ensures { IfOk result (λ node. AreNodeEntries node.stored) }
 {
     Ok(Node {
         item: Item {
@@ -270,7 +270,7 @@ fn pair<B: Blocks>(
     entry: u32,
 ) -> Result<Node, Fail>
     requires { IsDirectory entries }
-    ensures { IfOk result (λ node. AreEntries node.stored) }
+    ensures { IfOk result (λ node. AreNodeEntries node.stored) }
 {
     let first = record(b'a', RecordKind::File, 0);
     let records = two_records(&first, &record(b'b', kind, entry));
@@ -344,8 +344,8 @@ fn texts(alloc: Global, names: &[&[u8]]) -> Result<Vec<Text>, AllocError> {
 
 /// The node that these names lead to.
 fn found<B: Blocks>(alloc: Global, blocks: &mut B, top: &Node, names: &[&[u8]]) -> Option<Node>
-    requires { AreEntries top.now.stored }
-    ensures { IfSome result (λ node. AreEntries node.stored) }
+    requires { AreNodeEntries top.now.stored }
+    ensures { IfSome result (λ node. AreNodeEntries node.stored) }
 {
     let Ok(names) = texts(alloc, names) else {
         return None;
@@ -358,7 +358,7 @@ fn found<B: Blocks>(alloc: Global, blocks: &mut B, top: &Node, names: &[&[u8]]) 
 
 /// How many bytes the item has that these names lead to, if they do.
 fn size_at<B: Blocks>(alloc: Global, blocks: &mut B, top: &Node, names: &[&[u8]]) -> Option<u64>
-    requires { AreEntries top.now.stored }
+    requires { AreNodeEntries top.now.stored }
 {
     match found(alloc, blocks, top, names) {
         Some(node) => Some(node.size),
@@ -392,7 +392,7 @@ fn sample<B: Blocks>(alloc: Global, blocks: &mut B) -> Result<Score, Fail> {
 
 /// The top folder of that archive, which is put into the store.
 fn sample_top<B: Blocks>(alloc: Global, blocks: &mut B) -> Result<Node, Fail>
-    ensures { IfOk result (λ node. AreEntries node.stored) }
+    ensures { IfOk result (λ node. AreNodeEntries node.stored) }
 {
     let score = sample(alloc, blocks)?;
     match Archive::at(alloc, blocks, &score) {
@@ -412,7 +412,7 @@ const ENDS: &[([&[u8]; 2], Option<u64>)] = &[
 
 /// The items of that archive are listed and found.
 fn see_items<B: Blocks>(alloc: Global, blocks: &mut B, top: &Node, rows: &mut Rows)
-    requires { AreEntries top.now.stored }
+    requires { AreNodeEntries top.now.stored }
 {
     let told = listed_as(alloc, blocks, top);
     rows.is("how many items are listed", told == Told::Items(2));
@@ -446,7 +446,7 @@ fn gives<B: Blocks>(
     n: u32,
     wanted: &[u8],
 ) -> bool
-    requires { AreEntries node.now.stored }
+    requires { AreNodeEntries node.now.stored }
 {
     match read(alloc, blocks, node, at, n) {
         Ok(bytes) => bytes.as_slice() == wanted,
@@ -465,7 +465,7 @@ const PARTS: &[(u64, u32, &[u8])] = &[
 
 /// Parts of a file of `abc` are read.
 fn see_parts<B: Blocks>(alloc: Global, blocks: &mut B, file: &Node, rows: &mut Rows)
-    requires { AreEntries file.now.stored }
+    requires { AreNodeEntries file.now.stored }
 {
     for (n, (at, len, wanted)) in PARTS.iter().enumerate() {
         let is_read = gives(alloc, blocks, file, *at, *len, wanted);
@@ -493,9 +493,9 @@ fn parts_of_files_are_read(rt: HostRuntime) -> Result<(), Fail> {
 
 /// An entry with another byte of its size at this place.
 fn resized(entry: Entry, at: usize, byte: u8) -> Result<Entry, Fail>
-    requires entry { IsEntry entry }
+    requires entry { IsTreeEntry entry }
     requires within { at < 40 }
-    ensures entry { IfOk result IsEntry }
+    ensures entry { IfOk result IsTreeEntry }
     ensures kind { IfOk result (λ e. e.is_dir ≡ entry.is_dir) }
 {
     let mut bytes = entry.encode();
@@ -508,7 +508,7 @@ fn resized(entry: Entry, at: usize, byte: u8) -> Result<Entry, Fail>
 
 /// The entries and the metadata of a folder of the file `a`, which has more than a tebibyte.
 fn long_file<B: Blocks>(alloc: Global, blocks: &mut B) -> Result<(Entry, Entry), Fail>
-    ensures { IfOk result (λ f. AreEntries (Stored.Folder f.0 f.1)) }
+    ensures { IfOk result (λ f. AreNodeEntries (Stored.Folder f.0 f.1)) }
 {
     let file = resized(stream(alloc, blocks, b"abc", false)?, 14, 1)?;
     let entries = stream(alloc, blocks, &file.encode(), true)?;
@@ -524,7 +524,7 @@ fn read_as<B: Blocks>(
     entries: Entry,
     metadata: Entry,
 ) -> Result<(u64, Told), Fail>
-    requires { AreEntries (Stored.Folder entries metadata) }
+    requires { AreNodeEntries (Stored.Folder entries metadata) }
 {
     let folder = node(alloc, entries, metadata)?;
     let Some(file) = found(alloc, blocks, &folder, &[b"a"]) else {
@@ -543,7 +543,7 @@ fn streams_told<B: Blocks>(
     entries: Entry,
     metadata: Entry,
 ) -> Result<Told, Fail>
-    requires { AreEntries (Stored.Folder entries metadata) }
+    requires { AreNodeEntries (Stored.Folder entries metadata) }
 {
     let folder = node(alloc, entries, metadata)?;
     Ok(listed_as(alloc, blocks, &folder))

@@ -6,8 +6,8 @@ use std::test::Fail;
 use vt_base::{Kind, Score, Scorer, Sha1Scorer};
 use vt_rows::Rows;
 use vt_tree::{
-    BadEntry, BlockErr, Blocks, Entry, EntryField, MemBlocks, Root, RootField, TreeErr, Trouble,
-    byte_at, content, read_range,
+    BlockErr, Blocks, ContentError, Entry, EntryError, EntryField, MemBlocks, Root, RootError,
+    TreeErr, byte_at, content, read_range,
 };
 
 const ZERO: Score = Score(
@@ -40,7 +40,7 @@ const ENTRIES: &[Row] = &[
 /// Each field that can't stand in an entry is told.
 fn see_entries(rows: &mut Rows) {
     for (n, (psize, dsize, flags, bad)) in ENTRIES.iter().enumerate() {
-        let wanted = bad.map(|(field, found)| BadEntry { field, found });
+        let wanted = bad.map(|(field, found)| EntryError { field, found });
         let found = Entry::decode(&entry_bytes(*psize, *dsize, *flags)).err();
         rows.nth(
             n,
@@ -91,12 +91,12 @@ fn roots_are_300_bytes_of_version_2(rt: HostRuntime) -> Result<(), Fail> {
     rows.is("the root that is read", Root::decode(&bytes) == Ok(root));
     rows.is(
         "a root of 299 bytes",
-        Root::decode(&bytes[..299]) == Err(RootField::Length),
+        Root::decode(&bytes[..299]) == Err(RootError::Length),
     );
     bytes[1] = 3;
     rows.is(
         "a root of version 3",
-        Root::decode(&bytes) == Err(RootField::Version),
+        Root::decode(&bytes) == Err(RootError::Version),
     );
     rows.all()?;
     Ok(())
@@ -222,7 +222,7 @@ fn has_content<S: Scorer>(
 }
 
 /// The first byte of an entry's file, where the entry's fields have room for what they say.
-fn first_byte<S: Scorer>(blocks: &MemBlocks<S>, entry: &Entry) -> Option<Result<u8, Trouble>> {
+fn first_byte<S: Scorer>(blocks: &MemBlocks<S>, entry: &Entry) -> Option<Result<u8, ContentError>> {
     if entry.depth >= 8 || entry.size >= 1 << 48 || entry.dsize == 0 {
         return None;
     }
@@ -256,15 +256,15 @@ fn see_bytes<S: Scorer>(
     );
     rows.is(
         "a pointer block that is too long",
-        first_byte(blocks, &narrow) == Some(Err(Trouble::BadBlock { depth: 1, len: 60 })),
+        first_byte(blocks, &narrow) == Some(Err(ContentError::BadBlock { depth: 1, len: 60 })),
     );
     rows.is(
         "a leaf that isn't there",
-        first_byte(blocks, &flat) == Some(Err(Trouble::Absent)),
+        first_byte(blocks, &flat) == Some(Err(ContentError::Absent)),
     );
     rows.is(
         "a leaf that is too long",
-        first_byte(blocks, &short) == Some(Err(Trouble::BadBlock { depth: 0, len: 5 })),
+        first_byte(blocks, &short) == Some(Err(ContentError::BadBlock { depth: 0, len: 5 })),
     );
     rows.is(
         "the first byte of a leaf",
@@ -292,7 +292,7 @@ enum Told {
     /// To a block of this depth and length that can't stand there.
     BadBlock(u8, usize),
     TooLong,
-    BadEntry,
+    EntryError,
     Refused,
     Other,
 }

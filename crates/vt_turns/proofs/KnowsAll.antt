@@ -7,7 +7,7 @@ use Rattle.atomic_table.proofs.Lists.{at_longer}
 use Rattle.vt_turns.specs.declared.view.View.{View}
 use Rattle.vt_turns.specs.Meaning.{Meaning}
 use Rattle.vt_turns.specs.Lists.{or_else}
-use Rattle.vt_turns.specs.Views.{mark_of, stop_of, faults_of, seen_at, stable_at, holding, risen, booking, joined, KnowsAll}
+use Rattle.vt_turns.specs.Views.{mark_of, stop_of, faults_of, seen_at, stable_at, holding, risen, booking, joined_views, KnowsAll}
 use Rattle.vt_turns.specs.Calls.{MayBook}
 use Rattle.vt_turns.proofs.Lists.{at_put_here, at_put_else, at_both, whole_prefix}
 
@@ -61,7 +61,7 @@ or_none (Some n) = refl
 first_stays : (a b : Option ℕ) (n : ℕ) → a ≡ Some n → or_else a b ≡ Some n
 first_stays a b n e = ap (λ (o : Option ℕ). or_else o b) e
 
-pub knows_joined : {P B : Type 0} (v w u : View P B) → u ≡ joined v w → KnowsAll v u
+pub knows_joined : {P B : Type 0} (v w u : View P B) → u ≡ joined_views v w → KnowsAll v u
 knows_joined {P} {B} v w u is = subst (λ (z : View P B). KnowsAll v z) (sym is) record {
   opening = refl;
   seen = whole_prefix v.seen;

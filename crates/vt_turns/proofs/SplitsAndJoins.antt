@@ -11,7 +11,7 @@ use Rattle.vt_turns.specs.declared.view.View.{View}
 use Rattle.vt_turns.specs.declared.view.Opening.{Opening}
 use Rattle.vt_turns.specs.Meaning.{Meaning}
 use Rattle.vt_turns.specs.Lists.{or_else, total, times}
-use Rattle.vt_turns.specs.Views.{turn_of, mark_of, stop_of, faults_of, HoldsNone, durable_of, less_one, split_off, noted, joined, spent}
+use Rattle.vt_turns.specs.Views.{turn_of, mark_of, stop_of, faults_of, HoldsNone, durable_of, less_one, split_off, noted, joined_views, spent}
 use Rattle.vt_turns.specs.Rule.{Knows, Stands, HasBit, IsKnown, Rule}
 use Rattle.vt_turns.proofs.Moves.{is_log, Some-None, St, bits_known, no_others_on}
 use Rattle.vt_turns.proofs.Lists.{total_set, total_snoc, inside, times-append, at_both}
@@ -118,7 +118,7 @@ at_behind (x ∷ xs) m k a e = let t = at_behind xs m k a e in (suc t.0, t.1)
 module _ {P B : Type 0} (M : Meaning P B) where
   module _ {extra : ℕ} {opening : Opening P B} (s : St M) (r : Rule M extra opening s) (id other : ℕ) (v w : View P B) (at : get_elem? s.views id ≡ some v) (apart : other ≢ id) (at_w : get_elem? s.views other ≡ some w) (share : 0 < v.share) (none_held : HoldsNone w) where
     abbrev both : View P B
-    both = joined v w
+    both = joined_views v w
 
     abbrev views2 : List (View P B)
     views2 = set (set s.views id both) other (spent)
@@ -236,5 +236,5 @@ module _ {P B : Type 0} (M : Meaning P B) where
       no_other_bits = λ p is. ⊎_elim (λ was. inl was) (λ t. inr (known_joined p t (ℕ_discrete t.0 other) (ℕ_discrete t.0 id))) (r.no_other_bits p is);
     }
 
-  pub joins : (extra : ℕ) (opening : Opening P B) (id other : ℕ) (v w : View P B) → 0 < v.share → HoldsNone w → Joins (Rule M extra opening) id v other w (joined v w) (spent)
-  joins extra opening id other v w share none_held s r at apart at_w = kept_joined s r id other v w at apart (sym (set_else s.views id other (joined v w) apart) ∙ at_w) share none_held
+  pub joins : (extra : ℕ) (opening : Opening P B) (id other : ℕ) (v w : View P B) → 0 < v.share → HoldsNone w → Joins (Rule M extra opening) id v other w (joined_views v w) (spent)
+  joins extra opening id other v w share none_held s r at apart at_w = kept_joined s r id other v w at apart (sym (set_else s.views id other (joined_views v w) apart) ∙ at_w) share none_held

@@ -71,8 +71,8 @@ module _ {P B : Type 0} where
   noted v = record v { share = 0; olds = []; own = []; faults = []; turns = []; away = 0 }
 
   -- v with what w knows, added and has; what w has seen is told by the next load of the front
-  abbrev pub joined : View P B → View P B → View P B
-  joined v w = record v {
+  abbrev pub joined_views : View P B → View P B → View P B
+  joined_views v w = record v {
     share = v.share + w.share;
     olds = (v.olds ++ w.seen ∷ []) ++ w.olds;
     own = v.own ++ w.own;

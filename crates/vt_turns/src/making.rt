@@ -60,8 +60,7 @@ struct Prepared<P, B> {
 }
 
 /// Makes it, for so many parts.
-// (words and slots; prepare of vt_answer takes a session's memory, that of vt_log stages a commit)
-fn prepare<P: Drop, B, J: Opened<P, B>>(
+fn prepare_parts<P: Drop, B, J: Opened<P, B>>(
     alloc: Global,
     count: usize,
     front: u64,
@@ -126,7 +125,7 @@ impl<P: Held<B> + Drop, B> Turns<P, B> {
         ensures handed_back { IfErr result (λ refusal. refusal.1.items ≡ parts.items) }
     {
         let count = parts.len();
-        let Ok(prepared) = prepare::<P, B, J>(alloc, count, front, bits) else {
+        let Ok(prepared) = prepare_parts::<P, B, J>(alloc, count, front, bits) else {
             return Err((AllocError, parts));
         };
         let Prepared {

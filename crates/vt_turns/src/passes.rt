@@ -1,7 +1,7 @@
 //! Passes that are split and joined.
 
 ghost use Rattle.std.specs.Prelude.{◌≡◌, ◌<◌};
-ghost use Rattle.vt_turns.specs.Views.{view, HoldsNone, less_one, split_off, noted, joined, KnowsAll};
+ghost use Rattle.vt_turns.specs.Views.{view, HoldsNone, less_one, split_off, noted, joined_views, KnowsAll};
 ghost use Rattle.vt_turns.specs.Calls.{IsPassOf};
 
 use crate::held::Held;
@@ -40,7 +40,7 @@ impl<P: Held<B>, B> Turns<P, B> {
         requires other { IsPassOf self.now other }
         requires none_held { HoldsNone (view other) }
         ensures own { IsPassOf self.now pass.new }
-        ensures view { view pass.new ≡ joined (view pass.old) (view other) }
+        ensures view { view pass.new ≡ joined_views (view pass.old) (view other) }
         ensures knows { KnowsAll (view pass.old) (view pass.new) }
     {
         self.table.shared.join_seat::<JoinsPasses>(pass, other);

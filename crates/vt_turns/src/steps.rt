@@ -2,7 +2,7 @@
 
 ghost use Rattle.std.specs.Prelude.{ℕ, Option, None, [], false};
 ghost use Rattle.vt_turns.specs.declared.view.Opening.{Opening};
-ghost use Rattle.vt_turns.specs.Views.{less_one, split_off, noted, joined, spent};
+ghost use Rattle.vt_turns.specs.Views.{less_one, split_off, noted, joined_views, spent};
 ghost use Rattle.vt_turns.specs.Steps.{TellsTaken, TellsSlotHome, TellsSlotOut, TellsBooked, TellsGiven, TellsRaised, TellsFront, TellsBitSet, TellsBit};
 
 use crate::held::Held;
@@ -139,7 +139,7 @@ impl<P, B> Split<View<P, B>> for NotesPass {
 pub(crate) struct JoinsPasses;
 
 impl<P, B> Join<View<P, B>> for JoinsPasses {
-    ghost both = { joined };
+    ghost both = { joined_views };
 
     ghost spent = { spent };
 }

@@ -20,7 +20,7 @@ use Rattle.vt_turns_example.specs.declared.part.Part.{Part}
 use Rattle.vt_turns_example.specs.declared.part.Part.TheVariants.{Log, Shard}
 use Rattle.vt_turns_example.specs.Blocks.{number_from}
 use Rattle.vt_turns_example.specs.Laws.{number_outside}
-use Rattle.vt_turns_example.specs.Parts.{part_means, covers_key, sound_for, place_of}
+use Rattle.vt_turns_example.specs.Parts.{part_means, covers_key, sound_for, bit_place}
 use Rattle.vt_turns_example.specs.Stores.{TheView, GaveBoth}
 use Rattle.vt_turns_example.proofs.Answering.{number_new}
 
@@ -77,14 +77,14 @@ another key q ne = grind (arith, nat_tests)
 pub adds : (v : TheView) (n : ℕ) (l l' : TheLog) (s s' : TheShard) (b : Block) (number : ℕ) → 0 < n → turn_of v 0 ≡ Some (Log l) → turn_of v n ≡ Some (Shard s) → length l.blocks.items ≡ length v.seen → number ≡ length l.blocks.items
     → covers_key s b.key ≡ true → get nat_cmp s.numbers b.key ≡ None → v.opening.kept ≡ true
     → l'.blocks.items ≡ l.blocks.items ++ b ∷ [] → Updates nat_cmp s.numbers s'.numbers b.key (Some number) → s'.low ≡ s.low → s'.high ≡ s.high
-    → MayRaise part_means (with_bits (place_of b.key ∷ []) v) (Log l) (Log l') n (Shard s) (Shard s') b
+    → MayRaise part_means (with_bits (bit_place b.key ∷ []) v) (Log l) (Log l') n (Shard s) (Shard s') b
 adds v n l l' s s' b number above has_log has_shard seen number_is inside new kept log_is updates low high = record {
   shard = above;
   has_log = has_log;
   has_shard = has_shard;
   front = ap length log_is ∙ length_more l.blocks.items b;
   covered = λ _. inside;
-  bits_set = λ _ k p e. (length v.bits, at_last v.bits (place_of b.key) (length v.bits) refl ∙ only k p e);
+  bits_set = λ _ k p e. (length v.bits, at_last v.bits (bit_place b.key) (length v.bits) refl ∙ only k p e);
   log_sound = λ sound k. log_is ∙ ap (λ h. h ++ b ∷ []) (sound k);
   shard_sound = λ sound k key covered. by_key key (covers_same s s' (sym low) (sym high) key) covered (sound k) (ℕ_discrete b.key key);
   same_log = record { covers = λ c. refl; durable = refl; within = λ o m w. w; mark = refl; stop = refl; count = refl; full = refl };
@@ -94,7 +94,7 @@ adds v n l l' s s' b number above has_log has_shard seen number_is inside new ke
     length_more : (h : List Block) (c : Block) → length (h ++ c ∷ []) ≡ length h + 1
     length_more h c = omega (arith, length-append h (c ∷ []))
 
-    only : (k p : ℕ) → get_elem? (place_of b.key ∷ []) k ≡ some p → some (place_of b.key) ≡ some p
+    only : (k p : ℕ) → get_elem? (bit_place b.key ∷ []) k ≡ some p → some (bit_place b.key) ≡ some p
     only zero p e = e
     only (suc k) p e = absurd (some-ne-none p (sym e))
 

@@ -4,7 +4,7 @@ use mathlib.Core.Option.{some-ne-none}
 use mathlib.Core.List.{IsPrefix}
 use lib.ListN.{get_elem?}
 use Rattle.atomic_table.proofs.Lists.{at_longer, at_last, at_snoc}
-use Rattle.vt_turns.specs.Views.{HoldsNone, turn_of, less_one, split_off, joined}
+use Rattle.vt_turns.specs.Views.{HoldsNone, turn_of, less_one, split_off, joined_views}
 use Rattle.vt_turns.specs.Steps.{Loads}
 use Rattle.vt_turns.specs.Calls.{Closes}
 use Rattle.vt_turns.specs.Lists.{times, once}
@@ -17,10 +17,10 @@ use Rattle.vt_turns_example.specs.declared.link.Line.{Line}
 use Rattle.vt_turns_example.specs.declared.workers.End.{End}
 use Rattle.vt_turns_example.specs.declared.workers.Started.{Started}
 use Rattle.vt_turns_example.specs.Parts.{part_means, is_cut, log_of}
-use Rattle.vt_turns_example.specs.Stores.{Pass, TheView, IsIn, IsFree}
+use Rattle.vt_turns_example.specs.Stores.{Pass, TheView, IsPassOfStore, IsFree}
 use Rattle.vt_turns_example.specs.Talk.{IsTalk}
 use Rattle.vt_turns_example.specs.Work.{Works}
-use Rattle.vt_turns_example.specs.Workers.{less, own_of, owns, Joins, ServedTwo, Begins, AllBegun, Begun, Joining, HasServed, IsWhole}
+use Rattle.vt_turns_example.specs.Workers.{less, own_of, owns, Joins, ServedTwo, BeginsWorker, AllBegun, Begun, Joining, HasServed, IsOneHistory}
 use Rattle.vt_turns_example.proofs.Talks.{talk_on, talk_from, prefix_on}
 use Rattle.vt_turns_example.proofs.Cuts.{log_at, not_shard}
 
@@ -34,7 +34,7 @@ less_more v u n is = ap less_one is ∙ (let e : (v.share - n) - 1 ≡ v.share -
 pub split_same : (v u : TheView) (n : ℕ) → u ≡ less v n → split_off u ≡ split_off v
 split_same v u n is = ap split_off is
 
-pub joins_of : (v w u : TheView) (found : ℕ) → HoldsNone v → Loads part_means (joined v w) found u → Joins v w u
+pub joins_of : (v w u : TheView) (found : ℕ) → HoldsNone v → Loads part_means (joined_views v w) found u → Joins v w u
 joins_of v w u found none l = record {
   opening = ap (λ (x : TheView). x.opening) l.is;
   share = ap (λ (x : TheView). x.share) l.is;
@@ -44,7 +44,7 @@ joins_of v w u found none l = record {
   theirs = subst (λ s. IsPrefix w.seen s) (sym (ap (λ (x : TheView). x.seen) l.is)) (l.olds (length v.olds) w.seen (at_longer (v.olds ++ w.seen ∷ []) w.olds (length v.olds) w.seen (at_last v.olds w.seen (length v.olds) refl)));
 }
 
-pub works_in : (store : Store) (p r : Pass) (lines : List Line) → IsIn store p → Works p r lines → IsFree store r
+pub works_in : (store : Store) (p r : Pass) (lines : List Line) → IsPassOfStore store p → Works p r lines → IsFree store r
 works_in store p r lines i w = (((w.table ∙ i.0.0, w.none_out.0, w.none_out.1), w.opening ∙ i.1, (let e = w.share in let s = i.2 in omega arith)), w.none_held)
 
 -- a pass that was split off a free one is free
@@ -72,9 +72,9 @@ module _ {L : Type 0} (told : L → List Line) where
   begun_none store v all none k s e = absurd (some-ne-none s (sym (ap (λ (l : List (Started L)). get_elem? l k) (sym none) ∙ e)))
 
   pub begun_more : (store : Store) (v : TheView) (all more : List (Started L)) (s : Started L) (p : Pass) → more ≡ all ++ s ∷ [] → AllBegun told store v all
-      → p.me.0 ≡ split_off v → IsIn store p → Begins told p s → AllBegun told store v more
+      → p.me.0 ≡ split_off v → IsPassOfStore store p → BeginsWorker told p s → AllBegun told store v more
   begun_more store v all more s p is old view_is own begins k t e =
-      ⊎_elim (λ old_at. old k t old_at) (λ (same : s ≡ t). (p, view_is, own, subst (λ (z : Started L). Begins told p z) same begins))
+      ⊎_elim (λ old_at. old k t old_at) (λ (same : s ≡ t). (p, view_is, own, subst (λ (z : Started L). BeginsWorker told p z) same begins))
       (at_snoc all s t k (ap (λ (l : List (Started L)). get_elem? l k) (sym is) ∙ e))
 
   pub joining_none : (store : Store) (v u : TheView) (all : List (Started L)) (ends : List (End L)) (n : ℕ) → ends ≡ [] → n ≡ length all → Begun told store v u all → Joining told v u ends n
@@ -109,7 +109,7 @@ module _ {L : Type 0} (told : L → List Line) where
   log_is v cut (Log l ∷ ps) c is kept = let o = log_at cut v.opening.parts is in sym ((c.stands 0 (Log o.0) (Log l) o.1 refl).sound kept)
   log_is v cut (Shard s ∷ ps) c is kept = absurd (let o = log_at cut v.opening.parts is in not_shard o.0 s (c.stands 0 (Log o.0) (Shard s) o.1 refl).covers)
 
-  pub closed_whole : (v u : TheView) (cut : ℕ) (ends : List (End L)) (parts : List Part) → (v.own ≡ []) × (v.opening.history ≡ []) → is_cut cut u.opening.parts ≡ true → u.opening.kept ≡ true → HasServed told v u ends → Closes part_means u parts → IsWhole told ends (log_of parts)
+  pub closed_whole : (v u : TheView) (cut : ℕ) (ends : List (End L)) (parts : List Part) → (v.own ≡ []) × (v.opening.history ≡ []) → is_cut cut u.opening.parts ≡ true → u.opening.kept ≡ true → HasServed told v u ends → Closes part_means u parts → IsOneHistory told ends (log_of parts)
   closed_whole v u cut ends parts empty is kept s c = let same = log_is u cut parts c is kept in record {
     talks = λ k x at. talk_from (log_of parts) (length v.seen) 0 (told x.link) (own_of x) (omega arith) (talk_on u.seen (log_of parts) (length v.seen) (told x.link) (own_of x) (subst (λ (h : List Block). IsPrefix u.seen h) same c.seen) (s.talks k x at));
     once_each = λ n. ap (times n) (sym (s.own ∙ ap (λ z. z ++ owns ends) empty.0)) ∙ c.own n ∙ (λ i. once (length ((ap (λ o. o.history) s.opening ∙ empty.1) i)) (length (same i)) n);

@@ -13,7 +13,7 @@ use Rattle.vt_turns_example.specs.declared.link.Ask.TheVariants.{Write, Look}
 use Rattle.vt_turns_example.specs.declared.link.Said.{Said}
 use Rattle.vt_turns_example.specs.declared.link.Said.TheVariants.{Added, Held, Collision, NoMemory, Absent, Unknown}
 use Rattle.vt_turns_example.specs.declared.link.Line.{Line}
-use Rattle.vt_turns_example.specs.Talk.{Answers, Adds, Tells, IsTalk}
+use Rattle.vt_turns_example.specs.Talk.{AnswersAsk, Adds, TellsLine, IsTalk}
 use Rattle.vt_turns_example.specs.Stores.{Pass, TheView, Answered}
 use Rattle.vt_turns_example.specs.Work.{Works}
 
@@ -41,11 +41,11 @@ adds_more ask NoMemory at h added rest more a = ap (λ (z : List ℕ). z ++ more
 adds_more ask Absent at h added rest more a = ap (λ (z : List ℕ). z ++ more) a
 adds_more ask Unknown at h added rest more a = ap (λ (z : List ℕ). z ++ more) a
 
-tells_on : (h g : List Block) (from : ℕ) (l : Line) (added rest : List ℕ) → IsPrefix h g → Tells h from l added rest → Tells g from l added rest
+tells_on : (h g : List Block) (from : ℕ) (l : Line) (added rest : List ℕ) → IsPrefix h g → TellsLine h from l added rest → TellsLine g from l added rest
 tells_on h g from l added rest p t = record {
   since = t.since;
   within = let le = prefix_length h g p in let w = t.within in omega arith;
-  answers = subst (λ (z : List Block). Answers l.ask l.said z) (sym (take_same l.at h g p t.within)) t.answers;
+  answers = subst (λ (z : List Block). AnswersAsk l.ask l.said z) (sym (take_same l.at h g p t.within)) t.answers;
   adds = adds_on l.ask l.said l.at h g added rest p t.adds;
 }
 
@@ -88,7 +88,7 @@ one_talk v w line ask is a = (
   record {
     since = a.since;
     within = a.within;
-    answers = subst (λ (q : Ask). Answers q line.said (take line.at w.seen)) (sym is) a.answers;
+    answers = subst (λ (q : Ask). AnswersAsk q line.said (take line.at w.seen)) (sym is) a.answers;
     adds = subst (λ (q : Ask). Adds q line.said line.at w.seen a.added []) (sym is) a.adds;
   },
   refl,

@@ -3,9 +3,9 @@ use Rattle.std.specs.Prelude.{ℕ, suc, ◌==◌, if◌then◌else◌, List, [],
 use Rattle.vt_turns_example.specs.declared.part.Block.{Block}
 
 -- the value of the first block of a key
-abbrev pub held : List Block → (key : ℕ) → Option ℕ
-held [] key = None
-held (b ∷ bs) key = if b.key == key then Some b.value else held bs key
+abbrev pub held_value : List Block → (key : ℕ) → Option ℕ
+held_value [] key = None
+held_value (b ∷ bs) key = if b.key == key then Some b.value else held_value bs key
 
 -- the number of that block, counted from n
 abbrev pub number_from : (n : ℕ) → List Block → (key : ℕ) → Option ℕ

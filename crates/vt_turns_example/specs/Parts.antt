@@ -34,15 +34,15 @@ log_of (Log l ∷ parts) = l.blocks.items
 log_of (Shard s ∷ parts) = []
 
 -- the place of a key's bit, of 128
-abbrev pub place_of : (key : ℕ) → ℕ
-place_of key = key % 128
+abbrev pub bit_place : (key : ℕ) → ℕ
+bit_place key = key % 128
 
 -- nothing is on a disk: no block is durable, no entry is filed, no device fails
 abbrev pub part_means : Meaning Part Block
 part_means = record {
   sound = λ o. sound_for o.kept;
   covers = covers;
-  places = λ b. place_of b.key ∷ [];
+  places = λ b. bit_place b.key ∷ [];
   front = front_of;
   durable = λ x. 0;
   within = λ o n x. Unit {0};

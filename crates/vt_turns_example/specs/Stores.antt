@@ -11,7 +11,7 @@ use Rattle.vt_turns_example.specs.declared.store.Store.{Store}
 use Rattle.vt_turns_example.specs.declared.link.Ask.{Ask}
 use Rattle.vt_turns_example.specs.declared.link.Said.{Said}
 use Rattle.vt_turns_example.specs.declared.link.Said.TheVariants.{Held, Collision}
-use Rattle.vt_turns_example.specs.Talk.{Answers, Adds}
+use Rattle.vt_turns_example.specs.Talk.{AnswersAsk, Adds}
 
 abbrev pub Pass : Type 0
 Pass = Seat (Option Part) (View Part Block)
@@ -20,13 +20,13 @@ abbrev pub TheView : Type 0
 TheView = View Part Block
 
 -- a pass of this store, with a share
-abbrev pub IsIn : Store → Pass → Type 0
-IsIn store p =
+abbrev pub IsPassOfStore : Store → Pass → Type 0
+IsPassOfStore store p =
     IsPassOf store.turns p × (p.me.0.opening ≡ opening_of store.turns) × (0 < p.me.0.share)
 
 -- the same, which holds no part
 abbrev pub IsFree : Store → Pass → Type 0
-IsFree store p = IsIn store p × HoldsNone (view p)
+IsFree store p = IsPassOfStore store p × HoldsNone (view p)
 
 -- the log and the shard of this number were given back, and nothing was seen or added
 pub record GaveBoth (number : ℕ) (v w : TheView) : Type 0 where
@@ -36,15 +36,15 @@ pub record GaveBoth (number : ℕ) (v w : TheView) : Type 0 where
   pub share : w.share ≡ v.share
 
 -- a key that has the value x is found when the value y is written
-abbrev pub compared : (x y : ℕ) → Said
-compared x y = if x == y then Held else Collision
+abbrev pub compared_values : (x y : ℕ) → Said
+compared_values x y = if x == y then Held else Collision
 
 -- what was asked is answered by the first `at` blocks of what is then seen
 pub record Answered (v : TheView) (ask : Ask) (said : Said) (at : ℕ) (w : TheView) : Type 0 where
   pub since : length v.seen ≤ at
   pub within : at ≤ length w.seen
   pub goes_on : IsPrefix v.seen w.seen
-  pub answers : Answers ask said (take at w.seen)
+  pub answers : AnswersAsk ask said (take at w.seen)
   pub added : List ℕ
   pub own : w.own ≡ v.own ++ added
   pub adds : Adds ask said at w.seen added []

@@ -11,7 +11,7 @@ use Rattle.vt_turns_example.specs.declared.link.Line.{Line}
 use Rattle.vt_turns_example.specs.declared.workers.Started.{Started}
 use Rattle.vt_turns_example.specs.declared.workers.Started.TheVariants.{Runs, Done}
 use Rattle.vt_turns_example.specs.declared.workers.End.{End}
-use Rattle.vt_turns_example.specs.Stores.{Pass, TheView, IsIn}
+use Rattle.vt_turns_example.specs.Stores.{Pass, TheView, IsPassOfStore}
 use Rattle.vt_turns_example.specs.Talk.{IsTalk}
 use Rattle.vt_turns_example.specs.Work.{Works}
 
@@ -50,14 +50,14 @@ module _ {L : Type 0} where
 
 module _ {L : Type 0} (told : L → List Line) where
   -- the worker was started with this pass
-  abbrev pub Begins : Pass → Started L → Type 0
-  Begins p (Runs h) = h.promise.was.value ≡ p
-  Begins p (Done s) = Works p s.pass (told s.link)
+  abbrev pub BeginsWorker : Pass → Started L → Type 0
+  BeginsWorker p (Runs h) = h.promise.was.value ≡ p
+  BeginsWorker p (Done s) = Works p s.pass (told s.link)
 
   -- each worker was started with a pass of its own, which knew what v knows
   abbrev pub AllBegun : Store → TheView → List (Started L) → Type 0
   AllBegun store v all = (k : ℕ) (s : Started L) → get_elem? all k ≡ some s
-      → (p : Pass) × (p.me.0 ≡ split_off v) × IsIn store p × Begins p s
+      → (p : Pass) × (p.me.0 ≡ split_off v) × IsPassOfStore store p × BeginsWorker p s
 
   -- so many workers were started by the pass with view v, which then has view u
   abbrev pub Begun : Store → (v u : TheView) → List (Started L) → Type 0
@@ -81,7 +81,7 @@ module _ {L : Type 0} (told : L → List Line) where
 
   -- the links were told of one history, which is the log's, and each of its blocks was added by
   -- exactly one worker
-  pub record IsWhole (ends : List (End L)) (history : List Block) : Type 0 where
+  pub record IsOneHistory (ends : List (End L)) (history : List Block) : Type 0 where
     pub talks : (k : ℕ) (e : End L) → get_elem? ends k ≡ some e
         → IsTalk history 0 (told e.link) (own_of e)
     pub once_each : (n : ℕ) → times n (owns ends) ≡ once 0 (length history) n

@@ -3,7 +3,7 @@
 ghost use Rattle.std.specs.Prelude.{◌<◌, IfSome};
 ghost use Rattle.vt_turns_example.specs.Keys.{IsKey};
 ghost use Rattle.vt_turns_example.specs.Parts.{log_of};
-ghost use Rattle.vt_turns_example.specs.Workers.{IsWhole};
+ghost use Rattle.vt_turns_example.specs.Workers.{IsOneHistory};
 
 use crate::link::Listener;
 use crate::opening::{PARTS, open};
@@ -26,7 +26,7 @@ pub fn run<R: Threads + Wait + Sync, D: Listener + Drop>(
 ) -> (D, Option<(Vec<End<D::Link>>, Vec<Part>)>)
     requires cut { IsKey cut }
     requires count { count < 65536 }
-    ensures whole { IfSome result.1 (λ r. IsWhole D.Link.told r.0.items (log_of r.1.items)) }
+    ensures whole { IfSome result.1 (λ r. IsOneHistory D.Link.told r.0.items (log_of r.1.items)) }
 {
     let Ok(room) = Vec::with_capacity(alloc, PARTS) else {
         return (listener, None);

@@ -6,7 +6,7 @@ ghost use Rattle.vt_turns.specs.Views.{view, HoldsNone};
 ghost use Rattle.vt_turns.specs.Calls.{IsPassOf};
 ghost use Rattle.vt_turns_example.specs.Stores.{IsFree};
 ghost use Rattle.vt_turns_example.specs.Work.{Works};
-ghost use Rattle.vt_turns_example.specs.Workers.{Begins, AllBegun, Begun, Joins, HasServed, ServedTwo, less};
+ghost use Rattle.vt_turns_example.specs.Workers.{BeginsWorker, AllBegun, Begun, Joins, HasServed, ServedTwo, less};
 
 use crate::link::{Link, Listener};
 use crate::part::{Block, Part};
@@ -74,7 +74,7 @@ fn start<'s, E: 's, R: Wait + Sync, L: Link + Send + Drop + 's>(
 ) -> Started<L>
     requires free { IsFree store.now pass }
     requires fresh { L.told link ≡ [] }
-    ensures { Begins L.told pass result }
+    ensures { BeginsWorker L.told pass result }
 {
     let promise = Serves {
         was: Snapshot::of(&pass),
@@ -94,7 +94,7 @@ fn start<'s, E: 's, R: Wait + Sync, L: Link + Send + Drop + 's>(
 
 /// Waits for a worker.
 fn finish<R: Threads, L: Link>(rt: &R, started: Started<L>) -> Served<L>
-    ensures { (p : _) → Begins L.told p started → Works p result.pass (L.told result.link) }
+    ensures { (p : _) → BeginsWorker L.told p started → Works p result.pass (L.told result.link) }
 {
     match started {
         Started::Runs(handle) => handle.join(rt),

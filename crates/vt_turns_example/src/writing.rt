@@ -9,8 +9,8 @@ ghost use lib.ListN.{get_elem?};
 ghost use Rattle.vt_turns.specs.Views.{view, turn_of, holding, booking, without};
 ghost use Rattle.vt_turns.specs.Calls.{MayBook};
 ghost use Rattle.vt_turns_example.specs.Keys.{IsKey};
-ghost use Rattle.vt_turns_example.specs.Parts.{part_means, covers_key, sound_for, place_of};
-ghost use Rattle.vt_turns_example.specs.Stores.{IsIn, IsFree, GaveBoth, Answered, compared};
+ghost use Rattle.vt_turns_example.specs.Parts.{part_means, covers_key, sound_for, bit_place};
+ghost use Rattle.vt_turns_example.specs.Stores.{IsPassOfStore, IsFree, GaveBoth, Answered, compared_values};
 
 use crate::link::{Ask, Line, Said};
 use crate::part::{Block, Log, Part, Shard};
@@ -20,7 +20,7 @@ use vt_turns::Pass;
 
 /// The place of a key's bit, of 128.
 fn place_of(key: u64) -> u32
-    ensures { result ≡ place_of key }
+    ensures { result ≡ bit_place key }
 {
     (key % 128) as u32
 }
@@ -47,7 +47,7 @@ fn put(log: &mut Log, shard: &mut Shard, block: Block, number: u64) -> bool
 fn compare(log: &Log, number: u64, value: u64) -> Said
     requires near { number < length log.now.blocks.items }
     ensures { (b : Block) → get_elem? log.now.blocks.items number ≡ some b
-        → result ≡ compared b.value value }
+        → result ≡ compared_values b.value value }
 {
     if log.blocks[number as usize].value == value {
         Said::Held
@@ -67,9 +67,9 @@ impl Store {
 
     /// The shard of a key, with its number.
     fn take_shard<R: Wait>(&self, rt: &R, pass: &mut Pass<Part, Block>, key: u64) -> (Shard, u32)
-        requires own { IsIn self.now pass.old }
+        requires own { IsPassOfStore self.now pass.old }
         requires key { IsKey key }
-        ensures own { IsIn self.now pass.new }
+        ensures own { IsPassOfStore self.now pass.new }
         ensures view { (h : List Block) × (view pass.new
             ≡ holding part_means result.1 h (Part.Shard result.0) (view pass.old)) }
         ensures number { (0 < result.1) × (result.1 < 3) }
@@ -83,8 +83,8 @@ impl Store {
     }
 
     fn take_log<R: Wait>(&self, rt: &R, pass: &mut Pass<Part, Block>) -> Log
-        requires own { IsIn self.now pass.old }
-        ensures own { IsIn self.now pass.new }
+        requires own { IsPassOfStore self.now pass.old }
+        ensures own { IsPassOfStore self.now pass.new }
         ensures view { (h : List Block) × (view pass.new
             ≡ holding part_means 0 h (Part.Log result) (view pass.old))
             × IsPrefix (view pass.old).seen h × (length result.blocks.items ≡ length h) }
@@ -99,11 +99,11 @@ impl Store {
 
     /// Books a part and gives it back.
     fn put_back(&self, pass: &mut Pass<Part, Block>, number: u32, part: Part)
-        requires own { IsIn self.now pass.old }
+        requires own { IsPassOfStore self.now pass.old }
         requires number { number < 3 }
         requires books { (x : Part) × (turn_of (view pass.old) number ≡ Some x)
             × MayBook part_means (view pass.old) number x part }
-        ensures own { IsIn self.now pass.new }
+        ensures own { IsPassOfStore self.now pass.new }
         ensures view { (x : Part) → turn_of (view pass.old) number ≡ Some x → view pass.new
             ≡ without number (booking part_means number x part (view pass.old)) }
     {
@@ -113,14 +113,14 @@ impl Store {
 
     /// The log and a shard go back, of which only the room has changed.
     fn give_both(&self, pass: &mut Pass<Part, Block>, log: Log, number: u32, shard: Shard)
-        requires own { IsIn self.now pass.old }
+        requires own { IsPassOfStore self.now pass.old }
         requires number { (0 < number) × (number < 3) }
         requires log { (l : _) × (turn_of (view pass.old) 0 ≡ Some (Part.Log l))
             × (l.blocks.items ≡ log.blocks.items) }
         requires shard { (s : _) × (turn_of (view pass.old) number ≡ Some (Part.Shard s))
             × (s.numbers.entries ≡ shard.numbers.entries) × (s.low ≡ shard.low)
             × (s.high ≡ shard.high) }
-        ensures own { IsIn self.now pass.new }
+        ensures own { IsPassOfStore self.now pass.new }
         ensures same { ((view pass.new).seen ≡ (view pass.old).seen)
             × ((view pass.new).own ≡ (view pass.old).own) }
         ensures gave { GaveBoth number (view pass.old) (view pass.new) }
@@ -138,14 +138,14 @@ impl Store {
         mut shard: Shard,
         block: Block,
     ) -> Said
-        requires own { IsIn self.now pass.old }
+        requires own { IsPassOfStore self.now pass.old }
         requires number { (0 < number) × (number < 3) }
         requires log { turn_of (view pass.old) 0 ≡ Some (Part.Log log) }
         requires shard { turn_of (view pass.old) number ≡ Some (Part.Shard shard) }
         requires front { length log.blocks.items ≡ length (view pass.old).seen }
         requires covers { covers_key shard block.key ≡ true }
         requires new { get nat_cmp shard.numbers block.key ≡ None }
-        ensures own { IsIn self.now pass.new }
+        ensures own { IsPassOfStore self.now pass.new }
         ensures said { (result ≡ Said.Added × ((view pass.new).seen
             ≡ (view pass.old).seen ++ block ∷ []) × ((view pass.new).own
             ≡ (view pass.old).own ++ length (view pass.old).seen ∷ []))

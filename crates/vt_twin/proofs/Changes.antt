@@ -2,44 +2,44 @@
 use Rattle.std.proofs.Common.{◌≡◌, ◌⊎◌, inl, inr, ⊎_elim, ℕ, ◌+◌, ◌≤◌, Bool, true, false, if◌then◌else◌, [], length, Option, Some, None, refl, sym, ◌∙◌, ap, subst, arith}
 use Rattle.std.specs.Prelude.{IsSome}
 use Rattle.std.specs.Option.{ForSome, option_map_or}
-use Rattle.vt_twin.specs.Twin.{Change, TwinState, calls_made, calls_begun, after_call}
+use Rattle.vt_twin.specs.Twin.{FrameChange, TwinState, twin_calls_made, calls_begun, after_call}
 
 -- at most one call that was begun has failed
-pub begun_bound : (t : TwinState) → calls_begun t ≤ calls_made t + 1
+pub begun_bound : (t : TwinState) → calls_begun t ≤ twin_calls_made t + 1
 begun_bound t = bound t.failed
   where
-    bound : (b : Bool) → calls_made t + (if b then 1 else 0) ≤ calls_made t + 1
+    bound : (b : Bool) → twin_calls_made t + (if b then 1 else 0) ≤ twin_calls_made t + 1
     bound true = omega arith
     bound false = omega arith
 
 -- a selector's write that was begun is behind two calls
-pub begun_made : (t : TwinState) → 3 ≤ calls_begun t → 2 ≤ calls_made t
+pub begun_made : (t : TwinState) → 3 ≤ calls_begun t → 2 ≤ twin_calls_made t
 begun_made t begun = omega (arith, begun, begun_bound t)
 
 -- with no change under way no call of one was made
-pub none_made : (t : TwinState) → t.change ≡ None → calls_made t ≡ 0
-none_made t none = ap (λ (change : Option Change). option_map_or (λ it. it.made) change 0) none
+pub none_made : (t : TwinState) → t.change ≡ None → twin_calls_made t ≡ 0
+none_made t none = ap (λ (change : Option FrameChange). option_map_or (λ it. it.made) change 0) none
 
-pub some_change : (change : Option Change) → change ≡ None ⊎ IsSome change
+pub some_change : (change : Option FrameChange) → change ≡ None ⊎ IsSome change
 some_change None = inl refl
 some_change (Some it) = inr refl
 
-pub some_none : (change : Option Change) → IsSome change → change ≡ None → ⊥
+pub some_none : (change : Option FrameChange) → IsSome change → change ≡ None → ⊥
 some_none change some none = cc
 
 -- a call that was made is one of a change
-pub is_changing : (t : TwinState) → 1 ≤ calls_made t → IsSome t.change
+pub is_changing : (t : TwinState) → 1 ≤ twin_calls_made t → IsSome t.change
 is_changing t made = ⊎_elim (λ none. absurd (omega (arith, made, none_made t none))) (λ some. some) (some_change t.change)
 
 -- so is a selector's write that was begun
-pub begun_some : (change : Option Change) (failed : Bool)
+pub begun_some : (change : Option FrameChange) (failed : Bool)
     → 3 ≤ option_map_or (λ it. it.made) change 0 + (if failed then 1 else 0) → IsSome change
 begun_some None true begun = absurd (omega arith)
 begun_some None false begun = absurd (omega arith)
 begun_some (Some it) failed begun = refl
 
 -- the frame of a change under way
-pub brings_length : (change : Option Change) (n : ℕ) → IsSome change
+pub brings_length : (change : Option FrameChange) (n : ℕ) → IsSome change
     → ForSome change (λ it. length it.frame ≡ n)
     → length (option_map_or (λ it. it.frame) change []) ≡ n
 brings_length None n some each = absurd (cc)
@@ -52,7 +52,7 @@ HasLength n t = ForSome t.change (λ it. length it.frame ≡ n)
 pub call_length : (n : ℕ) (old new : TwinState) → new ≡ after_call old → IsSome old.change
     → HasLength n old → HasLength n new
 call_length n old new steps some each = subst (HasLength n) (sym steps)
-    (λ it is. sym (ap (λ (o : Option Change). option_map_or (λ x. length x.frame) o 0) is)
+    (λ it is. sym (ap (λ (o : Option FrameChange). option_map_or (λ x. length x.frame) o 0) is)
     ∙ brings_length old.change n some each)
 
 pub call_changes : (old new : TwinState) → new ≡ after_call old → IsSome new.change

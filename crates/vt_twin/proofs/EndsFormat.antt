@@ -9,14 +9,14 @@ use Rattle.vt_disk.specs.Region.{Inside}
 use Rattle.vt_disk.proofs.Bytes.{length-with_bytes, part-with_bytes, with_bytes_within, same_but_written}
 use Rattle.vt_disk.proofs.Calls.{writes_then, writes_wider, reads_as_writes}
 use Rattle.vt_twin.specs.Formatting.{TouchedByFirst}
-use Rattle.vt_twin.specs.Frames.{HasRoom, frame_start, selector_start, selector_len, selector_bytes, frame_of, current_frame}
+use Rattle.vt_twin.specs.Frames.{FitsTwin, frame_start, selector_start, selector_len, selector_bytes, frame_of, current_frame}
 use Rattle.vt_twin.proofs.Places.{frame_apart, selector_apart, frame_within, selector_within, frame_same}
 
 -- what a write of the selector touches
 abbrev Selector : Region → (n : ℕ) → ℕ → Type 0
 Selector region n = Touches (selector_start region n) (selector_len region n)
 
-module _ (region : Region) (n size : ℕ) (room : HasRoom region n size) where
+module _ (region : Region) (n size : ℕ) (room : FitsTwin region n size) where
   -- frame 0 begins with the region
   at_start : region.start + 0 ≡ frame_start region n (1 - 1)
   at_start = omega arith
@@ -55,7 +55,7 @@ framed region frame file = with_bytes (region.start + 0) frame file
 abbrev pub formatted : Region → (frame file : List ℕ) → List ℕ
 formatted region frame file = with_bytes (selector_start region (length frame)) (selector_bytes 0 (selector_len region (length frame))) (framed region frame file)
 
-module _ (region : Region) (frame file : List ℕ) (size : ℕ) (room : HasRoom region (length frame) size) (fits : length file ≡ size) where
+module _ (region : Region) (frame file : List ℕ) (size : ℕ) (room : FitsTwin region (length frame) size) (fits : length file ≡ size) where
   frame_fits : region.start + 0 + length frame ≤ length file
   frame_fits = omega (arith, fits, room.within, room.least)
 

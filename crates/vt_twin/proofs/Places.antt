@@ -13,9 +13,9 @@ use Rattle.vt_disk.proofs.Calls.{writes_wider}
 use Rattle.vt_disk.specs.DeviceCalls.{TouchedBy}
 use Rattle.vt_twin.specs.declared.calls.Stage.{Stage}
 use Rattle.vt_twin.specs.declared.calls.Stage.TheVariants.{WriteFrame, SyncFrame, WriteSelector, SyncSelector}
-use Rattle.vt_twin.specs.Frames.{HasRoom, frame_start, selector_start, selector_len, selector_bytes, frame_of, named_number}
-use Rattle.vt_twin.specs.Calls.{call_at, number_of}
-use Rattle.vt_twin.specs.Sound.{HasFrame, Names}
+use Rattle.vt_twin.specs.Frames.{FitsTwin, frame_start, selector_start, selector_len, selector_bytes, frame_of, named_number}
+use Rattle.vt_twin.specs.Calls.{call_at, stage_number}
+use Rattle.vt_twin.specs.Sound.{HasFrame, NamesFrame}
 
 -- frame 0 or 1 ends where the selector begins, or before it
 pub frame_bound : (n number : ℕ) → number < 2 → n * number ≤ n
@@ -28,7 +28,7 @@ frame_bound n number two = omega (arith, mul-le-mul_left n (most number two))
 abbrev pub InFrame : Region → (n number i : ℕ) → Type 0
 InFrame region n number i = (frame_start region n number ≤ i) × (i < frame_start region n number + n)
 
-module _ (region : Region) (n size : ℕ) (room : HasRoom region n size) where
+module _ (region : Region) (n size : ℕ) (room : FitsTwin region n size) where
   -- what a write of a frame touches lies in that frame
   in_frame : (number i : ℕ) → Touches (frame_start region n number) n i → InFrame region n number i
   in_frame number i touched =
@@ -83,7 +83,7 @@ module _ (region : Region) (n size : ℕ) (room : HasRoom region n size) where
 
   module _ (current : ℕ) (two : current < 2) (frame : List ℕ) (whole : length frame ≡ n) where
     abbrev TouchedAt : Stage → ℕ → Type 0
-    TouchedAt stage = TouchedBy (call_at (number_of stage) region n current frame)
+    TouchedAt stage = TouchedBy (call_at (stage_number stage) region n current frame)
 
     touches_frame : (i : ℕ) → TouchedAt WriteFrame i → InFrame region n (1 - current) i
     touches_frame i touched = in_frame (1 - current) i (subst (λ (k : ℕ). Touches (frame_start region n (1 - current)) k i) whole touched)
@@ -99,14 +99,14 @@ module _ (region : Region) (n size : ℕ) (room : HasRoom region n size) where
     current_free SyncSelector i here touched = touched
 
     -- none but the first touches the idle one
-    pub idle_free : (stage : Stage) → 1 ≤ number_of stage → (i : ℕ) → InFrame region n (1 - current) i → ¬ TouchedAt stage i
+    pub idle_free : (stage : Stage) → 1 ≤ stage_number stage → (i : ℕ) → InFrame region n (1 - current) i → ¬ TouchedAt stage i
     idle_free WriteFrame later i here touched = omega (arith, later)
     idle_free SyncFrame later i here touched = touched
     idle_free WriteSelector later i here touched = before_selector (1 - current) i (omega arith) here (touches_selector i touched).0
     idle_free SyncSelector later i here touched = touched
 
     -- none but the third touches the selector
-    pub selector_free : (stage : Stage) → ¬ (number_of stage ≡ 2) → ¬ TouchedAt stage (selector_start region n)
+    pub selector_free : (stage : Stage) → ¬ (stage_number stage ≡ 2) → ¬ TouchedAt stage (selector_start region n)
     selector_free WriteFrame other touched =
         before_selector (1 - current) (selector_start region n) (omega arith) (touches_frame (selector_start region n) touched) (omega arith)
     selector_free SyncFrame other touched = touched
@@ -149,7 +149,7 @@ module _ (P : ℕ → Type 0) (region : Region) (n : ℕ) where
         let from = changes c left in
         frame_same number free from.0 c from.2 ∙ has from.0 from.1
 
-    pub names_same : ¬ P (selector_start region n) → (number : ℕ) → Names region n number before → Names region n number after
+    pub names_same : ¬ P (selector_start region n) → (number : ℕ) → NamesFrame region n number before → NamesFrame region n number after
     names_same free number names c left =
         let from = changes c left in
         named_same free from.0 c from.2 ∙ names from.0 from.1

@@ -4,17 +4,17 @@ use Rattle.std.specs.Prelude.{slice_index}
 use Rattle.vt_disk.specs.declared.region.Region.{Region}
 use Rattle.vt_disk.specs.Disk.{SameBut, AreAmong, ChangesAt, part}
 use Rattle.vt_disk.specs.Region.{Inside}
-use Rattle.vt_twin.specs.Frames.{HasRoom, selector_start}
+use Rattle.vt_twin.specs.Frames.{FitsTwin, selector_start}
 use Rattle.vt_twin.specs.Twin.{TwinState, fresh, next_frame, with_change, without_spare}
-use Rattle.vt_twin.specs.Sound.{IsSound}
+use Rattle.vt_twin.specs.Sound.{IsSoundTwin}
 use Rattle.vt_twin.proofs.Changes.{begun_bound, none_made}
 use Rattle.vt_twin.proofs.Places.{InFrame, frame_inside, selector_inside, frame_same, named_same, has_same, names_same}
 
 -- what is done to the rest of the disk
-pub sound_elsewhere : (t : TwinState) (region : Region) (size : ℕ) → HasRoom region t.frame_len size
+pub sound_elsewhere : (t : TwinState) (region : Region) (size : ℕ) → FitsTwin region t.frame_len size
     → (P : ℕ → Type 0) → ((i : ℕ) → P i → ¬ Inside region i)
     → (old read reads : List ℕ) (before after : List ℕ → Type 0) → SameBut P read reads → ChangesAt P before after
-    → IsSound t region old read before → IsSound t region old reads after
+    → IsSoundTwin t region old read before → IsSoundTwin t region old reads after
 sound_elsewhere t region size room P apart old read reads before after same changes sound = record {
   number = sound.number;
   kept = has_same P region t.frame_len before after changes t.current (free t.current sound.number) old sound.kept;
@@ -35,7 +35,7 @@ sound_elsewhere t region size room P apart old read reads before after same chan
 
 -- one at rest is sound as a fresh one
 pub rests_fresh : (t : TwinState) (region : Region) (old read : List ℕ) (images : List ℕ → Type 0) → t.change ≡ None
-    → IsSound t region old read images → IsSound (fresh t.frame_len t.current) region old read images
+    → IsSoundTwin t region old read images → IsSoundTwin (fresh t.frame_len t.current) region old read images
 rests_fresh t region old read images none sound = record {
   number = sound.number;
   kept = sound.kept;
@@ -47,7 +47,7 @@ rests_fresh t region old read images none sound = record {
 
 -- a read or a sync
 pub reads_sound : (t : TwinState) (region : Region) (old read reads : List ℕ) (images after : List ℕ → Type 0) → reads ≡ read → AreAmong after images
-    → IsSound t region old read images → IsSound t region old reads after
+    → IsSoundTwin t region old read images → IsSoundTwin t region old reads after
 reads_sound t region old read reads images after same among sound = record {
   number = sound.number;
   kept = λ c left. sound.kept c (among c left);
@@ -59,7 +59,7 @@ reads_sound t region old read reads images after same among sound = record {
 
 -- a change begins
 pub begins_sound : (t : TwinState) (frame : List ℕ) (region : Region) (old read : List ℕ) (images : List ℕ → Type 0) → t.change ≡ None
-    → IsSound t region old read images → IsSound (with_change frame t) region old read images
+    → IsSoundTwin t region old read images → IsSoundTwin (with_change frame t) region old read images
 begins_sound t frame region old read images none it = record {
   number = it.number;
   kept = it.kept;
@@ -71,7 +71,7 @@ begins_sound t frame region old read images none it = record {
 
 -- the buffer is handed back
 pub idle_sound : (t : TwinState) (region : Region) (old read : List ℕ) (images : List ℕ → Type 0)
-    → IsSound t region old read images → IsSound (without_spare t) region old read images
+    → IsSoundTwin t region old read images → IsSoundTwin (without_spare t) region old read images
 idle_sound t region old read images it = record {
   number = it.number;
   kept = it.kept;
@@ -82,7 +82,7 @@ idle_sound t region old read images it = record {
 }
 
 -- a twin is found by its region's start
-pub sound_moved : (t : TwinState) (r s : Region) (old read : List ℕ) (images : List ℕ → Type 0) → r.start ≡ s.start → IsSound t r old read images → IsSound t s old read images
+pub sound_moved : (t : TwinState) (r s : Region) (old read : List ℕ) (images : List ℕ → Type 0) → r.start ≡ s.start → IsSoundTwin t r old read images → IsSoundTwin t s old read images
 sound_moved t r s old read images same sound = record {
   number = sound.number;
   kept = λ c left. ap (λ (p : ℕ). part (p + t.frame_len * t.current) t.frame_len c) (sym same) ∙ sound.kept c left;

@@ -9,23 +9,23 @@ use Rattle.vt_disk.specs.DeviceCalls.{TouchedBy, bytes_after}
 use Rattle.vt_disk.specs.DeviceCalls.DeviceCall.{sync}
 use Rattle.vt_twin.specs.declared.calls.Stage.{Stage}
 use Rattle.vt_twin.specs.declared.calls.Stage.TheVariants.{WriteFrame, SyncFrame, WriteSelector, SyncSelector}
-use Rattle.vt_twin.specs.Frames.{HasRoom, frame_start, selector_start, selector_len, selector_bytes, frame_of, named_number, current_frame}
-use Rattle.vt_twin.specs.Twin.{TwinState, calls_made, calls_begun, next_frame, after_call, after_last, after_fault}
-use Rattle.vt_twin.specs.Calls.{call_at, next_stage, number_of}
-use Rattle.vt_twin.specs.Sound.{HasFrame, Names, IsSound, HasBegunSelector, GivesOldOrNew}
+use Rattle.vt_twin.specs.Frames.{FitsTwin, frame_start, selector_start, selector_len, selector_bytes, frame_of, named_number, current_frame}
+use Rattle.vt_twin.specs.Twin.{TwinState, twin_calls_made, calls_begun, next_frame, after_call, twin_after_last, twin_after_fault}
+use Rattle.vt_twin.specs.Calls.{call_at, next_stage, stage_number}
+use Rattle.vt_twin.specs.Sound.{HasFrame, NamesFrame, IsSoundTwin, TwinHasBegunSelector, GivesOldOrNew}
 use Rattle.vt_twin.proofs.Changes.{begun_bound}
 use Rattle.vt_twin.proofs.Places.{current_free, idle_free, selector_free, frame_same, named_same, has_same, names_same, frame_bound}
 
 -- the call behind this one has the next number
-pub next_number : (stage later : Stage) → next_stage stage ≡ Some later → number_of later ≡ number_of stage + 1
+pub next_number : (stage later : Stage) → next_stage stage ≡ Some later → stage_number later ≡ stage_number stage + 1
 next_number WriteFrame later is = cc
 next_number SyncFrame later is = cc
 next_number WriteSelector later is = cc
 next_number SyncSelector later is = cc
 
 -- what a crash between two calls leaves
-pub sound_gives : (t : TwinState) (region : Region) (old read : List ℕ) (images : List ℕ → Type 0) → IsSound t region old read images
-    → (c : List ℕ) → images c → GivesOldOrNew (HasBegunSelector t) region t.frame_len old (next_frame t) c
+pub sound_gives : (t : TwinState) (region : Region) (old read : List ℕ) (images : List ℕ → Type 0) → IsSoundTwin t region old read images
+    → (c : List ℕ) → images c → GivesOldOrNew (TwinHasBegunSelector t) region t.frame_len old (next_frame t) c
 sound_gives t region old read images sound c left = ⊎_elim
     (λ (few : calls_begun t < 3). inl (gives old (sound.named (λ begun. omega (arith, few, begun)) c left) sound.kept))
     (λ (begun : 3 ≤ calls_begun t). ⊎_elim
@@ -41,9 +41,9 @@ sound_gives t region old read images sound c left = ⊎_elim
 
 -- what a crash within a call leaves, by the twin before it and after it
 pub crash_gives : (t later : TwinState) (region : Region) (old read reads : List ℕ) (before after : List ℕ → Type 0)
-    → IsSound t region old read before → IsSound later region old reads after
-    → later.frame_len ≡ t.frame_len → next_frame later ≡ next_frame t → calls_begun later ≤ calls_made t + 1
-    → (c : List ℕ) → WithinCall before after c → GivesOldOrNew (2 ≤ calls_made t) region t.frame_len old (next_frame t) c
+    → IsSoundTwin t region old read before → IsSoundTwin later region old reads after
+    → later.frame_len ≡ t.frame_len → next_frame later ≡ next_frame t → calls_begun later ≤ twin_calls_made t + 1
+    → (c : List ℕ) → WithinCall before after c → GivesOldOrNew (2 ≤ twin_calls_made t) region t.frame_len old (next_frame t) c
 crash_gives t later region old read reads before after sound sound_later same_len same_frame begun c left = ⊎_elim
     (λ (was : before c). ⊎_elim inl (λ gives. inr (omega (arith, gives.0, begun_bound t), gives.1)) (sound_gives t region old read before sound c was))
     (λ (is : after c). ⊎_elim
@@ -52,48 +52,48 @@ crash_gives t later region old read reads before after sound sound_later same_le
     (sound_gives later region old reads after sound_later c is))
     left
 
-module _ (t : TwinState) (region : Region) (size : ℕ) (room : HasRoom region t.frame_len size)
-    (old read reads : List ℕ) (before after : List ℕ → Type 0) (stage : Stage) (made : calls_made t ≡ number_of stage) (whole : length (next_frame t) ≡ t.frame_len)
-    (same : SameBut (TouchedBy (call_at (number_of stage) region t.frame_len t.current (next_frame t))) read reads)
-    (changes : ChangesAt (TouchedBy (call_at (number_of stage) region t.frame_len t.current (next_frame t))) before after)
-    (sound : IsSound t region old read before) where
+module _ (t : TwinState) (region : Region) (size : ℕ) (room : FitsTwin region t.frame_len size)
+    (old read reads : List ℕ) (before after : List ℕ → Type 0) (stage : Stage) (made : twin_calls_made t ≡ stage_number stage) (whole : length (next_frame t) ≡ t.frame_len)
+    (same : SameBut (TouchedBy (call_at (stage_number stage) region t.frame_len t.current (next_frame t))) read reads)
+    (changes : ChangesAt (TouchedBy (call_at (stage_number stage) region t.frame_len t.current (next_frame t))) before after)
+    (sound : IsSoundTwin t region old read before) where
   P : ℕ → Type 0
-  P = TouchedBy (call_at (number_of stage) region t.frame_len t.current (next_frame t))
+  P = TouchedBy (call_at (stage_number stage) region t.frame_len t.current (next_frame t))
 
   kept_after : HasFrame region t.frame_len t.current old after
   unfolding P
   kept_after = has_same P region t.frame_len before after changes t.current (current_free region t.frame_len size room t.current sound.number (next_frame t) whole stage) old sound.kept
 
-  named_after : ¬ (3 ≤ calls_made t + 1) → Names region t.frame_len t.current after
+  named_after : ¬ (3 ≤ twin_calls_made t + 1) → NamesFrame region t.frame_len t.current after
   unfolding P
   named_after waits =
       names_same P region t.frame_len before after changes
       (selector_free region t.frame_len size room t.current sound.number (next_frame t) whole stage (λ third. waits (omega (arith, made, third))))
       t.current (sound.named (λ begun. waits (omega (arith, begun, begun_bound t))))
 
-  later : 1 ≤ calls_made t → 1 ≤ number_of stage
+  later : 1 ≤ twin_calls_made t → 1 ≤ stage_number stage
   later some = omega (arith, made, some)
 
-  written_after : 1 ≤ calls_made t → frame_of region t.frame_len (1 - t.current) reads ≡ next_frame t
+  written_after : 1 ≤ twin_calls_made t → frame_of region t.frame_len (1 - t.current) reads ≡ next_frame t
   unfolding P
   written_after some =
       frame_same P region t.frame_len (1 - t.current) (idle_free region t.frame_len size room t.current sound.number (next_frame t) whole stage (later some)) read reads same
       ∙ sound.written some
 
-  synced_after : 2 ≤ calls_made t → HasFrame region t.frame_len (1 - t.current) (next_frame t) after
+  synced_after : 2 ≤ twin_calls_made t → HasFrame region t.frame_len (1 - t.current) (next_frame t) after
   unfolding P
   synced_after some =
       has_same P region t.frame_len before after changes (1 - t.current) (idle_free region t.frame_len size room t.current sound.number (next_frame t) whole stage (later (omega arith)))
       (next_frame t) (sound.synced some)
 
-  selected_after : 3 ≤ calls_made t → named_number region t.frame_len reads ≡ 1 - t.current
+  selected_after : 3 ≤ twin_calls_made t → named_number region t.frame_len reads ≡ 1 - t.current
   unfolding P
   selected_after some =
       named_same P region t.frame_len (selector_free region t.frame_len size room t.current sound.number (next_frame t) whole stage (λ third. omega (arith, made, third, some))) read reads same
       ∙ sound.selected some
 
   -- a call that failed
-  pub fault_sound : IsSound (after_fault t) region old reads after
+  pub fault_sound : IsSoundTwin (twin_after_fault t) region old reads after
   fault_sound = record {
     number = sound.number;
     kept = kept_after;
@@ -104,16 +104,16 @@ module _ (t : TwinState) (region : Region) (size : ℕ) (room : HasRoom region t
   }
 
   module _ (fits : length read ≡ size)
-      (bytes : reads ≡ bytes_after (call_at (number_of stage) region t.frame_len t.current (next_frame t)) read)
-      (settled : call_at (number_of stage) region t.frame_len t.current (next_frame t) ≡ sync → Only reads after) where
-    written_by : (k : ℕ) → number_of stage ≡ k → reads ≡ bytes_after (call_at k region t.frame_len t.current (next_frame t)) read
+      (bytes : reads ≡ bytes_after (call_at (stage_number stage) region t.frame_len t.current (next_frame t)) read)
+      (settled : call_at (stage_number stage) region t.frame_len t.current (next_frame t) ≡ sync → Only reads after) where
+    written_by : (k : ℕ) → stage_number stage ≡ k → reads ≡ bytes_after (call_at k region t.frame_len t.current (next_frame t)) read
     written_by k is = subst (λ (n : ℕ). reads ≡ bytes_after (call_at n region t.frame_len t.current (next_frame t)) read) is bytes
 
     -- the first call writes the idle frame
     frame_read : frame_of region t.frame_len (1 - t.current) reads ≡ next_frame t
-    frame_read = ⊎_elim first written_after (cases_lt (calls_made t) 1)
+    frame_read = ⊎_elim first written_after (cases_lt (twin_calls_made t) 1)
       where
-        first : calls_made t < 1 → frame_of region t.frame_len (1 - t.current) reads ≡ next_frame t
+        first : twin_calls_made t < 1 → frame_of region t.frame_len (1 - t.current) reads ≡ next_frame t
         first none =
             let bytes_are : reads ≡ with_bytes (frame_start region t.frame_len (1 - t.current)) (next_frame t) read =
             written_by 0 (omega (arith, made, none)) in
@@ -133,11 +133,11 @@ module _ (t : TwinState) (region : Region) (size : ℕ) (room : HasRoom region t
     unfolding start selector
     selector_fits = omega (arith, length-replicate {A = ℕ} (selector_len region t.frame_len - 1) 0, fits, room.within, room.least)
 
-    selector_read : 3 ≤ calls_made t + 1 → named_number region t.frame_len reads ≡ 1 - t.current
+    selector_read : 3 ≤ twin_calls_made t + 1 → named_number region t.frame_len reads ≡ 1 - t.current
     unfolding start selector
-    selector_read some = ⊎_elim third selected_after (cases_lt (calls_made t) 3)
+    selector_read some = ⊎_elim third selected_after (cases_lt (twin_calls_made t) 3)
       where
-        third : calls_made t < 3 → named_number region t.frame_len reads ≡ 1 - t.current
+        third : twin_calls_made t < 3 → named_number region t.frame_len reads ≡ 1 - t.current
         third few =
             let bytes_are : reads ≡ with_bytes start selector read =
             written_by 2 (omega (arith, made, some, few)) in
@@ -149,17 +149,17 @@ module _ (t : TwinState) (region : Region) (size : ℕ) (room : HasRoom region t
             ∙ small
 
     -- the second call syncs the idle frame
-    syncs_second : number_of stage ≡ 1 → call_at (number_of stage) region t.frame_len t.current (next_frame t) ≡ sync
+    syncs_second : stage_number stage ≡ 1 → call_at (stage_number stage) region t.frame_len t.current (next_frame t) ≡ sync
     syncs_second second = ap (λ (n : ℕ). call_at n region t.frame_len t.current (next_frame t)) second
 
-    frame_synced : 2 ≤ calls_made t + 1 → HasFrame region t.frame_len (1 - t.current) (next_frame t) after
-    frame_synced some = ⊎_elim second synced_after (cases_lt (calls_made t) 2)
+    frame_synced : 2 ≤ twin_calls_made t + 1 → HasFrame region t.frame_len (1 - t.current) (next_frame t) after
+    frame_synced some = ⊎_elim second synced_after (cases_lt (twin_calls_made t) 2)
       where
-        second : calls_made t < 2 → HasFrame region t.frame_len (1 - t.current) (next_frame t) after
+        second : twin_calls_made t < 2 → HasFrame region t.frame_len (1 - t.current) (next_frame t) after
         second few c left = ap (λ (file : List ℕ). frame_of region t.frame_len (1 - t.current) file) (settled (syncs_second (omega (arith, made, few, some))) c left) ∙ frame_read
 
     -- a call that succeeded, and wasn't the last
-    pub call_sound : IsSound (after_call t) region old reads after
+    pub call_sound : IsSoundTwin (after_call t) region old reads after
     call_sound = record {
       number = sound.number;
       kept = kept_after;
@@ -170,7 +170,7 @@ module _ (t : TwinState) (region : Region) (size : ℕ) (room : HasRoom region t
     }
 
     -- the last one
-    pub last_sound : number_of stage ≡ 3 → IsSound (after_last t) region (next_frame t) reads after
+    pub last_sound : stage_number stage ≡ 3 → IsSoundTwin (twin_after_last t) region (next_frame t) reads after
     last_sound last = record {
       number = omega (arith, sound.number);
       kept = synced_after (omega (arith, made, last));
@@ -182,5 +182,5 @@ module _ (t : TwinState) (region : Region) (size : ℕ) (room : HasRoom region t
       selected = λ some. absurd (omega (arith, some));
     }
       where
-        syncs_last : call_at (number_of stage) region t.frame_len t.current (next_frame t) ≡ sync
+        syncs_last : call_at (stage_number stage) region t.frame_len t.current (next_frame t) ≡ sync
         syncs_last = ap (λ (n : ℕ). call_at n region t.frame_len t.current (next_frame t)) last

@@ -17,11 +17,11 @@ call_at made region n current frame =
     else sync
 
 -- how many calls of a change come before this one
-abbrev pub number_of : Stage → ℕ
-number_of WriteFrame = 0
-number_of SyncFrame = 1
-number_of WriteSelector = 2
-number_of SyncSelector = 3
+abbrev pub stage_number : Stage → ℕ
+stage_number WriteFrame = 0
+stage_number SyncFrame = 1
+stage_number WriteSelector = 2
+stage_number SyncSelector = 3
 
 -- the call behind this one, if it isn't the last
 abbrev pub next_stage : Stage → Option Stage

@@ -9,7 +9,7 @@ use Rattle.vt_disk.specs.Region.{FitsDisk}
 
 -- A region of a disk of this size that holds two frames of n bytes and a selector of a sector to a
 -- block, each of them whole sectors, so that a torn write of one leaves the others.
-pub record HasRoom (region : Region) (n size : ℕ) : Type 0 where
+pub record FitsTwin (region : Region) (n size : ℕ) : Type 0 where
   pub within : FitsDisk region size
   pub least : 2 * n + SECTOR_LEN ≤ region.len
   pub most : region.len ≤ 2 * n + BLOCK_LEN

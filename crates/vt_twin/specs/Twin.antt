@@ -10,7 +10,7 @@ use Rattle.vt_twin.specs.Calls.{call_at}
 -- A change under way: the frame that it brings, and how many of its four device calls succeeded.
 -- The first writes the idle frame, the second syncs it, the third writes the selector, the fourth
 -- syncs it.
-pub record Change : Type 0 where
+pub record FrameChange : Type 0 where
   pub frame : List ℕ
   pub made : ℕ
 
@@ -19,17 +19,17 @@ pub record Change : Type 0 where
 pub record TwinState : Type 0 where
   pub frame_len : ℕ
   pub current : ℕ
-  pub change : Option Change
+  pub change : Option FrameChange
   pub spare : Option (List ℕ)
   pub failed : Bool
 
 -- how many calls of the change under way succeeded
-abbrev pub calls_made : TwinState → ℕ
-calls_made t = option_map_or (λ it. it.made) t.change 0
+abbrev pub twin_calls_made : TwinState → ℕ
+twin_calls_made t = option_map_or (λ it. it.made) t.change 0
 
 -- how many of them were begun: the one that failed too
 abbrev pub calls_begun : TwinState → ℕ
-calls_begun t = calls_made t + (if t.failed then 1 else 0)
+calls_begun t = twin_calls_made t + (if t.failed then 1 else 0)
 
 -- the frame that the change under way brings
 abbrev pub next_frame : TwinState → List ℕ
@@ -37,7 +37,7 @@ next_frame t = option_map_or (λ it. it.frame) t.change []
 
 -- the next device call of the change under way, of a twin in this region
 abbrev pub next_call : TwinState → Region → DeviceCall
-next_call t region = call_at (calls_made t) region t.frame_len t.current (next_frame t)
+next_call t region = call_at (twin_calls_made t) region t.frame_len t.current (next_frame t)
 
 -- a twin with no change under way, none of whose calls failed, and whose current frame has this
 -- number
@@ -61,23 +61,23 @@ without_spare t = record t { spare = None }
 -- the twin after a call of the change that succeeded and wasn't the last
 abbrev pub after_call : TwinState → TwinState
 after_call t = record t {
-  change = Some (record { frame = next_frame t; made = calls_made t + 1 });
+  change = Some (record { frame = next_frame t; made = twin_calls_made t + 1 });
 }
 
 -- after the last one: the frame that was idle is the current one
-abbrev pub after_last : TwinState → TwinState
-after_last t = record t {
+abbrev pub twin_after_last : TwinState → TwinState
+twin_after_last t = record t {
   current = 1 - t.current;
   change = None;
   spare = Some (next_frame t);
 }
 
 -- after one that failed
-abbrev pub after_fault : TwinState → TwinState
-after_fault t = record t { failed = true }
+abbrev pub twin_after_fault : TwinState → TwinState
+twin_after_fault t = record t { failed = true }
 
 -- what `advance` makes of a twin
-abbrev pub Advances : {E : Type 0} → Result Step E → (old new : TwinState) → Type 0
-Advances (Ok More) old new = new ≡ after_call old
-Advances (Ok Done) old new = new ≡ after_last old
-Advances (Err e) old new = new ≡ after_fault old
+abbrev pub TwinAdvances : {E : Type 0} → Result Step E → (old new : TwinState) → Type 0
+TwinAdvances (Ok More) old new = new ≡ after_call old
+TwinAdvances (Ok Done) old new = new ≡ twin_after_last old
+TwinAdvances (Err e) old new = new ≡ twin_after_fault old

@@ -6,8 +6,8 @@ ghost use Rattle.vt_disk.specs.Calls.{WritesAt, MadeCalls};
 ghost use Rattle.vt_disk.specs.DeviceCalls.{call_of};
 ghost use Rattle.vt_disk.specs.DeviceCalls.DeviceCall.{write};
 ghost use Rattle.vt_disk.specs.Disk.{Touches};
-ghost use Rattle.vt_twin.specs.Frames.{HasRoom, selector_start, selector_len, selector_bytes, with_selector};
-ghost use Rattle.vt_twin.specs.Calls.{number_of, next_stage};
+ghost use Rattle.vt_twin.specs.Frames.{FitsTwin, selector_start, selector_len, selector_bytes, with_selector};
+ghost use Rattle.vt_twin.specs.Calls.{stage_number, next_stage};
 
 use vt_base::Failed;
 use vt_disk::{BLOCK_LEN, Call, Disk, Region};
@@ -35,7 +35,7 @@ pub fn next(stage: Stage) -> Option<Stage>
 
 /// How many calls are left before this one was made.
 pub fn left(stage: Stage) -> u64
-    ensures all { result + number_of stage ≡ 4 }
+    ensures all { result + stage_number stage ≡ 4 }
     ensures some { 0 < result }
 {
     match stage {
@@ -81,7 +81,7 @@ pub fn write_selector<D: Disk>(
     frame_len: u64,
     number: u8,
 ) -> Result<(), Failed>
-    requires { HasRoom region frame_len (D.size disk.old) }
+    requires { FitsTwin region frame_len (D.size disk.old) }
     ensures writes { WritesAt D.Disk
         (Touches (selector_start region frame_len) (selector_len region frame_len)) 1
         disk.old disk.new }

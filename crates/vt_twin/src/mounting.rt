@@ -4,9 +4,9 @@ ghost use Rattle.std.specs.Prelude.{◌≡◌, ◌⊎◌, ◌+◌, ◌-◌, ◌*
 ghost use Rattle.vt_base.specs.Faults.{HasCause};
 ghost use Rattle.vt_disk.specs.Calls.{OnlyReads, WritesWithin, MadeCalls, IsSynced};
 ghost use Rattle.vt_twin.specs.Formatting.{EndsFormat};
-ghost use Rattle.vt_twin.specs.Frames.{HasRoom, frame_of, selector_of, selector_len, selector_bytes, named_number, current_frame};
+ghost use Rattle.vt_twin.specs.Frames.{FitsTwin, frame_of, selector_of, selector_len, selector_bytes, named_number, current_frame};
 ghost use Rattle.vt_twin.specs.Twin.{fresh};
-ghost use Rattle.vt_twin.specs.Sound.{IsSound};
+ghost use Rattle.vt_twin.specs.Sound.{IsSoundTwin};
 
 use crate::Twin;
 use crate::calls::write_selector;
@@ -15,7 +15,7 @@ use vt_disk::{Disk, Region};
 
 /// Writes frame 0 and a selector of zero bytes, and syncs. Frame 1 stays as it is.
 pub fn format<D: Disk>(disk: &mut D, region: Region, frame: &[u8]) -> Result<(), Failed>
-    requires { HasRoom region (length frame.now) (D.size disk.old) }
+    requires { FitsTwin region (length frame.now) (D.size disk.old) }
 
     ensures frame { let n = length frame.now in OnOk result (IsTrue D.tells
         → frame_of region n 0 (D.bytes disk.new) ≡ frame.now) }
@@ -41,13 +41,13 @@ pub fn format<D: Disk>(disk: &mut D, region: Region, frame: &[u8]) -> Result<(),
 
 /// Syncs, and then reads the selector: only what was synced names the current frame for good.
 pub fn mount<D: Disk>(disk: &mut D, region: Region, frame_len: u64) -> Result<Twin, Failed>
-    requires { HasRoom region frame_len (D.size disk.old) }
+    requires { FitsTwin region frame_len (D.size disk.old) }
 
     ensures fresh { IfOk result (λ twin. twin ≡ fresh frame_len twin.current) }
     ensures named { IfOk result (λ twin. IsTrue D.tells
         → twin.current ≡ named_number region frame_len (D.bytes disk.old)) }
     ensures sound { IfOk result (λ twin. IsTrue D.tells
-        → IsSound twin region (current_frame region frame_len (D.bytes disk.old))
+        → IsSoundTwin twin region (current_frame region frame_len (D.bytes disk.old))
         (D.bytes disk.new) (D.images disk.new)) }
     ensures settled { OnOk result (IsSynced D.Disk disk.new) }
 

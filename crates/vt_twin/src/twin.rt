@@ -6,10 +6,10 @@ use crate::Step;
 use crate::calls::{Stage, left, next, selector_call, selector_naming};
 use std::marker::Model;
 use vt_base::{Bytes, Failed};
-use vt_disk::{BLOCK_LEN, Call, CallCount, CallErr, Disk, Region};
+use vt_disk::{BLOCK_LEN, Call, CallCount, CallError, Disk, Region};
 
 /// Why a step of a change made no device call that succeeded.
-pub type TwinErr = CallErr;
+pub type TwinErr = CallError;
 
 /// A change under way: how far it has come, and the frame that it brings.
 #[derive(Drop)]
@@ -39,12 +39,13 @@ impl Model for Twin {
 
     ghost Value = { TwinState };
 
-    ghost use Rattle.vt_twin.specs.Calls.{number_of};
+    ghost use Rattle.vt_twin.specs.Calls.{stage_number};
 
     ghost view = { λ t. record {
       frame_len = t.frame_len;
       current = t.current;
-      change = option_map (λ it. record { frame = it.frame; made = number_of it.stage }) t.pending;
+      change = option_map (λ it. record { frame = it.frame; made = stage_number it.stage })
+          t.pending;
       spare = t.spare;
       failed = t.failed;
     } };
@@ -56,14 +57,14 @@ impl Model for Twin {
 
 impl Twin {
     ghost use Rattle.vt_twin.specs.declared.calls.Stage.{Stage};
-    ghost use Rattle.vt_twin.specs.Calls.{number_of};
+    ghost use Rattle.vt_twin.specs.Calls.{stage_number};
     ghost use Rattle.vt_disk.specs.Calls.{WritesWithin};
     ghost use Rattle.vt_base.specs.Faults.{CountsFault};
-    ghost use Rattle.vt_disk.specs.DeviceCalls.{CallMade, call_of, is_fault};
+    ghost use Rattle.vt_disk.specs.DeviceCalls.{CallMade, call_of, is_call_fault};
     ghost use Rattle.vt_disk.specs.Disk.{WithinCall};
-    ghost use Rattle.vt_twin.specs.Frames.{HasRoom, frame_of, current_frame, selector_bytes};
-    ghost use Rattle.vt_twin.specs.Twin.{fresh, with_change, without_spare, calls_made, next_frame, next_call, Advances};
-    ghost use Rattle.vt_twin.specs.Sound.{IsSound, GivesOldOrNew, frame_after};
+    ghost use Rattle.vt_twin.specs.Frames.{FitsTwin, frame_of, current_frame, selector_bytes};
+    ghost use Rattle.vt_twin.specs.Twin.{fresh, with_change, without_spare, twin_calls_made, next_frame, next_call, TwinAdvances};
+    ghost use Rattle.vt_twin.specs.Sound.{IsSoundTwin, GivesOldOrNew, frame_after};
 
     /// A twin with frames of `frame_len` bytes whose current one is named by this first byte of its
     /// selector: frame 0 by an even byte, frame 1 by an odd one. It makes no device call.
@@ -99,7 +100,7 @@ impl Twin {
     /// How many device calls of the change under way are still to succeed: 4 of one that was begun,
     /// 1 before the last, 0 where none is under way.
     pub fn calls_left(&self) -> u64
-        ensures under_way { IsSome self.now.change → result + calls_made self.now ≡ 4 }
+        ensures under_way { IsSome self.now.change → result + twin_calls_made self.now ≡ 4 }
         ensures some { IsSome self.now.change → 0 < result }
         ensures rest { self.now.change ≡ None → result ≡ 0 }
     {
@@ -146,32 +147,32 @@ impl Twin {
     ) -> Result<Step, TwinErr>
         requires under_way { IsSome self.old.change }
         requires lent { self.old.failed ≡ true → IsSome calls.old.stopped }
-        requires room { HasRoom region self.old.frame_len (D.size disk.old) }
+        requires room { FitsTwin region self.old.frame_len (D.size disk.old) }
 
         // A sound disk stays so, for the old frame or, after the last call, for the new one.
         ensures sound { (old : List ℕ) → IsTrue D.tells
-            → IsSound self.old region old (D.bytes disk.old) (D.images disk.old)
-            → IsSound self.new region (frame_after result self.old old)
+            → IsSoundTwin self.old region old (D.bytes disk.old) (D.images disk.old)
+            → IsSoundTwin self.new region (frame_after result self.old old)
             (D.bytes disk.new) (D.images disk.new) }
 
         // A crash at any moment of it leaves the old frame or, from the selector's write on, the
         // old one or the new.
         ensures crash { (old : List ℕ) → IsTrue D.tells
-            → IsSound self.old region old (D.bytes disk.old) (D.images disk.old)
+            → IsSoundTwin self.old region old (D.bytes disk.old) (D.images disk.old)
             → (c : List ℕ) → WithinCall (D.images disk.old) (D.images disk.new) c
-            → GivesOldOrNew (2 ≤ calls_made self.old) region self.old.frame_len
+            → GivesOldOrNew (2 ≤ twin_calls_made self.old) region self.old.frame_len
             old (next_frame self.old) c }
 
         // After the last call each crash leaves the new one.
         ensures last { (old : List ℕ) → IsTrue D.tells
-            → IsSound self.old region old (D.bytes disk.old) (D.images disk.old)
+            → IsSoundTwin self.old region old (D.bytes disk.old) (D.images disk.old)
             → result ≡ Ok Step.Done → (c : List ℕ) → D.images disk.new c
             → current_frame region self.old.frame_len c ≡ next_frame self.old }
 
         // Whatever the answer, the current frame is read whole: the old one, and after the last
         // call the new one.
         ensures read { (old : List ℕ) → IsTrue D.tells
-            → IsSound self.old region old (D.bytes disk.old) (D.images disk.old)
+            → IsSoundTwin self.old region old (D.bytes disk.old) (D.images disk.old)
             → frame_of region self.new.frame_len self.new.current (D.bytes disk.new)
             ≡ frame_after result self.old old }
 
@@ -181,12 +182,12 @@ impl Twin {
             calls.old calls.new disk.old disk.new }
         ensures whole { calls.old.stopped ≡ None
             → length (next_frame self.old) ≡ self.old.frame_len }
-        ensures steps { calls.old.stopped ≡ None → Advances result self.old self.new }
+        ensures steps { calls.old.stopped ≡ None → TwinAdvances result self.old self.new }
         ensures len { self.new.frame_len ≡ self.old.frame_len }
-        ensures done { IfOk result (λ step. (step ≡ Step.Done) ↔ (calls_made self.old ≡ 3)) }
+        ensures done { IfOk result (λ step. (step ≡ Step.Done) ↔ (twin_calls_made self.old ≡ 3)) }
         ensures stopped { (n : ℕ)
-            → (result ≡ Err (CallErr.Stopped n)) ↔ (calls.old.stopped ≡ Some n) }
-        ensures faults { CountsFault is_fault result (D.faults disk.old) (D.faults disk.new) }
+            → (result ≡ Err (CallError.Stopped n)) ↔ (calls.old.stopped ≡ Some n) }
+        ensures faults { CountsFault is_call_fault result (D.faults disk.old) (D.faults disk.new) }
         ensures untouched { IsSome calls.old.stopped
             → (self.new ≡ self.old) × (calls.new ≡ calls.old) × (disk.new ≡ disk.old) }
 
@@ -209,7 +210,7 @@ impl Twin {
         requires most { region.len ≤ 2 * self.now.frame_len + BLOCK_LEN }
         requires names { selector.now ≡ selector_bytes (1 - self.now.current) BLOCK_LEN }
         ensures call { call_of result ≡ next_call self.now region }
-        ensures stage { (stage : Stage) × (calls_made self.now ≡ number_of stage) }
+        ensures stage { (stage : Stage) × (twin_calls_made self.now ≡ stage_number stage) }
         ensures whole { length (next_frame self.now) ≡ self.now.frame_len }
     {
         let Some(Pending { stage, frame }) = &self.pending else {
@@ -230,9 +231,9 @@ impl Twin {
     fn go_on(&mut self, outcome: Result<(), Failed>) -> Result<Step, TwinErr>
         requires { IsSome self.old.change }
         ensures outcome { IsOk result ↔ IsOk outcome }
-        ensures fault { IfErr result (λ err. err ≡ CallErr.Fault) }
-        ensures steps { Advances result self.old self.new }
-        ensures done { IfOk result (λ step. (step ≡ Step.Done) ↔ (calls_made self.old ≡ 3)) }
+        ensures fault { IfErr result (λ err. err ≡ CallError.Fault) }
+        ensures steps { TwinAdvances result self.old self.new }
+        ensures done { IfOk result (λ step. (step ≡ Step.Done) ↔ (twin_calls_made self.old ≡ 3)) }
     {
         let Ok(()) = outcome else {
             self.failed = true;

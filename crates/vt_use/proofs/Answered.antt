@@ -3,7 +3,7 @@ use Rattle.std.proofs.Common.{◌≡◌, ◌⊎◌, ⊎_elim, inl, inr, ℕ, ◌
 use Rattle.std.specs.List.{AllByRecursion}
 use Rattle.std.specs.Prelude.{min, nat_lt, not}
 use Rattle.vt_base.specs.Kind.{is_kind}
-use Rattle.vt_base.specs.Operations.{operation_of, reply_of, result_of}
+use Rattle.vt_base.specs.Operations.{operation_of, reply_saying, result_of}
 use Rattle.vt_base.specs.Protocol.{Operation, ping, read, write, sync, RMessage, r_sync}
 use Rattle.vt_base.specs.declared.TheConstants.{MAX_BLOCK}
 use Rattle.vt_base.specs.declared.answer.Said.{Said}
@@ -15,20 +15,20 @@ use Rattle.vt_model.specs.Causes.{Cause, disk_fault, stopped, damaged, no_memory
 use Rattle.vt_model.specs.History.{Accepted, History, held}
 use Rattle.vt_model.specs.Places.{Setup}
 use Rattle.vt_recover.proofs.Held.{held_twice, hold_still}
-use Rattle.vt_answer.specs.Serving.{asked_for, reply_in, tells_failure}
-use Rattle.vt_answer.specs.Taking.{DoesCalls, DoesOne}
+use Rattle.vt_handler.specs.Serving.{asked_of_store, reply_in, tells_failure}
+use Rattle.vt_handler.specs.Taking.{DoesCalls, DoesOne}
 use Rattle.vt_core.specs.Causes.{READS_MOST, IsUndamagedSaid, IsUndamagedWhy, OnlyReadFrom}
 use Rattle.vt_core.specs.Core.{CoreState, devices_of, machine_of, setup_of}
 use Rattle.vt_core.specs.Files.{all_of}
 use Rattle.vt_core.specs.Machine.{Machine}
 use Rattle.vt_core.specs.Sound.{IsSound}
-use Rattle.vt_drive.specs.Answers.{IsServed}
-use Rattle.vt_drive.specs.Driven.{DoesRequest, DrivenState}
+use Rattle.vt_requests.specs.Answers.{IsServed}
+use Rattle.vt_requests.specs.Driven.{DoesRequest, DrivenState}
 use Rattle.vt_use.specs.Answers.{AreModelAnswers, GoesOnTo, HasFailed, IsCovered}
 use Rattle.vt_use.specs.Stores.{Exchange, OnlyReads, store_on}
 use Rattle.vt_use.proofs.Keeps.{calls_keep, one_keeps}
 
-said_so : (said : Said) → reply_in (result_of said) ≡ reply_of said
+said_so : (said : Said) → reply_in (result_of said) ≡ reply_saying said
 said_so (Score given) = refl
 said_so (Block bytes) = refl
 said_so Synced = refl
@@ -78,8 +78,8 @@ module _ {D : Type 0} (score : List ℕ → List ℕ) (disk : DiskOf D)
     (tells : IsTrue disk.tells) where
   module _ (m : Operation) (h next : History) (old new : CoreState D) where
     given : (said : Said) (outcome : Outcome)
-        → answer score (setup_of old) h (asked_for m) ≡ outcome
-        → outcome.reply ≡ reply_of said → next ≡ with_added h outcome.added
+        → answer score (setup_of old) h (asked_of_store m) ≡ outcome
+        → outcome.reply ≡ reply_saying said → next ≡ with_added h outcome.added
         → GoesOnTo score (setup_of old) (m, result_of said) h next
     given said outcome is reply goes = inl (
       said_so said ∙ sym reply ∙ sym (ap (λ (o : Outcome). o.reply) is),
@@ -87,7 +87,7 @@ module _ {D : Type 0} (score : List ℕ → List ℕ) (disk : DiskOf D)
     )
 
     served : (said : Said) → IsUndamagedSaid said
-        → IsServed score (asked_for m) said (machine_of old h) (machine_of new next)
+        → IsServed score (asked_of_store m) said (machine_of old h) (machine_of new next)
         → GoesOnTo score (setup_of old) (m, result_of said) h next
     served said undamaged how = ⊎_elim
         (λ gives. ⊎_elim
@@ -99,7 +99,7 @@ module _ {D : Type 0} (score : List ℕ → List ℕ) (disk : DiskOf D)
         (λ rest. ⊎_elim
         (λ synced. given said (replies r_sync)
         (ap (λ (x : Operation). answer score (setup_of old) h x) synced.0)
-        (ap reply_of (sym synced.1.0)) (ap (λ (x : Machine). x.history) synced.1.1))
+        (ap reply_saying (sym synced.1.0)) (ap (λ (x : Machine). x.history) synced.1.1))
         (λ fails. inr (
           subst (λ (s : Said). HasFailed (result_of s)) (sym fails.1) (
             cause_fails fails.0,
@@ -127,7 +127,7 @@ module _ {D : Type 0} (score : List ℕ → List ℕ) (disk : DiskOf D)
       let covered = it.answers.covered (synced it.answer.said (it.says ∙ is_done)) in
       let same : next ≡ h = ⊎_elim
       (λ model. model.1 ∙ ap (λ (o : Operation).
-      with_added h (answer score (setup_of d.core) h (asked_for o)).added) is_sync)
+      with_added h (answer score (setup_of d.core) h (asked_of_store o)).added) is_sync)
       (λ failed. failed.1) how in
       omega (arith, covered, sound.log.front, ap (λ (l : History). length l) same)
 

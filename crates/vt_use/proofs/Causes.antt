@@ -12,8 +12,8 @@ use Rattle.vt_base.specs.Protocol.{Operation, ping, read, write, sync, RMessage}
 use Rattle.vt_bloom.specs.Bloom.{BloomState}
 use Rattle.vt_disk.specs.Members.{DiskOf}
 use Rattle.vt_model.specs.Causes.{OneRose}
-use Rattle.vt_answer.specs.Serving.{tells_failure}
-use Rattle.vt_answer.specs.Taking.{DoesOne, DoesCalls, DoesSome, first_told}
+use Rattle.vt_handler.specs.Serving.{tells_failure}
+use Rattle.vt_handler.specs.Taking.{DoesOne, DoesCalls, DoesSome, first_told}
 use Rattle.vt_shard.specs.Shard.{ShardState}
 use Rattle.vt_core.specs.Asking.{MayBeTold, shard_of, stop_for}
 use Rattle.vt_core.specs.Causes.{CountsSaid}
@@ -21,9 +21,9 @@ use Rattle.vt_core.specs.Core.{CoreState, each_of, stops_of}
 use Rattle.vt_base.specs.Operations.{operation_of}
 use Rattle.vt_core.proofs.AskWork.{one_rose}
 use Rattle.vt_base.specs.Operations.{result_of}
-use Rattle.vt_drive.specs.Driven.{DrivenState, DoesRequest}
-use Rattle.vt_drive.specs.Ending.{EndsFor}
-use Rattle.vt_drive.proofs.Risen.{same_fell}
+use Rattle.vt_requests.specs.Driven.{DrivenState, DoesRequest}
+use Rattle.vt_requests.specs.Ending.{EndsFor}
+use Rattle.vt_requests.proofs.Risen.{same_fell}
 use Rattle.vt_use.specs.Causes.{FailsFor, HasCause, TellsStops}
 use Rattle.vt_use.specs.Stores.{store_on}
 use Rattle.vt_use.proofs.Runs.{calls_run, one_runs}

@@ -3,10 +3,10 @@ use Rattle.std.proofs.Common.{◌≡◌, ℕ, List, [], ◌∷◌, Option, None,
 use Rattle.vt_base.specs.Protocol.{Operation, ping, read, write, sync, RMessage}
 use Rattle.vt_base.specs.declared.why.Why.{Why}
 use Rattle.vt_disk.specs.Members.{DiskOf}
-use Rattle.vt_answer.specs.Taking.{DoesOne, DoesCalls, DoesSome}
-use Rattle.vt_drive.specs.Answers.{KeepsAll}
-use Rattle.vt_drive.specs.Driven.{DrivenState, DoesRequest}
-use Rattle.vt_drive.proofs.WorkDone.{all_kept, keeps_on}
+use Rattle.vt_handler.specs.Taking.{DoesOne, DoesCalls, DoesSome}
+use Rattle.vt_requests.specs.Answers.{KeepsAll}
+use Rattle.vt_requests.specs.Driven.{DrivenState, DoesRequest}
+use Rattle.vt_requests.proofs.WorkDone.{all_kept, keeps_on}
 use Rattle.vt_use.specs.Stores.{store_on}
 
 module _ {D : Type 0} (disk : DiskOf D) where

@@ -7,7 +7,7 @@ use Rattle.vt_disk.specs.Members.{DiskOf}
 use Rattle.vt_shard.specs.Shard.{ShardState}
 use Rattle.vt_core.specs.Core.{CoreState, devices_of}
 use Rattle.vt_core.specs.Mounting.{IsHeadRead, IsMarkRead}
-use Rattle.vt_drive.specs.Ending.{AreMarkedAt}
+use Rattle.vt_requests.specs.Ending.{AreMarkedAt}
 use Rattle.vt_use.specs.Uses.{AreMarkedOn}
 
 module _ {D : Type 0} where

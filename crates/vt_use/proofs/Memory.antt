@@ -10,13 +10,13 @@ use Rattle.vt_base.specs.Protocol.{Operation, ping, read, write, sync, RMessage}
 use Rattle.vt_disk.specs.Members.{DiskOf}
 use Rattle.vt_model.specs.Causes.{OneRose}
 use Rattle.vt_model.specs.History.{History}
-use Rattle.vt_answer.specs.Serving.{tells_failure}
-use Rattle.vt_answer.specs.Taking.{DoesCalls, DoesOne, first_told}
+use Rattle.vt_handler.specs.Serving.{tells_failure}
+use Rattle.vt_handler.specs.Taking.{DoesCalls, DoesOne, first_told}
 use Rattle.vt_core.specs.Causes.{IsUndamagedSaid, IsUndamagedWhy}
 use Rattle.vt_core.specs.Core.{CoreState, each_of, stops_of}
 use Rattle.vt_core.specs.Sound.{IsSound}
-use Rattle.vt_drive.specs.Driven.{DoesRequest, DrivenState}
-use Rattle.vt_drive.proofs.Risen.{same_fell}
+use Rattle.vt_requests.specs.Driven.{DoesRequest, DrivenState}
+use Rattle.vt_requests.proofs.Risen.{same_fell}
 use Rattle.vt_use.specs.Answers.{FailsForMemoryOnly}
 use Rattle.vt_use.specs.Causes.{FailsFor, HasCause, NoCallFails, TellsStops}
 use Rattle.vt_use.specs.Stores.{Exchange, at_time, store_on}

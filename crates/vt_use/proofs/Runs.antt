@@ -3,13 +3,13 @@ use Rattle.std.proofs.Common.{ℕ, List, [], ◌∷◌, ◌++◌, ap, subst, Opt
 use Rattle.vt_base.specs.Protocol.{Operation, ping, read, write, sync, RMessage}
 use Rattle.vt_base.specs.declared.why.Why.{Why}
 use Rattle.vt_disk.specs.Members.{DiskOf}
-use Rattle.vt_answer.specs.Taking.{DoesOne, DoesCalls, DoesSome}
+use Rattle.vt_handler.specs.Taking.{DoesOne, DoesCalls, DoesSome}
 use Rattle.vt_core.specs.Core.{CoreState}
 use Rattle.vt_core.specs.Steps.{Runs}
 use Rattle.vt_core.specs.declared.event.Event.{Event}
 use Rattle.vt_core.specs.declared.event.Out.{Out}
-use Rattle.vt_drive.specs.Driven.{DrivenState, DoesRequest}
-use Rattle.vt_drive.proofs.RequestRuns.{requested_runs}
+use Rattle.vt_requests.specs.Driven.{DrivenState, DoesRequest}
+use Rattle.vt_requests.proofs.RequestRuns.{requested_runs}
 use Rattle.vt_use.specs.Stores.{MakesRun, store_on}
 
 module _ {D : Type 0} (score : List ℕ → List ℕ) (disk : DiskOf D) where

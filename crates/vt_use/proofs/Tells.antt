@@ -14,7 +14,7 @@ use Rattle.vt_core.specs.declared.event.Event.{Event}
 use Rattle.vt_core.specs.declared.event.Out.{Out}
 use Rattle.vt_core.specs.declared.event.Out.TheVariants.{Said as SaidOut, Waits, NotYet, Moved, Nothing, Failed}
 use Rattle.vt_core.proofs.AskWork.{one_rose}
-use Rattle.vt_drive.proofs.Risen.{AllFit, fits_in, fell_then, rose_fell, same_fell}
+use Rattle.vt_requests.proofs.Risen.{AllFit, fits_in, fell_then, rose_fell, same_fell}
 use Rattle.vt_use.specs.Causes.{TellsStops}
 use Rattle.vt_use.specs.Stores.{MakesRun}
 

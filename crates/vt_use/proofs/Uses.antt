@@ -5,14 +5,14 @@ use Rattle.std.specs.Prelude.{◌-◌, ◌^◌, IfErr, IfSome}
 use Rattle.vt_base.specs.declared.why.Why.{Why}
 use Rattle.vt_disk.specs.Members.{DiskOf}
 use Rattle.vt_model.specs.History.{History}
-use Rattle.vt_answer.specs.Taking.{DoesCalls, DoesSome, first_told}
+use Rattle.vt_handler.specs.Taking.{DoesCalls, DoesSome, first_told}
 use Rattle.vt_core.specs.Core.{CoreState, history_len, stops_of}
 use Rattle.vt_core.specs.Files.{PerDevice}
 use Rattle.vt_core.specs.Sound.{IsSound}
-use Rattle.vt_drive.specs.Answers.{KeepsAll}
-use Rattle.vt_drive.specs.Driven.{DrivenState}
-use Rattle.vt_drive.specs.Ending.{AreMarkedAt, Ends}
-use Rattle.vt_drive.proofs.WorkDone.{all_kept, keeps_on}
+use Rattle.vt_requests.specs.Answers.{KeepsAll}
+use Rattle.vt_requests.specs.Driven.{DrivenState}
+use Rattle.vt_requests.specs.Ending.{AreMarkedAt, Ends}
+use Rattle.vt_requests.proofs.WorkDone.{all_kept, keeps_on}
 use Rattle.vt_open.specs.Names.{HaveOneShape}
 use Rattle.vt_use.specs.Causes.{FailsFor, HasCause, TellsStops}
 use Rattle.vt_use.specs.Stores.{Exchange, OnlyReads, MakesRun, at_time, store_on}

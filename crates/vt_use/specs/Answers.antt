@@ -6,7 +6,7 @@ use Rattle.vt_base.specs.declared.why.Why.TheVariants as whys
 use Rattle.vt_model.specs.Answer.{answer, with_added}
 use Rattle.vt_model.specs.History.{History}
 use Rattle.vt_model.specs.Places.{Setup}
-use Rattle.vt_answer.specs.Serving.{asked_for, reply_in, tells_failure}
+use Rattle.vt_handler.specs.Serving.{asked_of_store, reply_in, tells_failure}
 use Rattle.vt_core.specs.Causes.{IsUndamagedWhy}
 use Rattle.vt_use.specs.Stores.{Exchange}
 
@@ -25,8 +25,8 @@ IsAnswer score c h m reply =
 -- stays.
 abbrev pub GoesOnTo : (List ℕ → List ℕ) → Setup → Exchange → (h next : History) → Type 0
 GoesOnTo score c exchange h next =
-    ((reply_in exchange.1 ≡ (answer score c h (asked_for exchange.0)).reply)
-    × (next ≡ with_added h (answer score c h (asked_for exchange.0)).added))
+    ((reply_in exchange.1 ≡ (answer score c h (asked_of_store exchange.0)).reply)
+    × (next ≡ with_added h (answer score c h (asked_of_store exchange.0)).added))
     ⊎ (HasFailed exchange.1 × (next ≡ h))
 
 -- where it is an answered sync, this history was durable behind it

@@ -6,7 +6,7 @@ use Rattle.vt_base.specs.declared.why.Why.{Why}
 use Rattle.vt_base.specs.declared.why.Why.TheVariants as whys
 use Rattle.vt_disk.specs.Members.{DiskOf}
 use Rattle.vt_model.specs.Causes.{NoneFell, OneRose}
-use Rattle.vt_answer.specs.Serving.{tells_failure}
+use Rattle.vt_handler.specs.Serving.{tells_failure}
 use Rattle.vt_core.specs.Core.{CoreState, each_of, stops_of}
 use Rattle.vt_use.specs.Stores.{Exchange}
 

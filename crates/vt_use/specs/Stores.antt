@@ -3,12 +3,12 @@ use Rattle.std.specs.Prelude.{ℕ, ⊤, List, Result}
 use Rattle.vt_base.specs.declared.why.Why.{Why}
 use Rattle.vt_base.specs.Protocol.{Operation, ping, read, write, sync, RMessage}
 use Rattle.vt_disk.specs.Members.{DiskOf}
-pub use Rattle.vt_answer.specs.declared.store.Store.{Ghosts as StoreOf}
+pub use Rattle.vt_handler.specs.declared.store.Store.{Ghosts as StoreOf}
 use Rattle.vt_core.specs.Core.{CoreState}
 use Rattle.vt_core.specs.Steps.{Runs}
 use Rattle.vt_core.specs.declared.event.Event.{Event}
 use Rattle.vt_core.specs.declared.event.Out.{Out}
-use Rattle.vt_drive.specs.Driven.{DrivenState, DoesRequest, HoldsOn, condition_of}
+use Rattle.vt_requests.specs.Driven.{DrivenState, DoesRequest, HoldsOn, condition_of}
 
 -- an operation, and its answer
 abbrev pub Exchange : Type 0

@@ -9,18 +9,18 @@ use Rattle.vt_isect.specs.declared.head.Head.{Head}
 use Rattle.vt_model.specs.History.{History}
 use Rattle.vt_model.specs.Places.{Setup}
 use Rattle.vt_part.specs.Table.{Table}
-use Rattle.vt_parts.specs.Parts.{Standing}
-use Rattle.vt_answer.specs.Taking.{DoesCalls}
+use Rattle.vt_partitions.specs.Parts.{Standing}
+use Rattle.vt_handler.specs.Taking.{DoesCalls}
 use Rattle.vt_core.specs.Core.{CoreState, devices_of, history_len, setup_of}
 use Rattle.vt_core.specs.Files.{PerDevice, all_of}
 use Rattle.vt_core.specs.Mounting.{AllStandFor, EachStands, IsHeadRead, IsMarkRead}
 use Rattle.vt_core.specs.Sound.{IsSound}
-use Rattle.vt_drive.specs.Answers.{KeepsAll}
-use Rattle.vt_drive.specs.Driven.{DrivenState}
-use Rattle.vt_drive.specs.Ending.{Ends}
+use Rattle.vt_requests.specs.Answers.{KeepsAll}
+use Rattle.vt_requests.specs.Driven.{DrivenState}
+use Rattle.vt_requests.specs.Ending.{Ends}
 use Rattle.vt_open.specs.Names.{AreUnder, HaveOneShape, files_of}
 use Rattle.vt_open.specs.Opening.{Opens}
-use Rattle.vt_open.specs.Taking.{AreGiven}
+use Rattle.vt_open.specs.Taking.{AreHandedBack}
 use Rattle.vt_use.specs.Stores.{Exchange, OnlyReads, at_time, store_on}
 
 -- ---- what is done
@@ -62,7 +62,7 @@ pub record Uses {D : Type 0} (score : List ℕ → List ℕ) (disk : DiskOf D) (
   pub opens : Opens score disk told conf 1 old during opened
   pub does : Does opened left
   pub shape : HaveOneShape (devices_of left) (files_of conf)
-  pub given : AreGiven told (all_of (files_of conf)) during new (all_of (devices_of left))
+  pub given : AreHandedBack told (all_of (files_of conf)) during new (all_of (devices_of left))
 
 -- ---- what follows
 

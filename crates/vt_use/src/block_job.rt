@@ -8,8 +8,8 @@ ghost use Rattle.vt_tree.specs.Maps.{Maps};
 
 use crate::job::Job;
 use std::alloc::Global;
-use vt_answer::Store;
 use vt_base::{Scorer, Why};
+use vt_handler::Store;
 use vt_local::Local;
 use vt_tree::Blocks;
 

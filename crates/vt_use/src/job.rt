@@ -2,11 +2,11 @@
 
 ghost use Rattle.std.specs.Prelude.{◌≡◌, Bool, false, List};
 ghost use Rattle.std.specs.List.{AllByRecursion};
-ghost use Rattle.vt_answer.specs.Taking.{DoesCalls};
+ghost use Rattle.vt_handler.specs.Taking.{DoesCalls};
 ghost use Rattle.vt_use.specs.Stores.{Exchange, OnlyReads, StoreOf};
 
 use std::alloc::Global;
-use vt_answer::Store;
+use vt_handler::Store;
 
 /// What is done with a store while it is open, whatever store that is. It is lent an `X` beside it:
 /// a folder that it reads, or a link that it serves.

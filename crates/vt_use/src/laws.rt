@@ -2,7 +2,7 @@
 
 ghost use Rattle.std.specs.Prelude.{◌≡◌, ◌*◌, ℕ, Bool, false, None, Ok, Result, List, IfErr, IfSome, IsTrue, length};
 ghost use Rattle.std.specs.List.{All, AllByRecursion};
-ghost use Rattle.vt_answer.specs.Taking.{first_told};
+ghost use Rattle.vt_handler.specs.Taking.{first_told};
 ghost use Rattle.vt_base.specs.declared.why.Why.{Why};
 ghost use Rattle.vt_conf.specs.declared.conf.Conf.{Conf};
 ghost use Rattle.vt_core.specs.Causes.{OnlyReadFrom, READS_MOST};
@@ -10,14 +10,14 @@ ghost use Rattle.vt_core.specs.Core.{CoreState, devices_of, setup_of, stops_of};
 ghost use Rattle.vt_core.specs.Files.{PerDevice, all_of};
 ghost use Rattle.vt_core.specs.Mounting.{IsLogOf};
 ghost use Rattle.vt_core.specs.Sound.{IsSound};
-ghost use Rattle.vt_drive.specs.Answers.{KeepsAll};
+ghost use Rattle.vt_requests.specs.Answers.{KeepsAll};
 ghost use Rattle.vt_model.specs.History.{History};
 ghost use Rattle.vt_model.specs.Places.{Setup};
 ghost use Rattle.vt_open.specs.Names.{AreUnder, HaveOneShape, files_of};
 ghost use Rattle.vt_open.specs.Opening.{Opens};
-ghost use Rattle.vt_open.specs.Taking.{AreGiven};
+ghost use Rattle.vt_open.specs.Taking.{AreHandedBack};
 ghost use Rattle.vt_part.specs.Table.{Table};
-ghost use Rattle.vt_parts.specs.Parts.{Standing};
+ghost use Rattle.vt_partitions.specs.Parts.{Standing};
 ghost use Rattle.vt_use.specs.Answers.{AreModelAnswers, FailsForMemoryOnly};
 ghost use Rattle.vt_use.specs.Causes.{FailsFor, HasCause, NoCallFails, TellsStops};
 ghost use Rattle.vt_use.specs.Stores.{Exchange, MakesRun};
@@ -117,7 +117,7 @@ pub fn uses_leave_the_store<D: Disk>()
         → Opens score D.Disk (IsTrue told) conf 1 old during opened
         → Asks score D.Disk now writes exchanges closed opened kept left
         → HaveOneShape (devices_of left) (files_of conf)
-        → AreGiven (IsTrue told) (all_of (files_of conf)) during new (all_of (devices_of left))
+        → AreHandedBack (IsTrue told) (all_of (files_of conf)) during new (all_of (devices_of left))
         → AreUnder old conf devices → IsLogOf score D.Disk tables devices c h g base
         → IsSound score D.Disk kept last
         → LeftInStore score D.Disk conf writes closed last kept new tables
@@ -139,7 +139,7 @@ pub fn stores_are_used<D: Disk>()
         → Opens score D.Disk (IsTrue told) conf 1 old during opened
         → Asks score D.Disk now writes exchanges closed opened kept left
         → HaveOneShape (devices_of left) (files_of conf)
-        → AreGiven (IsTrue told) (all_of (files_of conf)) during new (all_of (devices_of left))
+        → AreHandedBack (IsTrue told) (all_of (files_of conf)) during new (all_of (devices_of left))
         → AreUnder old conf devices → IsLogOf score D.Disk tables devices c h g base
         → (last : History) × IsSound score D.Disk kept last
         × AreModelAnswers score (record c { base = base }) g exchanges last kept.log.durable

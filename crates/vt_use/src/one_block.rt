@@ -3,9 +3,9 @@
 ghost use Rattle.std.specs.Prelude.{◌≡◌, ℕ, List, Option, Result};
 ghost use Rattle.vt_base.specs.declared.score.Score.{Score};
 ghost use Rattle.vt_base.specs.declared.why.Why.{Why};
-ghost use Rattle.vt_drive.specs.Driven.{DrivenState};
 ghost use Rattle.vt_model.specs.History.{Block};
-ghost use Rattle.vt_tree.specs.declared.err.BlockErr.{BlockErr};
+ghost use Rattle.vt_requests.specs.Driven.{DrivenState};
+ghost use Rattle.vt_tree.specs.declared.error.BlockErr.{BlockErr};
 ghost use Rattle.vt_use.specs.LocalJobs.{DoesOnStore};
 ghost use Rattle.vt_use.specs.OneBlock.{ArePut, ReadsOne, WritesOne, answer_of, asks_block};
 ghost use Rattle.vt_use.specs.Stores.{Exchange, store_on};

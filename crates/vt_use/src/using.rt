@@ -2,8 +2,8 @@
 
 ghost use Rattle.std.specs.Prelude.{◌≡◌, ◌+◌, ◌^◌, ◌<◌, IsTrue, IfErr, OnErr, OnOk, IfOk, length};
 ghost use Rattle.vt_core.specs.Machine.{WaitsForNone};
-ghost use Rattle.vt_drive.specs.Driven.{DrivenState};
 ghost use Rattle.vt_open.specs.Opening.{NamesCause, RefusesStore};
+ghost use Rattle.vt_requests.specs.Driven.{DrivenState};
 ghost use Rattle.vt_use.specs.Stores.{store_on};
 ghost use Rattle.vt_use.specs.Uses.{Uses, UsesCore};
 
@@ -14,9 +14,9 @@ use vt_base::{Scorer, Why};
 use vt_conf::Conf;
 use vt_core::Core;
 use vt_disk::Disk;
-use vt_drive::{Driven, end};
-use vt_open::{OpenBad, close_store, open_store, shapes_are_kept};
-use vt_parts::Parts;
+use vt_open::{OpenError, close_store, open_store, shapes_are_kept};
+use vt_partitions::Parts;
+use vt_requests::{Driven, end};
 
 /// What came of the use of a store.
 #[derive(Drop)]
@@ -74,7 +74,7 @@ pub fn use_store<P: Parts, S: Scorer, X, J: Job<X>>(
     now: u32,
     job: &J,
     beside: &mut X,
-) -> Result<Used<J::Output>, OpenBad>
+) -> Result<Used<J::Output>, OpenError>
     requires few { length conf.now.arenas.items + length conf.now.sections.items + 1 < 2 ^ 32 }
     requires some_arenas { 0 < length conf.now.arenas.items }
     requires some_section { 0 < length conf.now.sections.items }

@@ -8,18 +8,18 @@ use Rattle.std.proofs.lemmas.List.Elements.{All-nil, All-cons, All-head, All-tai
 use Rattle.byteorder.specs.Endian.{big_bytes, big_number}
 use Rattle.byteorder.specs.Numbers.{big_number-reads_back}
 use Rattle.vt_base.specs.Bytes.{AreBytes}
-use Rattle.vt_fields.specs.Numbers.{big_bytes-number}
-use Rattle.vt_wire.specs.Fields.{string, IsText, counted, Form, bytes_of, a_string, a_list, to_the_end, Begins, IsFirstBad}
+use Rattle.vt_base.specs.NumberFields.{big_bytes-number}
+use Rattle.vt_wire.specs.Fields.{string, IsText, counted_field, Form, bytes_of, a_string, a_list, to_the_end, BeginsWithForm, IsFirstBad}
 use Rattle.vt_wire.proofs.Frames.{same_front}
 use Rattle.vt_wire.proofs.Messages.{text_counted, same_string}
 
 -- what stands behind a parameter is determined
-pub Begins-one : (form : Form) (bytes r s : List ℕ) → Begins form bytes r → Begins form bytes s
+pub Begins-one : (form : Form) (bytes r s : List ℕ) → BeginsWithForm form bytes r → BeginsWithForm form bytes s
     → r ≡ s
 Begins-one (bytes_of len) bytes r s x y = (same_front x.0 y.0 r s (x.1 ∙ sym y.1) (sym x.2 ∙ y.2)).1
 Begins-one a_string bytes r s x y = (same_string x.0 y.0 r s x.1 y.1 (sym x.2 ∙ y.2)).1
 Begins-one a_list bytes r s x y =
-    let both : counted x.0 ++ r ≡ counted y.0 ++ s = sym x.2 ∙ y.2 in
+    let both : counted_field x.0 ++ r ≡ counted_field y.0 ++ s = sym x.2 ∙ y.2 in
     let len : length x.0 ≡ length y.0 = cc in
     let rest : x.0 ++ r ≡ y.0 ++ s = cc in
     (same_front x.0 y.0 r s len rest).1
@@ -38,7 +38,7 @@ first_bad_one (form ∷ forms) bytes (suc m) (suc n) x y =
 -- the bytes are parameters of these forms
 abbrev pub AreSpelled : List Form → List ℕ → Type 0
 AreSpelled [] bytes = bytes ≡ []
-AreSpelled (form ∷ forms) bytes = (rest : List ℕ) × Begins form bytes rest × AreSpelled forms rest
+AreSpelled (form ∷ forms) bytes = (rest : List ℕ) × BeginsWithForm form bytes rest × AreSpelled forms rest
 
 -- then none of them is the first that isn't
 pub none_bad : (forms : List Form) (bytes : List ℕ) (n : ℕ) → AreSpelled forms bytes
@@ -125,7 +125,7 @@ nonzero_or (x ∷ xs) = elim (cases_eq x 0) [
 -- ---- whether a parameter of a form stands at the front
 
 abbrev BeginsOrNot : Form → List ℕ → Type 0
-BeginsOrNot form bytes = ((rest : List ℕ) × Begins form bytes rest) ⊎ ((rest : List ℕ) → ¬ Begins form bytes rest)
+BeginsOrNot form bytes = ((rest : List ℕ) × BeginsWithForm form bytes rest) ⊎ ((rest : List ℕ) → ¬ BeginsWithForm form bytes rest)
 
 bytes_or : (len : ℕ) (bytes : List ℕ) → BeginsOrNot (bytes_of len) bytes
 bytes_or len bytes = elim (cases_lt (length bytes) len) [
@@ -152,10 +152,10 @@ string_or bytes are =
     ]
 
 list_or : (bytes : List ℕ) → AreBytes bytes → BeginsOrNot a_list bytes
-list_or [] are = inr (λ rest x. omega (arith, ap length x.2, length-append (counted x.0) rest))
+list_or [] are = inr (λ rest x. omega (arith, ap length x.2, length-append (counted_field x.0) rest))
 list_or (n ∷ bytes) are = elim (cases_lt (length bytes) n) [
   | inl few ↦ inr (λ rest x.
-      let e : n ∷ bytes ≡ counted x.0 ++ rest = x.2 in
+      let e : n ∷ bytes ≡ counted_field x.0 ++ rest = x.2 in
       let size : n ≡ length x.0 = cc in
       let tail : bytes ≡ x.0 ++ rest = cc in
       omega (arith, few, size, ap length tail, length-append x.0 rest))
@@ -186,11 +186,11 @@ bytes-front [] ys are i = omega arith
 bytes-front (x ∷ xs) ys are zero = are 0
 bytes-front (x ∷ xs) ys are (suc i) = bytes-front xs ys (λ j. are (suc j)) i
 
-pub bytes-behind : (form : Form) (bytes rest : List ℕ) → AreBytes bytes → Begins form bytes rest
+pub bytes-behind : (form : Form) (bytes rest : List ℕ) → AreBytes bytes → BeginsWithForm form bytes rest
     → AreBytes rest
 bytes-behind (bytes_of len) bytes rest are x = bytes-back x.0 rest (subst AreBytes x.2 are)
 bytes-behind a_string bytes rest are x = bytes-back (string x.0) rest (subst AreBytes x.2 are)
-bytes-behind a_list bytes rest are x = bytes-back (counted x.0) rest (subst AreBytes x.2 are)
+bytes-behind a_list bytes rest are x = bytes-back (counted_field x.0) rest (subst AreBytes x.2 are)
 bytes-behind to_the_end bytes rest are x = subst AreBytes (sym x) (λ i. omega arith)
 
 -- parameters of these forms are spelled, or one is the first that isn't

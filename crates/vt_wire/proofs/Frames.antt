@@ -8,7 +8,7 @@ use Rattle.std.proofs.lemmas.Grind.{flat_map-append}
 use Rattle.byteorder.specs.Endian.{big_bytes, big_number}
 use Rattle.byteorder.specs.Numbers.{big_from-lt, big_number-reads_back, length-bytes_high_first}
 use Rattle.vt_base.specs.Bytes.{AreBytes}
-use Rattle.vt_fields.specs.Numbers.{big_bytes-number}
+use Rattle.vt_base.specs.NumberFields.{big_bytes-number}
 use Rattle.vt_wire.specs.Frames.{size_width, framed, IsBody, IsFrame, frame_len, IsPartial, Splits}
 
 -- equal lists, of fronts of one length

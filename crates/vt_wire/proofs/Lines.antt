@@ -6,7 +6,7 @@ use Rattle.std.proofs.lemmas.Bool.Decides.{Decides-eqb, nat_tests}
 use Rattle.std.proofs.lemmas.Bool.{cases_eq, cases_lt}
 use Rattle.std.proofs.lemmas.List.{take-append-drop}
 use Rattle.std.proofs.Math.Seq.{take-append-add}
-use Rattle.vt_wire.specs.Lines.{IsVersion, IsLine, with_first, cut_at_colons, versions, wrong_version, first_wrong}
+use Rattle.vt_wire.specs.Lines.{IsVersion, IsLine, with_first, cut_at_colons, versions, wrong_version, first_wrong_place}
 
 test_false : {P : Type 0} (b : Bool) → (b ≡ true → P) → (P → ⊥) → b ≡ false
 test_false true h n = absurd (n (h refl))
@@ -83,16 +83,16 @@ pub no_more : (xs : List ℕ) → common_prefix_len nat_eq xs [] ≡ 0
 no_more [] = refl
 no_more (x ∷ xs) = refl
 
-behind_start : (rest : List ℕ) → first_wrong (codes "venti-" ++ rest) ≡ wrong_version true 6 rest
+behind_start : (rest : List ℕ) → first_wrong_place (codes "venti-" ++ rest) ≡ wrong_version true 6 rest
 behind_start rest =
     ap (λ n. cond (nat_lt (1 + (1 + (1 + (1 + (1 + (1 + n)))))) 6) (Some (1 + (1 + (1 + (1 + (1 + (1 + n))))))) (wrong_version true 6 rest)) (no_more rest)
 
 pub line_accepted : (line : List ℕ) (offered : List (List ℕ)) (comment : List ℕ)
-    → IsLine offered comment line → (first_wrong line ≡ None) × (versions line ≡ offered)
+    → IsLine offered comment line → (first_wrong_place line ≡ None) × (versions line ≡ offered)
 line_accepted line offered comment l =
     let rest = join_with_byte 58 offered ++ (45 ∷ comment) in
     let a = accepted_from 6 offered comment l.some l.each in
-    (ap first_wrong l.spelled ∙ behind_start rest ∙ a.0, ap versions l.spelled ∙ a.1)
+    (ap first_wrong_place l.spelled ∙ behind_start rest ∙ a.0, ap versions l.spelled ∙ a.1)
 
 -- ---- what is accepted is spelled
 
@@ -204,7 +204,7 @@ pub back : (p xs : List ℕ) → AllByRecursion (λ b. b ≢ 10) (p ++ xs)
 back [] xs h = h
 back (x ∷ p) xs h = back p xs h.1
 
-pub line_spelled : (line : List ℕ) → AllByRecursion (λ b. b ≢ 10) line → first_wrong line ≡ None
+pub line_spelled : (line : List ℕ) → AllByRecursion (λ b. b ≢ 10) line → first_wrong_place line ≡ None
     → (comment : List ℕ) × IsLine (versions line) comment line
 line_spelled line q h =
     let t = chosen (nat_lt (common_prefix_len nat_eq line (codes "venti-")) 6) (common_prefix_len nat_eq line (codes "venti-")) (wrong_version true 6 (drop 6 line)) h in
@@ -344,7 +344,7 @@ least_line = record { some = omega arith; each = (record { some = omega arith; p
 wrong_start : (line : List ℕ) (p : ℕ) → common_prefix_len nat_eq line (codes "venti-") < 6
     → common_prefix_len nat_eq line (codes "venti-") ≡ p
     → (p ≤ length line) × ((offered : List (List ℕ)) × (comment : List ℕ) × (more : List ℕ) × IsLine offered comment (take p line ++ more))
-    × (p < length line → (rest : List ℕ) → first_wrong (take (suc p) line ++ rest) ≡ Some p)
+    × (p < length line → (rest : List ℕ) → first_wrong_place (take (suc p) line ++ rest) ≡ Some p)
 wrong_start line p few is =
     let v = codes "venti-" in
     let start : take p line ≡ take p v = subst (λ n. take n line ≡ take n v) is (same_start line v) in
@@ -361,7 +361,7 @@ wrong_start line p few is =
 wrong_behind : (line rest : List ℕ) (p : ℕ) → line ≡ codes "venti-" ++ rest
     → AllByRecursion (λ b. b ≢ 10) line → wrong_version true 6 rest ≡ Some p
     → (p ≤ length line) × ((offered : List (List ℕ)) × (comment : List ℕ) × (more : List ℕ) × IsLine offered comment (take p line ++ more))
-    × (p < length line → (rest : List ℕ) → first_wrong (take (suc p) line ++ rest) ≡ Some p)
+    × (p < length line → (rest : List ℕ) → first_wrong_place (take (suc p) line ++ rest) ≡ Some p)
 wrong_behind line rest p is q h =
     let v = codes "venti-" in
     let r = wrong_at true 6 rest p (back v rest (subst (λ l. AllByRecursion (λ b. b ≢ 10) l) is q)) h in
@@ -377,13 +377,13 @@ wrong_behind line rest p is q h =
       (b.first ∷ b.later, b.comment, r.more, subst (IsLine (b.first ∷ b.later) b.comment) (sym line_is) good),
       λ lt more.
           let x = take (suc r.len) rest ++ more in
-          ap first_wrong (ap (λ l. l ++ more) next ∙ append_assoc v (take (suc r.len) rest) more) ∙ behind_start x ∙ r.stays (omega (arith, lt, r.at, len)) more,
+          ap first_wrong_place (ap (λ l. l ++ more) next ∙ append_assoc v (take (suc r.len) rest) more) ∙ behind_start x ∙ r.stays (omega (arith, lt, r.at, len)) more,
     )
 
 pub line_wrong : (line : List ℕ) (p : ℕ) → AllByRecursion (λ b. b ≢ 10) line
-    → first_wrong line ≡ Some p
+    → first_wrong_place line ≡ Some p
     → (p ≤ length line) × ((offered : List (List ℕ)) × (comment : List ℕ) × (more : List ℕ) × IsLine offered comment (take p line ++ more))
-    × (p < length line → (rest : List ℕ) → first_wrong (take (suc p) line ++ rest) ≡ Some p)
+    × (p < length line → (rest : List ℕ) → first_wrong_place (take (suc p) line ++ rest) ≡ Some p)
 line_wrong line p q h = elim (cases_lt (common_prefix_len nat_eq line (codes "venti-")) 6) [
   | inl few ↦ wrong_start line p few (some_one _ p (sym (ap (λ t. cond t (Some (common_prefix_len nat_eq line (codes "venti-"))) (wrong_version true 6 (drop 6 line))) (lt_true _ 6 few)) ∙ h))
   | inr far ↦

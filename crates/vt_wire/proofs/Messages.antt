@@ -5,7 +5,7 @@ use Rattle.byteorder.specs.Endian.{big_bytes}
 use Rattle.vt_base.specs.Protocol.{Operation, ping, read, write, sync, TMessage, t_hello, t_goodbye, t_ask, RMessage, r_ping, r_hello, r_read, r_write, r_sync, r_error}
 use Rattle.vt_wire.specs.Fields.{string, IsText}
 use Rattle.vt_wire.specs.Frames.{framed, IsBody}
-use Rattle.vt_wire.specs.Messages.{request_type, SpellsBody, SpellsHello, SpellsRead, SpellsWrite, SpellsParameters, Spells, request_parameters, asked, FitsRequest, reply_type, reply_parameters, spelled, FitsReply, SpellsReply, SpellsReplyParameters}
+use Rattle.vt_wire.specs.Messages.{request_type, SpellsBody, SpellsHello, SpellsRead, SpellsWrite, SpellsParameters, Spells, request_parameters, asked, FitsRequest, reply_type, reply_parameters, spelled_reply, FitsReply, SpellsReply, SpellsReplyParameters}
 use Rattle.vt_wire.proofs.Frames.{same_front, same_number, same_framed, one_body}
 use Rattle.vt_wire.proofs.Texts.{text_tested}
 
@@ -148,7 +148,7 @@ parameters_spelled (r_read bytes) h = refl
 parameters_spelled (r_write score) h = (h, refl)
 parameters_spelled r_sync h = refl
 
-pub reply_spelled : (tag : ℕ) (p : RMessage) → FitsReply p → SpellsReply tag p (spelled tag p)
+pub reply_spelled : (tag : ℕ) (p : RMessage) → FitsReply p → SpellsReply tag p (spelled_reply tag p)
 reply_spelled tag p h = record { parameters = reply_parameters p; parameters_are = parameters_spelled p h; frame = record { counted = fits_frame tag p h; is = refl } }
 
 reply_one : (p q : RMessage) (parameters : List ℕ) → reply_type p ≡ reply_type q
@@ -172,9 +172,9 @@ reply_frame_one s t p q bytes x y =
     (tag, reply_one p q x.parameters type x.parameters_are (subst (SpellsReplyParameters q) (sym parameters) y.parameters_are))
 
 pub spelled_one : (s t : ℕ) (p q : RMessage) (x y : List ℕ) → FitsReply p → FitsReply q
-    → spelled s p ++ x ≡ spelled t q ++ y → (s ≡ t) × (p ≡ q) × (x ≡ y)
+    → spelled_reply s p ++ x ≡ spelled_reply t q ++ y → (s ≡ t) × (p ≡ q) × (x ≡ y)
 spelled_one s t p q x y m n h =
     let bodies = same_framed (reply_type p ∷ s ∷ reply_parameters p) (reply_type q ∷ t ∷ reply_parameters q) x y (fits_frame s p m) (fits_frame t q n) h in
-    let frames : spelled s p ≡ spelled t q = ap framed bodies.0 in
-    let one = reply_frame_one s t p q (spelled s p) (reply_spelled s p m) (subst (SpellsReply t q) (sym frames) (reply_spelled t q n)) in
+    let frames : spelled_reply s p ≡ spelled_reply t q = ap framed bodies.0 in
+    let one = reply_frame_one s t p q (spelled_reply s p) (reply_spelled s p m) (subst (SpellsReply t q) (sym frames) (reply_spelled t q n)) in
     (one.0, one.1, bodies.1)

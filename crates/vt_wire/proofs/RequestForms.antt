@@ -6,8 +6,8 @@ use Rattle.byteorder.specs.Endian.{big_bytes, big_number}
 use Rattle.byteorder.specs.Numbers.{big_from-lt}
 use Rattle.vt_base.specs.Bytes.{AreBytes}
 use Rattle.vt_base.specs.Protocol.{ping, read, write, sync, TMessage, t_hello, t_goodbye, t_ask}
-use Rattle.vt_fields.specs.Numbers.{big_bytes-number}
-use Rattle.vt_wire.specs.Fields.{string, IsText, counted, a_list, Begins, IsFirstBad}
+use Rattle.vt_base.specs.NumberFields.{big_bytes-number}
+use Rattle.vt_wire.specs.Fields.{string, IsText, counted_field, a_list, BeginsWithForm, IsFirstBad}
 use Rattle.vt_wire.specs.Frames.{IsFrame}
 use Rattle.vt_wire.specs.Messages.{request_type, is_request_type, SpellsParameters, SpellsBody, SpellsHello, SpellsRead, Spells}
 use Rattle.vt_wire.specs.Refusals.{forms_of}
@@ -23,15 +23,15 @@ use Rattle.vt_wire.proofs.Refusals.{IsRead}
 hello_forms : (version parameters : List ℕ) → SpellsHello version parameters
     → AreSpelled (forms_of 4) parameters
 hello_forms version parameters x = (
-  string x.uid ++ (x.strength ∷ (counted x.crypto ++ counted x.codec)),
+  string x.uid ++ (x.strength ∷ (counted_field x.crypto ++ counted_field x.codec)),
   (version, x.version_text, x.spelled),
   (
-    x.strength ∷ (counted x.crypto ++ counted x.codec),
+    x.strength ∷ (counted_field x.crypto ++ counted_field x.codec),
     (x.uid, x.uid_text, refl),
     (
-      counted x.crypto ++ counted x.codec,
+      counted_field x.crypto ++ counted_field x.codec,
       (x.strength ∷ [], refl, refl),
-      (counted x.codec, (x.crypto, x.crypto_short, refl), ([], (x.codec, x.codec_short, sym (append-nil (counted x.codec))), refl)),
+      (counted_field x.codec, (x.crypto, x.crypto_short, refl), ([], (x.codec, x.codec_short, sym (append-nil (counted_field x.codec))), refl)),
     ),
   ),
 )
@@ -61,12 +61,12 @@ message_forms (t_ask sync) parameters x = x
 
 pub hello_spelled : (version uid strength parameters r1 r2 r3 r4 r5 : List ℕ) → IsText version
     → parameters ≡ string version ++ r1 → IsText uid → r1 ≡ string uid ++ r2 → length strength ≡ 1
-    → r2 ≡ strength ++ r3 → Begins a_list r3 r4 → Begins a_list r4 r5 → r5 ≡ []
+    → r2 ≡ strength ++ r3 → BeginsWithForm a_list r3 r4 → BeginsWithForm a_list r4 r5 → r5 ≡ []
     → SpellsHello version parameters
 hello_spelled version uid strength parameters r1 r2 r3 r4 r5 is_version e1 is_uid e2 len e3 crypto codec e5 =
-    let last : r4 ≡ counted codec.0 = codec.2 ∙ ap (λ l. counted codec.0 ++ l) e5 ∙ append-nil (counted codec.0) in
-    let lists : r3 ≡ counted crypto.0 ++ counted codec.0 = crypto.2 ∙ ap (λ l. counted crypto.0 ++ l) last in
-    let front : r2 ≡ get_or strength 0 0 ∷ (counted crypto.0 ++ counted codec.0) = e3 ∙ ap (λ l. l ++ r3) (one_byte strength len) ∙ ap (λ l. get_or strength 0 0 ∷ l) lists in
+    let last : r4 ≡ counted_field codec.0 = codec.2 ∙ ap (λ l. counted_field codec.0 ++ l) e5 ∙ append-nil (counted_field codec.0) in
+    let lists : r3 ≡ counted_field crypto.0 ++ counted_field codec.0 = crypto.2 ∙ ap (λ l. counted_field crypto.0 ++ l) last in
+    let front : r2 ≡ get_or strength 0 0 ∷ (counted_field crypto.0 ++ counted_field codec.0) = e3 ∙ ap (λ l. l ++ r3) (one_byte strength len) ∙ ap (λ l. get_or strength 0 0 ∷ l) lists in
     record {
       uid = uid;
       strength = get_or strength 0 0;

@@ -10,8 +10,8 @@ use Rattle.vt_base.specs.declared.why.Why.TheVariants as why
 use Rattle.vt_wire.specs.Fields.{IsText}
 use Rattle.vt_wire.specs.Messages.{FitsReply}
 use Rattle.vt_wire.specs.Rules.{rule_words}
-use Rattle.vt_wire.specs.declared.rule.Rule.{Rule}
-use Rattle.vt_wire.specs.declared.rule.Rule.TheVariants as rules
+use Rattle.vt_wire.specs.declared.protocol_cause.ProtocolCause.{ProtocolCause}
+use Rattle.vt_wire.specs.declared.protocol_cause.ProtocolCause.TheVariants as rules
 
 -- by computation, for a text that is known
 pub text_tested : (bytes : List ℕ) → length bytes ≤ 1024 → list_all (nat_lt 0) bytes ≡ true
@@ -33,7 +33,7 @@ why_fits (why.Stopped first) = text_tested (codes "store stopped") (omega arith)
 why_fits (why.Damaged site want found) = text_tested (codes "block damaged") (omega arith) refl
 why_fits why.NoMemory = text_tested (codes "no memory") (omega arith) refl
 
-pub rule_fits : (rule : Rule) → FitsReply (r_error (rule_words rule))
+pub rule_fits : (rule : ProtocolCause) → FitsReply (r_error (rule_words rule))
 rule_fits rules.HelloExpected = text_tested (codes "hello expected") (omega arith) refl
 rule_fits rules.HelloRepeated = text_tested (codes "hello repeated") (omega arith) refl
 rule_fits rules.VersionNotAgreed = text_tested (codes "version not agreed") (omega arith) refl

@@ -9,7 +9,7 @@ use Rattle.std.proofs.lemmas.Iterator.Adapters.{position_from-zero}
 use Rattle.std.proofs.lemmas.List.{take-append-drop, take-append-le, take_at, take_all, get_or-take, drop_more}
 use Rattle.std.proofs.lemmas.List.Elements.{All-from_recursion, recursion_from_All, All-from_get_or}
 use Rattle.std.proofs.lemmas.List.Quantifiers.{position-Some}
-use Rattle.vt_wire.specs.Lines.{IsVersion, IsLine, is_02, versions, offers_02, first_wrong, judged, line_at, line_of}
+use Rattle.vt_wire.specs.Lines.{IsVersion, IsLine, is_02, versions, offers_02, first_wrong_place, judged, line_at, line_of}
 use Rattle.vt_wire.specs.declared.line.Line.TheVariants.{Whole, More, Bad}
 use Rattle.vt_wire.proofs.Lines.{differs, lt_true, lt_false, line_accepted, line_spelled}
 
@@ -90,7 +90,7 @@ judged-not_more line (Some place) h = cc
 
 more_at : (input : List ℕ) (place : Option ℕ) → position newline (take 1024 input) ≡ place
     → line_at input place ≡ More → All (λ b. b ≢ 10) input × (length input ≤ 1024)
-more_at input (Some n) at h = absurd (judged-not_more (take n input) (first_wrong (take n input)) h)
+more_at input (Some n) at h = absurd (judged-not_more (take n input) (first_wrong_place (take n input)) h)
 more_at input None at h = elim (cases_lt 1024 (length input)) [
   | inl long ↦ let both : Bad 1024 ≡ More = sym (over input long) ∙ h in absurd (cc)
   | inr few ↦
@@ -114,7 +114,7 @@ stays_at input more (Some n) at whole =
     ap (position newline) front.1 ∙ position_from-zero newline (take 1024 input ++ front.0)
     ∙ position-append 0 n (take 1024 input) front.0 (sym (position_from-zero newline (take 1024 input)) ∙ at) in
     let same : take n (input ++ more) ≡ take n input = take-append-le n input more (omega (arith, found.0, length-take 1024 input)) in
-    ap (line_at (input ++ more)) there ∙ ap (λ l. judged l (first_wrong l)) same
+    ap (line_at (input ++ more)) there ∙ ap (λ l. judged l (first_wrong_place l)) same
 stays_at input more None at whole = elim (cases_lt 1024 (length input)) [
   | inl long ↦
       let same : take 1024 (input ++ more) ≡ take 1024 input = take-append-le 1024 input more (omega arith) in
@@ -160,7 +160,7 @@ line_read line more comment offered x short =
     let good = line_accepted line offered comment x in
     let at : position newline (take 1024 input) ≡ Some (length line) =
     position_from-zero newline (take 1024 input) ∙ position-newline 0 1024 line more (plain-line offered comment line x) short ∙ ap Some (omega arith) in
-    ap (line_at input) at ∙ ap (λ l. judged l (first_wrong l)) (take_at line (10 ∷ more) (length line) refl) ∙ ap (judged line) good.0
+    ap (line_at input) at ∙ ap (λ l. judged l (first_wrong_place l)) (take_at line (10 ∷ more) (length line) refl) ∙ ap (judged line) good.0
     ∙ ap (λ vs. Whole (length line + 1) (list_any is_02 vs)) good.1
 
 -- a line is whole
@@ -211,7 +211,7 @@ whole_at input None len has at h = elim (cases_lt 1024 (length input)) [
 whole_at input (Some n) len has at h =
     let line = take n input in
     let x = newline_at input n at in
-    let told = judged-Whole line (first_wrong line) len has h in
+    let told = judged-Whole line (first_wrong_place line) len has h in
     let good = line_spelled line (recursion_from_All (λ b. b ≢ 10) line x.plain) told.0 in
     let last : n + 1 ≡ len = omega (arith, told.1, x.size) in
     (versions line, good.0, line, good.1, x.parts ∙ ap (λ k. line ++ (10 ∷ drop k input)) last, told.1, omega (arith, last, x.early), told.2)
@@ -229,7 +229,7 @@ judged-Bad line (Some other) place h = cc
 
 abbrev IsWrong : List ℕ → ℕ → Type 0
 IsWrong input place =
-    ((line : List ℕ) × (more : List ℕ) × (input ≡ line ++ (10 ∷ more)) × All (λ b. b ≢ 10) line × (length line < 1024) × (first_wrong line ≡ Some place))
+    ((line : List ℕ) × (more : List ℕ) × (input ≡ line ++ (10 ∷ more)) × All (λ b. b ≢ 10) line × (length line < 1024) × (first_wrong_place line ≡ Some place))
     ⊎ (All (λ b. b ≢ 10) (take 1024 input) × (1024 < length input) × (place ≡ 1024))
 
 wrong_at : (input : List ℕ) (at : Option ℕ) (place : ℕ) → position newline (take 1024 input) ≡ at
@@ -244,7 +244,7 @@ wrong_at input None place at h = elim (cases_lt 1024 (length input)) [
 ]
 wrong_at input (Some n) place at h =
     let x = newline_at input n at in
-    inl (take n input, drop (n + 1) input, x.parts, x.plain, omega (arith, x.early, x.size), judged-Bad (take n input) (first_wrong (take n input)) place h)
+    inl (take n input, drop (n + 1) input, x.parts, x.plain, omega (arith, x.early, x.size), judged-Bad (take n input) (first_wrong_place (take n input)) place h)
 
 pub wrong_is : (input : List ℕ) (place : ℕ) → line_of input ≡ Bad place → IsWrong input place
 wrong_is input place h = wrong_at input (position newline (take 1024 input)) place refl h

@@ -14,8 +14,8 @@ pub record IsText (bytes : List ℕ) : Type 0 where
   pub nonzero : All (λ b. b ≢ 0) bytes
 
 -- `name[n]`: one byte of length, and so many bytes
-abbrev pub counted : List ℕ → List ℕ
-counted bytes = length bytes ∷ bytes
+abbrev pub counted_field : List ℕ → List ℕ
+counted_field bytes = length bytes ∷ bytes
 
 abbrev pub FitsCount : List ℕ → Type 0
 FitsCount bytes = length bytes < 256
@@ -32,16 +32,18 @@ pub data Form : Type 0 where
   to_the_end : Form
 
 -- the bytes begin with a parameter of this form, and `rest` stands behind it
-abbrev pub Begins : Form → (bytes rest : List ℕ) → Type 0
-Begins (bytes_of len) bytes rest = (field : List ℕ) × (length field ≡ len) × (bytes ≡ field ++ rest)
-Begins a_string bytes rest = (text : List ℕ) × IsText text × (bytes ≡ string text ++ rest)
-Begins a_list bytes rest = (items : List ℕ) × FitsCount items × (bytes ≡ counted items ++ rest)
-Begins to_the_end bytes rest = rest ≡ []
+abbrev pub BeginsWithForm : Form → (bytes rest : List ℕ) → Type 0
+BeginsWithForm (bytes_of len) bytes rest =
+    (field : List ℕ) × (length field ≡ len) × (bytes ≡ field ++ rest)
+BeginsWithForm a_string bytes rest = (text : List ℕ) × IsText text × (bytes ≡ string text ++ rest)
+BeginsWithForm a_list bytes rest =
+    (items : List ℕ) × FitsCount items × (bytes ≡ counted_field items ++ rest)
+BeginsWithForm to_the_end bytes rest = rest ≡ []
 
 -- Of parameters that should have these forms, the first that isn't spelled is the one of this
 -- number, counted from 0. Bytes behind the last parameter have the number one past the last.
 abbrev pub IsFirstBad : List Form → List ℕ → ℕ → Type 0
 IsFirstBad [] bytes number = (bytes ≢ []) × (number ≡ 0)
-IsFirstBad (form ∷ forms) bytes zero = (rest : List ℕ) → ¬ Begins form bytes rest
+IsFirstBad (form ∷ forms) bytes zero = (rest : List ℕ) → ¬ BeginsWithForm form bytes rest
 IsFirstBad (form ∷ forms) bytes (suc number) =
-    (rest : List ℕ) × Begins form bytes rest × IsFirstBad forms rest number
+    (rest : List ℕ) × BeginsWithForm form bytes rest × IsFirstBad forms rest number

@@ -53,8 +53,8 @@ wrong_version fresh place (b ∷ bytes) =
     else wrong_version false (place + 1) bytes
 
 -- the same of a whole line, which is given without its newline
-abbrev pub first_wrong : List ℕ → Option ℕ
-first_wrong line =
+abbrev pub first_wrong_place : List ℕ → Option ℕ
+first_wrong_place line =
     let same = common_prefix_len nat_eq line (codes "venti-") in
     if nat_lt same 6 then Some same else wrong_version true 6 (drop 6 line)
 
@@ -66,7 +66,7 @@ judged line (Some place) = Bad place
 -- the line of an input, where the first newline among its first 1,024 bytes stands at this place,
 -- if there is one
 abbrev pub line_at : List ℕ → Option ℕ → Line
-line_at input (Some len) = judged (take len input) (first_wrong (take len input))
+line_at input (Some len) = judged (take len input) (first_wrong_place (take len input))
 line_at input None = if nat_lt MAX_LINE (length input) then Bad MAX_LINE else More
 
 -- The line at the front of what a client sent. It is whole with its newline, which is among the

@@ -4,7 +4,7 @@ use Rattle.std.specs.Prelude.{ℕ, ◌≡◌, ◌≤◌, ◌<◌, ◌^◌, ◌==
 use Rattle.byteorder.specs.Endian.{big_bytes}
 use Rattle.vt_base.specs.declared.TheConstants.{MAX_BLOCK}
 use Rattle.vt_base.specs.Protocol.{ping, read, write, sync, TMessage, t_hello, t_goodbye, t_ask, RMessage, r_ping, r_hello, r_read, r_write, r_sync, r_error}
-use Rattle.vt_wire.specs.Fields.{string, IsText, counted, FitsCount}
+use Rattle.vt_wire.specs.Fields.{string, IsText, counted_field, FitsCount}
 use Rattle.vt_wire.specs.Frames.{framed, IsFrame}
 
 -- ---- T-messages
@@ -32,7 +32,7 @@ pub record SpellsHello (version parameters : List ℕ) : Type 0 where
   pub crypto_short : FitsCount crypto
   pub codec_short : FitsCount codec
   pub spelled : parameters
-      ≡ string version ++ (string uid ++ (strength ∷ (counted crypto ++ counted codec)))
+      ≡ string version ++ (string uid ++ (strength ∷ (counted_field crypto ++ counted_field codec)))
 
 -- Tread: score[20] type[1] pad[1] count[2], of which the pad isn't looked at
 pub record SpellsRead (score : List ℕ) (kind count : ℕ) (parameters : List ℕ) : Type 0 where
@@ -116,8 +116,8 @@ reply_parameters (r_write score) = score
 reply_parameters r_sync = []
 
 -- the frame of a reply under its request's tag, as this server sends it
-abbrev pub spelled : ℕ → RMessage → List ℕ
-spelled tag reply = framed (reply_type reply ∷ tag ∷ reply_parameters reply)
+abbrev pub spelled_reply : ℕ → RMessage → List ℕ
+spelled_reply tag reply = framed (reply_type reply ∷ tag ∷ reply_parameters reply)
 
 -- Rhello as any server spells it: sid[s] rcrypto[1] rcodec[1], none of which is looked at
 pub record SpellsWelcome (parameters : List ℕ) : Type 0 where

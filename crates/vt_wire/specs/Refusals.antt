@@ -58,9 +58,9 @@ abbrev pub IsMisspelled : (bytes : List ℕ) → (number : ℕ) → Type 0
 IsMisspelled bytes number = HasBadParameter is_request_type forms_of bytes number
 
 -- what a request's parameters come to: the message that they spell, or the first that isn't spelled
-abbrev pub Reads : ℕ → List ℕ → Result Request WireBad → Type 0
-Reads type parameters (Ok request) = SpellsBody (message_of request) type parameters
-Reads type parameters (Err bad) = TellsBad (forms_of type) parameters bad
+abbrev pub ReadsParameters : ℕ → List ℕ → Result Request WireBad → Type 0
+ReadsParameters type parameters (Ok request) = SpellsBody (message_of request) type parameters
+ReadsParameters type parameters (Err bad) = TellsBad (forms_of type) parameters bad
 
 -- ---- what a server sends
 

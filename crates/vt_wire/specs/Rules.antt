@@ -1,9 +1,9 @@
 -- The texts of the Rerrors (venti(6)) that the rules of a session give. The words are this project's.
 use Rattle.std.specs.Prelude.{ℕ, List, codes}
-use Rattle.vt_wire.specs.declared.rule.Rule.{Rule}
-use Rattle.vt_wire.specs.declared.rule.Rule.TheVariants.{HelloExpected, HelloRepeated, VersionNotAgreed, BadMessage, UnknownMessage}
+use Rattle.vt_wire.specs.declared.protocol_cause.ProtocolCause.{ProtocolCause}
+use Rattle.vt_wire.specs.declared.protocol_cause.ProtocolCause.TheVariants.{HelloExpected, HelloRepeated, VersionNotAgreed, BadMessage, UnknownMessage}
 
-abbrev pub rule_words : Rule → List ℕ
+abbrev pub rule_words : ProtocolCause → List ℕ
 rule_words HelloExpected = codes "hello expected"
 rule_words HelloRepeated = codes "hello repeated"
 rule_words VersionNotAgreed = codes "version not agreed"

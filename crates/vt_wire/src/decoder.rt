@@ -3,13 +3,13 @@
 ghost use Rattle.std.specs.Prelude.{◌≡◌, ◌≢◌, ◌↔◌, ℕ, true, false, [], IfOk, IfErr, IsOkAnd, IsErrOf};
 ghost use Rattle.vt_base.specs.Protocol.{TMessage};
 ghost use Rattle.vt_wire.specs.Messages.{is_request_type, Spells};
-ghost use Rattle.vt_wire.specs.Refusals.{IsCutShort, IsUnknown, IsMisspelled, Reads};
+ghost use Rattle.vt_wire.specs.Refusals.{IsCutShort, IsUnknown, IsMisspelled, ReadsParameters};
 ghost use Rattle.vt_wire.specs.Views.{message_of};
 
 use crate::parameters::{alone, array_at, at_end, behind_list, string_at};
 use crate::{Request, WireBad, frame_len};
 use vt_base::Score;
-use vt_fields::u16_at;
+use vt_base::fields::u16_at;
 
 /// The request that a whole frame spells, and its tag. The size field is a part of the frame. Of
 /// the tests that a frame fails, the first is told: it is no whole frame or has a size below 2, no
@@ -35,7 +35,7 @@ pub fn decode(frame: &[u8]) -> Result<(u8, Request<'_>), WireBad>
 
 /// The request that a type and its parameters spell.
 fn request_of(kind: u8, parameters: &[u8]) -> Result<Request<'_>, WireBad>
-    ensures known { is_request_type kind ≡ true → Reads kind parameters.now result }
+    ensures known { is_request_type kind ≡ true → ReadsParameters kind parameters.now result }
     ensures unknown { is_request_type kind ≡ false → result ≡ Err (WireBad.Unknown kind) }
 {
     match kind {
@@ -51,7 +51,7 @@ fn request_of(kind: u8, parameters: &[u8]) -> Result<Request<'_>, WireBad>
 
 /// Thello: version[s] uid[s] strength[1] crypto[n] codec[n].
 fn hello(parameters: &[u8]) -> Result<Request<'_>, WireBad>
-    ensures { Reads 4 parameters.now result }
+    ensures { ReadsParameters 4 parameters.now result }
 {
     let (version, rest) = string_at(parameters, 0)?;
     let (_uid, rest) = string_at(rest, 1)?;
@@ -64,7 +64,7 @@ fn hello(parameters: &[u8]) -> Result<Request<'_>, WireBad>
 
 /// Tread: score[20] type[1] pad[1] count[2].
 fn read(parameters: &[u8]) -> Result<Request<'_>, WireBad>
-    ensures { Reads 12 parameters.now result }
+    ensures { ReadsParameters 12 parameters.now result }
 {
     let (score, rest) = array_at::<20>(parameters, 0)?;
     let ([kind], rest) = array_at::<1>(rest, 1)?;
@@ -80,7 +80,7 @@ fn read(parameters: &[u8]) -> Result<Request<'_>, WireBad>
 
 /// Twrite: type[1] pad[3], and the block to the frame's end.
 fn write(parameters: &[u8]) -> Result<Request<'_>, WireBad>
-    ensures { Reads 14 parameters.now result }
+    ensures { ReadsParameters 14 parameters.now result }
 {
     let ([kind], rest) = array_at::<1>(parameters, 0)?;
     let (_pad, bytes) = array_at::<3>(rest, 1)?;

@@ -2,12 +2,12 @@
 
 ghost use Rattle.std.specs.Prelude.{◌≡◌, ◌+◌, ◌≤◌, ◌++◌, length, take, drop};
 ghost use Rattle.vt_wire.specs.Fields.{IsText, string};
-ghost use Rattle.vt_wire.specs.Messages.{reply_type, reply_parameters, spelled, FitsReply};
+ghost use Rattle.vt_wire.specs.Messages.{reply_type, reply_parameters, spelled_reply, FitsReply};
 ghost use Rattle.vt_wire.specs.Views.{reply_of};
 
 use crate::Reply;
 use vt_base::MAX_BLOCK;
-use vt_fields::{put, put_u8, put_u16};
+use vt_base::fields::{put, put_u8, put_u16};
 
 /// The name that the server gives each session.
 const SID: &[u8; 9] = b"anonymous";
@@ -16,9 +16,9 @@ const SID: &[u8; 9] = b"anonymous";
 /// length.
 pub fn encode(tag: u8, reply: &Reply, buf: &mut [u8]) -> usize
     requires fits { FitsReply (reply_of reply.now) }
-    requires room { length (spelled tag (reply_of reply.now)) ≤ length buf.old }
-    ensures len { result ≡ length (spelled tag (reply_of reply.now)) }
-    ensures written { take result buf.new ≡ spelled tag (reply_of reply.now) }
+    requires room { length (spelled_reply tag (reply_of reply.now)) ≤ length buf.old }
+    ensures len { result ≡ length (spelled_reply tag (reply_of reply.now)) }
+    ensures written { take result buf.new ≡ spelled_reply tag (reply_of reply.now) }
     ensures behind { drop result buf.new ≡ drop result buf.old }
 {
     let size = 2 + parameters_len(reply);

@@ -3,7 +3,7 @@
 ghost use Rattle.std.specs.Prelude.{◌≡◌, ◌≤◌, ◌↔◌, length, take, drop, IsNone, IfSome};
 ghost use Rattle.vt_wire.specs.Frames.{size_width, frame_len, IsFrame, IsPartial};
 
-use vt_fields::u16_at;
+use vt_base::fields::u16_at;
 
 /// How many bytes a size field has.
 const SIZE_WIDTH: usize = 2;

@@ -9,11 +9,11 @@ ghost use Rattle.vt_base.specs.declared.why.Why.{Why};
 ghost use Rattle.vt_wire.specs.Awaited.{IsReplyTo, IsWrongAt};
 ghost use Rattle.vt_wire.specs.Fields.{Form, IsFirstBad};
 ghost use Rattle.vt_wire.specs.Frames.{Splits};
-ghost use Rattle.vt_wire.specs.Lines.{IsLine, first_wrong, is_02, line_of, versions};
-ghost use Rattle.vt_wire.specs.Messages.{is_request_type, SpellsBody, Spells, asked, FitsRequest, SpellsReply, spelled, FitsReply};
+ghost use Rattle.vt_wire.specs.Lines.{IsLine, first_wrong_place, is_02, line_of, versions};
+ghost use Rattle.vt_wire.specs.Messages.{is_request_type, SpellsBody, Spells, asked, FitsRequest, SpellsReply, spelled_reply, FitsReply};
 ghost use Rattle.vt_wire.specs.Refusals.{forms_of};
 ghost use Rattle.vt_wire.specs.Rules.{rule_words};
-ghost use Rattle.vt_wire.specs.declared.rule.Rule.{Rule};
+ghost use Rattle.vt_wire.specs.declared.protocol_cause.ProtocolCause.{ProtocolCause};
 
 use crate::{Line, MAX_LINE, MAX_STRING};
 
@@ -50,13 +50,13 @@ pub fn one_reply()
     ensures frame { (s t : ℕ) (p q : RMessage) (bytes : List ℕ) →
         SpellsReply s p bytes → SpellsReply t q bytes → (s ≡ t) × (p ≡ q) }
     ensures sent { (s t : ℕ) (p q : RMessage) (x y : List ℕ) → FitsReply p → FitsReply q →
-        spelled s p ++ x ≡ spelled t q ++ y → (s ≡ t) × (p ≡ q) × (x ≡ y) }
+        spelled_reply s p ++ x ≡ spelled_reply t q ++ y → (s ≡ t) × (p ≡ q) × (x ≡ y) }
 {}
 
 /// What this server sends spells its reply.
 pub fn reply_is_spelled()
     ensures { (tag : ℕ) (reply : RMessage) → FitsReply reply →
-        SpellsReply tag reply (spelled tag reply) }
+        SpellsReply tag reply (spelled_reply tag reply) }
 {}
 
 /// What this client sends spells its request.
@@ -98,15 +98,15 @@ pub fn replies_are_wrong_at_one_place()
 /// The texts of Rerrors can be sent.
 pub fn texts_fit()
     ensures why { (why : Why) → FitsReply (r_refused why) }
-    ensures rule { (rule : Rule) → FitsReply (r_error (rule_words rule)) }
+    ensures rule { (rule : ProtocolCause) → FitsReply (r_error (rule_words rule)) }
 {}
 
 /// The lines without a wrong byte are those of the grammar, with the versions that they offer. They
 /// are given without their newlines.
 pub fn good_lines()
     ensures accepted { (line comment : List ℕ) (offered : List (List ℕ)) →
-        IsLine offered comment line → (first_wrong line ≡ None) × (versions line ≡ offered) }
-    ensures spelled { (line : List ℕ) → All (λ b. b ≢ 10) line → first_wrong line ≡ None →
+        IsLine offered comment line → (first_wrong_place line ≡ None) × (versions line ≡ offered) }
+    ensures spelled { (line : List ℕ) → All (λ b. b ≢ 10) line → first_wrong_place line ≡ None →
         (comment : List ℕ) × IsLine (versions line) comment line }
 {}
 
@@ -114,14 +114,14 @@ pub fn good_lines()
 /// Where its place is the length, it is the newline.
 pub fn first_wrong_byte()
     ensures begins { (line : List ℕ) (place : ℕ) →
-        All (λ b. b ≢ 10) line → first_wrong line ≡ Some place →
+        All (λ b. b ≢ 10) line → first_wrong_place line ≡ Some place →
         (offered : List (List ℕ)) × (comment : List ℕ) × (more : List ℕ)
         × (place ≤ length line) × IsLine offered comment (take place line ++ more) }
     ensures ends { (line more comment : List ℕ) (offered : List (List ℕ)) (place : ℕ) →
-        All (λ b. b ≢ 10) line → first_wrong line ≡ Some place → place < length line →
+        All (λ b. b ≢ 10) line → first_wrong_place line ≡ Some place → place < length line →
         ¬ IsLine offered comment (take (place + 1) line ++ more) }
     ensures none { (line comment : List ℕ) (offered : List (List ℕ)) (place : ℕ) →
-        first_wrong line ≡ Some place → ¬ IsLine offered comment line }
+        first_wrong_place line ≡ Some place → ¬ IsLine offered comment line }
 {}
 
 /// What a client sent begins with a whole line exactly where it begins with a line of the grammar
@@ -150,7 +150,7 @@ pub fn unfinished_lines()
 pub fn wrong_lines()
     ensures { (input : List ℕ) (place : ℕ) → line_of input ≡ Line.Bad place →
         ((line : List ℕ) × (more : List ℕ) × (input ≡ line ++ (10 ∷ more))
-        × All (λ b. b ≢ 10) line × (length line < MAX_LINE) × (first_wrong line ≡ Some place))
+        × All (λ b. b ≢ 10) line × (length line < MAX_LINE) × (first_wrong_place line ≡ Some place))
         ⊎ (All (λ b. b ≢ 10) (take MAX_LINE input) × (MAX_LINE < length input)
         × (place ≡ MAX_LINE)) }
 {}

@@ -9,15 +9,15 @@ pub mod laws;
 mod line;
 mod message;
 mod parameters;
+mod protocol_cause;
 mod replies;
 mod requests;
-mod rule;
 
 pub use decoder::decode;
 pub use encoder::encode;
 pub use frame::frame_len;
 pub use line::{Line, MAX_LINE, decode_line};
 pub use message::{MAX_STRING, Reply, Request, WireBad};
+pub use protocol_cause::{ProtocolCause, rule_text};
 pub use replies::decode_reply;
 pub use requests::encode_request;
-pub use rule::{Rule, rule_text};

@@ -2,7 +2,7 @@
 
 ghost use Rattle.std.specs.Prelude.{◌≡◌, ◌<◌, ◌≤◌, ◌==◌, ◌||◌, nat_eq, true, length, codes, IfSome};
 ghost use Rattle.std.specs.List.{position, common_prefix_len, list_any};
-ghost use Rattle.vt_wire.specs.Lines.{line_of, judged, first_wrong, wrong_version, cut_at_colons, is_02};
+ghost use Rattle.vt_wire.specs.Lines.{line_of, judged, first_wrong_place, wrong_version, cut_at_colons, is_02};
 
 /// The most bytes that a client's line has, with its newline.
 pub const MAX_LINE: usize = 1_024;
@@ -45,7 +45,7 @@ fn newline(bytes: &[u8]) -> Option<usize>
 
 /// What a whole line is, given without its newline.
 fn judge(line: &[u8]) -> Line
-    ensures { result ≡ judged line.now (first_wrong line.now) }
+    ensures { result ≡ judged line.now (first_wrong_place line.now) }
 {
     let same = common_len(line);
     if same < START.len() {

@@ -2,10 +2,10 @@
 //! number from the front, and gives what stands behind it too.
 
 ghost use Rattle.std.specs.Prelude.{◌≡◌, ◌≢◌, ℕ, List, [], ◌++◌, length, IfOk, IfErr};
-ghost use Rattle.vt_wire.specs.Fields.{IsText, string, bytes_of, a_string, a_list, Begins};
+ghost use Rattle.vt_wire.specs.Fields.{IsText, string, bytes_of, a_string, a_list, BeginsWithForm};
 
 use crate::{MAX_STRING, WireBad};
-use vt_fields::u16_at;
+use vt_base::fields::u16_at;
 
 /// So many bytes.
 pub(crate) fn array_at<const N: usize>(
@@ -14,7 +14,8 @@ pub(crate) fn array_at<const N: usize>(
 ) -> Result<(&[u8; N], &[u8]), WireBad>
     ensures found { IfOk result (λ r. (length r.0.now ≡ N) × (bytes.now ≡ r.0.now ++ r.1.now)) }
     ensures bad { IfErr result (λ e. e ≡ WireBad.Bad number) }
-    ensures none { IfErr result (λ _. (rest : List ℕ) → ¬ Begins (bytes_of N) bytes.now rest) }
+    ensures none { IfErr result (λ _. (rest : List ℕ)
+        → ¬ BeginsWithForm (bytes_of N) bytes.now rest) }
 {
     bytes.split_first_chunk().ok_or(WireBad::Bad(number))
 }
@@ -23,7 +24,7 @@ pub(crate) fn array_at<const N: usize>(
 pub(crate) fn string_at(bytes: &[u8], number: u8) -> Result<(&[u8], &[u8]), WireBad>
     ensures found { IfOk result (λ r. IsText r.0.now × (bytes.now ≡ string r.0.now ++ r.1.now)) }
     ensures bad { IfErr result (λ e. e ≡ WireBad.Bad number) }
-    ensures none { IfErr result (λ _. (rest : List ℕ) → ¬ Begins a_string bytes.now rest) }
+    ensures none { IfErr result (λ _. (rest : List ℕ) → ¬ BeginsWithForm a_string bytes.now rest) }
 {
     if bytes.len() < 2 {
         return Err(WireBad::Bad(number));
@@ -39,9 +40,9 @@ pub(crate) fn string_at(bytes: &[u8], number: u8) -> Result<(&[u8], &[u8]), Wire
 
 /// What stands behind a list, which has one byte of length.
 pub(crate) fn behind_list(bytes: &[u8], number: u8) -> Result<&[u8], WireBad>
-    ensures found { IfOk result (λ rest. Begins a_list bytes.now rest.now) }
+    ensures found { IfOk result (λ rest. BeginsWithForm a_list bytes.now rest.now) }
     ensures bad { IfErr result (λ e. e ≡ WireBad.Bad number) }
-    ensures none { IfErr result (λ _. (rest : List ℕ) → ¬ Begins a_list bytes.now rest) }
+    ensures none { IfErr result (λ _. (rest : List ℕ) → ¬ BeginsWithForm a_list bytes.now rest) }
 {
     let (size, rest) = bytes.split_first().ok_or(WireBad::Bad(number))?;
     let (_items, rest) = rest

@@ -7,7 +7,7 @@ ghost use Rattle.vt_wire.specs.Views.{message_of};
 use crate::Request;
 use crate::encoder::put_string;
 use vt_base::MAX_BLOCK;
-use vt_fields::{put, put_u8, put_u16};
+use vt_base::fields::{put, put_u8, put_u16};
 
 /// The name that this client gives itself.
 const UID: &[u8; 9] = b"anonymous";

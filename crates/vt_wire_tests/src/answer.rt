@@ -5,10 +5,10 @@ ghost use Rattle.std.specs.Prelude.{◌≡◌, ◌≤◌, ⊤, Bool, [], replica
 use crate::tables::each;
 use std::alloc::{AllocError, Global};
 use std::test::Fail;
-use vt_answer::{
+use vt_base::{Bytes, Failed, FieldValue, Operation, Said, Score, Site, Why};
+use vt_handler::{
     Answering, Client, LinkClient, Output, Served, Store, Streams, read, reply, sync, write,
 };
-use vt_base::{Bytes, Failed, FieldValue, Operation, Said, Score, Site, Why};
 use vt_out::{MemLink, MemSink, MemSource};
 use vt_rows::Rows;
 use vt_session::Ended;

@@ -6,8 +6,8 @@ use crate::blocks::{Told, gets, puts, syncs};
 use crate::tables::in_turn;
 use std::alloc::{AllocError, Global};
 use std::test::Fail;
-use vt_answer::Store;
 use vt_base::{Bytes, FieldValue, Kind, Operation, Said, Score, Scorer, Site, Why};
+use vt_handler::Store;
 use vt_local::Local;
 use vt_rows::Rows;
 

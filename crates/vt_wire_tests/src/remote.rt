@@ -8,7 +8,7 @@ use vt_client::ClientErr;
 use vt_conf::{Address, VENTI_PORT};
 use vt_dial::{Dialer, MemDialer};
 use vt_out::{MemLink, MemSink, MemSource};
-use vt_remote::{RemoteBad, read_remote, write_remote};
+use vt_remote::{RemoteError, read_remote, write_remote};
 use vt_rows::Rows;
 
 const ABC: Score = Score(
@@ -56,12 +56,16 @@ fn heard(dialer: MemDialer, requests: &[u8]) -> bool {
 
 /// What comes of reading the block `abc`. It is generic, so that no clause is looked at with the
 /// server in memory.
-fn read<D: Dialer>(alloc: Global, dialer: &mut D, address: &Address) -> Result<Bytes, RemoteBad> {
+fn read<D: Dialer>(alloc: Global, dialer: &mut D, address: &Address) -> Result<Bytes, RemoteError> {
     read_remote(alloc, dialer, address, Sha1Scorer, Kind::DATA, &ABC)
 }
 
 /// What comes of writing it.
-fn write<D: Dialer>(alloc: Global, dialer: &mut D, address: &Address) -> Result<Score, RemoteBad> {
+fn write<D: Dialer>(
+    alloc: Global,
+    dialer: &mut D,
+    address: &Address,
+) -> Result<Score, RemoteError> {
     write_remote(alloc, dialer, address, Sha1Scorer, Kind::DATA, b"abc")
 }
 
@@ -112,10 +116,10 @@ fn a_block_comes_back(rt: HostRuntime) -> Result<(), Fail> {
 }
 
 /// Why nothing was read, in a letter.
-fn letter(bad: &RemoteBad) -> char {
+fn letter(bad: &RemoteError) -> char {
     match bad {
-        RemoteBad::Undialled => 'u',
-        RemoteBad::Refused(why) => match why {
+        RemoteError::Undialled => 'u',
+        RemoteError::Refused(why) => match why {
             ClientErr::Remote(_) => 'r',
             ClientErr::Cut => 'c',
             ClientErr::BadReply(_) => 'b',
@@ -127,7 +131,7 @@ fn letter(bad: &RemoteBad) -> char {
 }
 
 /// What came of it, in a letter.
-fn outcome<T: Drop>(answer: Result<T, RemoteBad>) -> char {
+fn outcome<T: Drop>(answer: Result<T, RemoteError>) -> char {
     match &answer {
         Ok(_) => 'o',
         Err(bad) => letter(bad),

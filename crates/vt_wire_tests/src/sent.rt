@@ -3,15 +3,14 @@
 use crate::tables::each;
 use std::alloc::Global;
 use std::test::Fail;
-use vac_remote::{SentArchive, SentBad, archive_remote};
+use vac_remote::{SendError, SentArchive, archive_remote};
 use vac_write::{VacErr, archive};
 use vt_base::{Key, Kind, Score, Sha1Scorer, Text, parse_score};
 use vt_client::ClientErr;
 use vt_conf::{Address, VENTI_PORT};
 use vt_dial::{Dialer, MemDialer};
-use vt_folder::{Facts, Folder, MemContent, MemFolder, MemItem};
-use vt_out::{MemLink, MemSink, MemSource};
-use vt_remote::RemoteBad;
+use vt_out::{Facts, Folder, MemContent, MemFolder, MemItem, MemLink, MemSink, MemSource};
+use vt_remote::RemoteError;
 use vt_rows::Rows;
 use vt_tree::{Blocks, MemBlocks};
 
@@ -201,7 +200,7 @@ fn sent<D: Dialer, F: Folder>(
     there: &Address,
     folder: &mut F,
     bsize: u16,
-) -> Result<SentArchive, SentBad> {
+) -> Result<SentArchive, SendError> {
     let bsize = bsize.clamp(512, 53_248);
     archive_remote(alloc, dialer, there, Sha1Scorer, folder, bsize)
 }
@@ -216,7 +215,7 @@ fn heard(dialer: MemDialer, requests: &[u8]) -> bool {
 
 /// Whether an archive with this score was sent, in so many blocks, and this alone was skipped.
 fn is_sent(
-    answer: &Result<SentArchive, SentBad>,
+    answer: &Result<SentArchive, SendError>,
     score: Score,
     blocks: u64,
     skipped: Option<&[u8]>,
@@ -276,17 +275,17 @@ fn a_large_archive_is_sent(rt: HostRuntime) -> Result<(), Fail> {
 }
 
 /// What came of it, in a letter.
-fn letter(answer: &Result<SentArchive, SentBad>) -> char {
+fn letter(answer: &Result<SentArchive, SendError>) -> char {
     let bad = match answer {
         Ok(_) => return 'o',
         Err(bad) => bad,
     };
     match bad {
-        SentBad::Folder(VacErr::FolderFault) => 'f',
-        SentBad::Folder(VacErr::BadName(_)) => 'n',
-        SentBad::Folder(_) => '?',
-        SentBad::Server(RemoteBad::Undialled) => 'u',
-        SentBad::Server(RemoteBad::Refused(why)) => match why {
+        SendError::Folder(VacErr::FolderFault) => 'f',
+        SendError::Folder(VacErr::BadName(_)) => 'n',
+        SendError::Folder(_) => '?',
+        SendError::Server(RemoteError::Undialled) => 'u',
+        SendError::Server(RemoteError::Refused(why)) => match why {
             ClientErr::Remote(_) => 'e',
             ClientErr::ReadFault => 'r',
             ClientErr::WriteFault => 'w',

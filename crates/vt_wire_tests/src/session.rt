@@ -6,7 +6,7 @@ use std::test::Fail;
 use vt_base::{Operation, Score};
 use vt_rows::Rows;
 use vt_session::{Ended, Next, Talker};
-use vt_wire::Rule;
+use vt_wire::ProtocolCause;
 
 const LINE: &[u8] = b"venti-02-test\n";
 
@@ -86,26 +86,26 @@ const HEARD_SYNC: Next = Next::Ask(3, Operation::Sync);
 const HEARD_PING: Next = Next::Ping(5);
 
 /// What is heard of a ping before the hello, and of a hello of version 03 or of the other line.
-const EARLY: Next = Next::Refused(Rule::HelloExpected, 5);
+const EARLY: Next = Next::Refused(ProtocolCause::HelloExpected, 5);
 
-const NOT_03: Next = Next::Refused(Rule::VersionNotAgreed, 7);
+const NOT_03: Next = Next::Refused(ProtocolCause::VersionNotAgreed, 7);
 
-const NOT_02: Next = Next::Refused(Rule::VersionNotAgreed, 0);
+const NOT_02: Next = Next::Refused(ProtocolCause::VersionNotAgreed, 0);
 
 /// What is heard of a second hello.
-const AGAIN: Next = Next::Refused(Rule::HelloRepeated, 0);
+const AGAIN: Next = Next::Refused(ProtocolCause::HelloRepeated, 0);
 
-const AGAIN_03: Next = Next::Refused(Rule::HelloRepeated, 7);
+const AGAIN_03: Next = Next::Refused(ProtocolCause::HelloRepeated, 7);
 
 /// What is heard of messages of unknown types.
-const UNHEARD: Next = Next::Refused(Rule::UnknownMessage, 8);
+const UNHEARD: Next = Next::Refused(ProtocolCause::UnknownMessage, 8);
 
-const UNHEARD_ERROR: Next = Next::Refused(Rule::UnknownMessage, 255);
+const UNHEARD_ERROR: Next = Next::Refused(ProtocolCause::UnknownMessage, 255);
 
-const UNHEARD_SYNC: Next = Next::Refused(Rule::UnknownMessage, 1);
+const UNHEARD_SYNC: Next = Next::Refused(ProtocolCause::UnknownMessage, 1);
 
 /// What is heard of a read with a byte too many.
-const BAD: Next = Next::Refused(Rule::BadMessage, 9);
+const BAD: Next = Next::Refused(ProtocolCause::BadMessage, 9);
 
 /// What an input is, its pieces, what is heard of it, and how it ends.
 type Case = (

@@ -2,7 +2,7 @@
 //! at in a loop.
 
 use std::test::Fail;
-use vt_rows::{Rows, Wrong};
+use vt_rows::{RowError, Rows};
 
 /// Looks at each row of a table, with what all of them need, and refuses with the first that
 /// doesn't hold, which names itself.
@@ -27,7 +27,7 @@ pub(crate) fn in_turn<C: Copy, S, A, F: Fn(C, &mut S, &A) -> bool>(
     acts: &[A],
     what: &'static str,
     does: F,
-) -> Result<(), Wrong>
+) -> Result<(), RowError>
     requires { F.IsAlwaysCallable does }
 {
     let mut rows = Rows::new();

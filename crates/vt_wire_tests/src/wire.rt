@@ -1,7 +1,7 @@
 //! Lines, requests and replies, byte for byte.
 
 ghost use Rattle.std.specs.Prelude.{◌≤◌, length};
-ghost use Rattle.vt_wire.specs.Messages.{spelled, asked, FitsReply, FitsRequest};
+ghost use Rattle.vt_wire.specs.Messages.{spelled_reply, asked, FitsReply, FitsRequest};
 ghost use Rattle.vt_wire.specs.Views.{message_of, reply_of};
 
 use crate::tables::each;
@@ -9,8 +9,8 @@ use std::test::Fail;
 use vt_base::Score;
 use vt_rows::Rows;
 use vt_wire::{
-    Line, Reply, Request, Rule, WireBad, decode, decode_line, decode_reply, encode, encode_request,
-    frame_len, rule_text,
+    Line, ProtocolCause, Reply, Request, WireBad, decode, decode_line, decode_reply, encode,
+    encode_request, frame_len, rule_text,
 };
 
 /// The score of `abc`.
@@ -253,7 +253,7 @@ fn a_rule_has_a_text() -> Result<(), Fail> {
     let mut rows = Rows::new();
     rows.is(
         "the text of a rule",
-        rule_text(Rule::HelloExpected) == "hello expected",
+        rule_text(ProtocolCause::HelloExpected) == "hello expected",
     );
     rows.all()?;
     Ok(())

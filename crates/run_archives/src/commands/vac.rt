@@ -12,26 +12,24 @@ ghost use Rattle.run_base.specs.Change.{files_change, folders_change, parts_chan
 ghost use Rattle.run_archives.specs.Vac.{Archives, ArchivesNone, AsksForNoSize, AsksForSize, DoesVac};
 ghost use Rattle.run_archives.specs.Vac.{IsArchiveRefusal, StoresFolder, StoresNone};
 ghost use Rattle.run_archives.specs.Vac.{archive_line, unfit_for};
-ghost use Rattle.run_base.specs.Failure.{HasCauseIn, no_cause, with_files, with_folders, with_parts, with_sink};
+ghost use Rattle.run_base.specs.Errors.{HasCauseIn, no_cause, with_files, with_folders, with_parts, with_sink};
 ghost use Rattle.run_base.specs.Formatting.{Prints};
 ghost use Rattle.run_base.specs.Said.{Said};
 ghost use Rattle.run_archives.specs.Skipped.{skipped_lines};
-ghost use Rattle.run_archives.specs.Watched.{folder_in};
+ghost use Rattle.run_archives.specs.Watched.{watched_folder};
 
 use crate::skipped::tell_skipped;
 use crate::watched::Watched;
-use run_base::{Failure, hexadecimal, print, read_conf, refusal_for, told as told_unopened};
+use run_base::{CommandError, hexadecimal, print, read_conf, refusal_for, told as told_unopened};
 use std::alloc::Global;
 use vac_model::{MAX_BLOCK_SIZE, MIN_BLOCK_SIZE};
-use vac_store::{ArchiveBad, StoredArchive, archive_stored, failures_have_causes};
+use vac_store::{ArchiveError, StoredArchive, archive_stored, failures_have_causes};
 use vac_write::{Archived, VacErr};
 use vt_base::{Failed, Score, Scorer, Text};
 use vt_conf::{Conf, parse_number};
-use vt_folder::Folder;
-use vt_folders::Folders;
 use vt_open::configurations_can_be_opened;
-use vt_out::{Files, OutErr, Sink};
-use vt_parts::Parts;
+use vt_out::{Files, Folder, Folders, OutErr, Sink};
+use vt_partitions::Parts;
 use vt_tree::TreeErr;
 
 /// The block size where none is asked for.
@@ -53,7 +51,7 @@ pub fn vac<I: Files, G: Folders, P: Parts, K: Sink, F: Sink, T: Sink + Drop, S: 
     name: &Text,
     size: &Option<Text>,
     scorer: &S,
-) -> (Result<(), Failed>, Result<(), Failure>)
+) -> (Result<(), Failed>, Result<(), CommandError>)
     ensures does { (preface : List ℕ) × DoesVac S.score_of P.Disk.Disk file.now name.now size.now
         preface result.1 (files_change I.Files files.old files.new)
         (folders_change G.Folders folders.old folders.new)
@@ -78,7 +76,7 @@ pub fn tell<K: Sink, F: Sink>(
     sink: &mut K,
     fault_sink: &mut F,
     archived: &Archived,
-) -> (Result<(), Failed>, Result<(), Failure>)
+) -> (Result<(), Failed>, Result<(), CommandError>)
     ensures said { Said result.0 (sink_change F.Sink fault_sink.old fault_sink.new)
         (skipped_lines archived.now.skipped) }
     ensures printed { Prints (archive_line archived.now.score.0) result.1
@@ -89,7 +87,7 @@ pub fn tell<K: Sink, F: Sink>(
 }
 
 /// Prints what an archive is found by.
-fn print_archive<K: Sink>(sink: &mut K, score: &Score) -> Result<(), Failure>
+fn print_archive<K: Sink>(sink: &mut K, score: &Score) -> Result<(), CommandError>
     ensures { Prints (archive_line score.now.0) result (sink_change K.Sink sink.old sink.new) }
 {
     let mut digits = [0; 40];
@@ -109,7 +107,7 @@ fn archive<I: Files, G: Folders, P: Parts, T: Sink + Drop, S: Scorer>(
     name: &Text,
     size: &Option<Text>,
     scorer: &S,
-) -> Result<StoredArchive, Failure>
+) -> Result<StoredArchive, CommandError>
     ensures stored { IfOk result (λ stored. Archives S.score_of P.Disk.Disk file.now name.now
         size.now stored (files_change I.Files files.old files.new)
         (folders_change G.Folders folders.old folders.new)
@@ -139,7 +137,7 @@ fn store_folder<G: Folders, P: Parts, T: Sink + Drop, S: Scorer>(
     conf: &Conf,
     bsize: u16,
     scorer: &S,
-) -> Result<StoredArchive, Failure>
+) -> Result<StoredArchive, CommandError>
     requires few { length conf.now.arenas.items + length conf.now.sections.items + 1 < 2 ^ 32 }
     requires some_arenas { 0 < length conf.now.arenas.items }
     requires some_section { 0 < length conf.now.sections.items }
@@ -154,8 +152,8 @@ fn store_folder<G: Folders, P: Parts, T: Sink + Drop, S: Scorer>(
 {
     let folder = match folders.folder(alloc, name) {
         Ok(folder) => folder,
-        Err(OutErr::Failed) => return Err(Failure::FolderFault),
-        Err(OutErr::NoMemory) => return Err(Failure::NoMemory),
+        Err(OutErr::Failed) => return Err(CommandError::FolderFault),
+        Err(OutErr::NoMemory) => return Err(CommandError::NoMemory),
     };
     let (stored, folder, terminal) = archive_watched(
         alloc, parts, folder, terminal, now, conf, bsize, scorer,
@@ -178,7 +176,7 @@ fn archive_watched<P: Parts, F: Folder, T: Sink + Drop, S: Scorer>(
     conf: &Conf,
     bsize: u16,
     scorer: &S,
-) -> (Result<StoredArchive, ArchiveBad>, F, Option<T>)
+) -> (Result<StoredArchive, ArchiveError>, F, Option<T>)
     requires few { length conf.now.arenas.items + length conf.now.sections.items + 1 < 2 ^ 32 }
     requires some_arenas { 0 < length conf.now.arenas.items }
     requires some_section { 0 < length conf.now.sections.items }
@@ -200,9 +198,9 @@ fn archive_watched<P: Parts, F: Folder, T: Sink + Drop, S: Scorer>(
 /// Shows on the terminal how many blocks are new, where a folder was archived.
 fn show_end<F: Folder, K: Sink + Drop>(
     watched: &mut Watched<F, K>,
-    stored: &Result<StoredArchive, ArchiveBad>,
+    stored: &Result<StoredArchive, ArchiveError>,
 )
-    ensures { folder_in watched.new ≡ folder_in watched.old }
+    ensures { watched_folder watched.new ≡ watched_folder watched.old }
 {
     if let Ok(stored) = stored {
         watched.show_end(stored.added, b" new blocks\n");
@@ -210,7 +208,7 @@ fn show_end<F: Folder, K: Sink + Drop>(
 }
 
 /// The block size that is asked for.
-pub fn size_in(word: &Option<Text>) -> Result<u16, Failure>
+pub fn size_in(word: &Option<Text>) -> Result<u16, CommandError>
     ensures size { IfOk result (AsksForSize word.now) }
     ensures none { IfErr result (AsksForNoSize word.now) }
     ensures least { IfOk result (λ bsize. MIN_BLOCK_SIZE ≤ bsize) }
@@ -222,7 +220,7 @@ pub fn size_in(word: &Option<Text>) -> Result<u16, Failure>
     let (least, most) = (u64::from(MIN_BLOCK_SIZE), u64::from(MAX_BLOCK_SIZE));
     match parse_number(word.as_slice(), least, most) {
         Ok(bsize) => Ok(bsize as u16),
-        Err(bad) => Err(Failure::BadNumber(bad.at as u64)),
+        Err(bad) => Err(CommandError::BadNumber(bad.at as u64)),
     }
 }
 
@@ -232,26 +230,26 @@ fn told<T: Sink + Drop>(
     terminal: Option<T>,
     file: &Text,
     conf: &Conf,
-    bad: ArchiveBad,
-) -> Failure
+    bad: ArchiveError,
+) -> CommandError
     ensures { IsArchiveRefusal file.now conf.now bad result }
 {
     match bad {
-        ArchiveBad::Unopened(bad) => told_unopened(alloc, terminal, file, conf, bad),
-        ArchiveBad::Folder(err) => unfit_for(err),
-        ArchiveBad::Refused(why) => refusal_for(why),
+        ArchiveError::Unopened(bad) => told_unopened(alloc, terminal, file, conf, bad),
+        ArchiveError::Folder(err) => unfit_for(err),
+        ArchiveError::Refused(why) => refusal_for(why),
     }
 }
 
 /// Why a folder isn't archived; the place of what is unfit is 0.
-pub fn unfit_for(err: VacErr) -> Failure
+pub fn unfit_for(err: VacErr) -> CommandError
     ensures { result ≡ unfit_for err }
 {
     match err {
-        VacErr::FolderFault => Failure::FolderFault,
-        VacErr::Tree(TreeErr::TooLong) => Failure::TooLong(0),
-        VacErr::BadName(_) => Failure::BadName(0),
-        VacErr::TooDeep(_) => Failure::TooDeep(0),
-        VacErr::Tree(_) | VacErr::NoMemory => Failure::NoMemory,
+        VacErr::FolderFault => CommandError::FolderFault,
+        VacErr::Tree(TreeErr::TooLong) => CommandError::TooLong(0),
+        VacErr::BadName(_) => CommandError::BadName(0),
+        VacErr::TooDeep(_) => CommandError::TooDeep(0),
+        VacErr::Tree(_) | VacErr::NoMemory => CommandError::NoMemory,
     }
 }

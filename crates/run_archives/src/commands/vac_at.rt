@@ -3,18 +3,17 @@
 ghost use Rattle.std.specs.Prelude.{ℕ, List};
 ghost use Rattle.run_base.specs.Change.{dialer_change, files_change, folders_change, parts_change, sink_change};
 ghost use Rattle.run_archives.specs.VacAt.{DoesVacAt};
-ghost use Rattle.run_base.specs.Failure.{HasCauseIn, no_cause, with_dialer, with_files, with_folders, with_parts, with_sink};
+ghost use Rattle.run_base.specs.Errors.{HasCauseIn, no_cause, with_dialer, with_files, with_folders, with_parts, with_sink};
 ghost use Rattle.run_base.specs.Said.{Said};
 
 use crate::commands::vac::vac;
 use crate::commands::vac_served::vac_served;
-use run_base::{Failure, Place, place_of};
+use run_base::{CommandError, Place, place_of};
 use std::alloc::Global;
 use vt_base::{Failed, Scorer, Text};
 use vt_dial::Dialer;
-use vt_folders::Folders;
-use vt_out::{Files, Sink};
-use vt_parts::Parts;
+use vt_out::{Files, Folders, Sink};
+use vt_partitions::Parts;
 
 /// Archives the folder of this name in the store that a word names, at this second, says on the
 /// fault sink what was left out, and prints what the archive is found by. Gives too whether the
@@ -42,7 +41,7 @@ pub fn vac_at<
     name: &Text,
     size: &Option<Text>,
     scorer: &S,
-) -> (Result<(), Failed>, Result<(), Failure>)
+) -> (Result<(), Failed>, Result<(), CommandError>)
     ensures does { (preface : List ℕ) × DoesVacAt S.score_of P.Disk.Disk N.Link.Link store.now
         name.now size.now preface result.1 (files_change I.Files files.old files.new)
         (folders_change G.Folders folders.old folders.new)

@@ -9,24 +9,22 @@ ghost use Rattle.vac_write.specs.Archiving.{IsSeen};
 ghost use Rattle.run_base.specs.Change.{dialer_change, folders_change, sink_change};
 ghost use Rattle.run_archives.specs.Vac.{AsksForSize};
 ghost use Rattle.run_archives.specs.VacServed.{ArchivesNoneAt, DoesVacServed, SendsNamed, SendsNone};
-ghost use Rattle.run_archives.specs.VacServed.{refusal_for};
-ghost use Rattle.run_base.specs.Failure.{HasCauseIn, no_cause, with_dialer, with_folders, with_sink};
+ghost use Rattle.run_archives.specs.VacServed.{send_failure};
+ghost use Rattle.run_base.specs.Errors.{HasCauseIn, no_cause, with_dialer, with_folders, with_sink};
 ghost use Rattle.run_base.specs.Said.{Said};
-ghost use Rattle.run_archives.specs.Watched.{folder_in};
+ghost use Rattle.run_archives.specs.Watched.{watched_folder};
 
 use crate::commands::vac::{size_in, tell, unfit_for};
 use crate::watched::Watched;
-use run_base::Failure;
+use run_base::CommandError;
 use std::alloc::Global;
 use vac_remote::{
-    SentArchive, SentBad, archive_remote, refusals_have_causes as folders_have_causes,
+    SendError, SentArchive, archive_remote, refusals_have_causes as folders_have_causes,
 };
 use vt_base::{Failed, Scorer, Text};
 use vt_conf::Address;
 use vt_dial::Dialer;
-use vt_folder::Folder;
-use vt_folders::Folders;
-use vt_out::{OutErr, Sink};
+use vt_out::{Folder, Folders, OutErr, Sink};
 use vt_remote::refusals_have_causes;
 
 /// Reads the word, archives the folder of this name at the server at an address, says on the fault
@@ -43,7 +41,7 @@ pub fn vac_served<G: Folders, N: Dialer, K: Sink, F: Sink, T: Sink + Drop, S: Sc
     name: &Text,
     size: &Option<Text>,
     scorer: &S,
-) -> (Result<(), Failed>, Result<(), Failure>)
+) -> (Result<(), Failed>, Result<(), CommandError>)
     ensures does { (preface : List ℕ) × DoesVacServed N.Link.Link S.score_of address.now name.now
         size.now preface result.1 (folders_change G.Folders folders.old folders.new)
         (dialer_change N.Dialer N.Link.Link dialer.old dialer.new)
@@ -73,7 +71,7 @@ fn send<G: Folders, N: Dialer, T: Sink + Drop, S: Scorer>(
     name: &Text,
     size: &Option<Text>,
     scorer: &S,
-) -> Result<SentArchive, Failure>
+) -> Result<SentArchive, CommandError>
     ensures sent { IfOk result (λ sent. (bsize : ℕ) × AsksForSize size.now bsize
         × SendsNamed N.Link.Link S.score_of address.now name.now bsize (Ok sent)
         (folders_change G.Folders folders.old folders.new)
@@ -98,7 +96,7 @@ fn send_folder<G: Folders, N: Dialer, T: Sink + Drop, S: Scorer>(
     name: &Text,
     bsize: u16,
     scorer: &S,
-) -> Result<SentArchive, Failure>
+) -> Result<SentArchive, CommandError>
     requires least { MIN_BLOCK_SIZE ≤ bsize }
     requires most { bsize ≤ MAX_BLOCK_SIZE }
     ensures sent { IfOk result (λ sent. SendsNamed N.Link.Link S.score_of address.now name.now
@@ -110,14 +108,14 @@ fn send_folder<G: Folders, N: Dialer, T: Sink + Drop, S: Scorer>(
 {
     let folder = match folders.folder(alloc, name) {
         Ok(folder) => folder,
-        Err(OutErr::Failed) => return Err(Failure::FolderFault),
-        Err(OutErr::NoMemory) => return Err(Failure::NoMemory),
+        Err(OutErr::Failed) => return Err(CommandError::FolderFault),
+        Err(OutErr::NoMemory) => return Err(CommandError::NoMemory),
     };
     let (sent, folder) = send_watched(alloc, dialer, folder, terminal, address, bsize, scorer);
     folders.done(name, folder);
     match sent {
         Ok(sent) => Ok(sent),
-        Err(bad) => Err(refusal_for(bad)),
+        Err(bad) => Err(send_failure(bad)),
     }
 }
 
@@ -131,7 +129,7 @@ fn send_watched<N: Dialer, F: Folder, T: Sink + Drop, S: Scorer>(
     address: &Address,
     bsize: u16,
     scorer: &S,
-) -> (Result<SentArchive, SentBad>, F)
+) -> (Result<SentArchive, SendError>, F)
     requires least { MIN_BLOCK_SIZE ≤ bsize }
     requires most { bsize ≤ MAX_BLOCK_SIZE }
     ensures asks { AsksServer N.Link.Link S.score_of
@@ -151,9 +149,9 @@ fn send_watched<N: Dialer, F: Folder, T: Sink + Drop, S: Scorer>(
 /// Shows on the terminal how many blocks were sent, where a folder was archived.
 fn show_end<F: Folder, K: Sink + Drop>(
     watched: &mut Watched<F, K>,
-    sent: &Result<SentArchive, SentBad>,
+    sent: &Result<SentArchive, SendError>,
 )
-    ensures { folder_in watched.new ≡ folder_in watched.old }
+    ensures { watched_folder watched.new ≡ watched_folder watched.old }
 {
     if let Ok(sent) = sent {
         watched.show_end(sent.sent, b" blocks sent\n");
@@ -161,11 +159,11 @@ fn show_end<F: Folder, K: Sink + Drop>(
 }
 
 /// Why a folder isn't archived at a server.
-fn refusal_for(bad: SentBad) -> Failure
-    ensures { result ≡ refusal_for bad }
+fn send_failure(bad: SendError) -> CommandError
+    ensures { result ≡ send_failure bad }
 {
     match bad {
-        SentBad::Server(bad) => Failure::Server(bad),
-        SentBad::Folder(err) => unfit_for(err),
+        SendError::Server(bad) => CommandError::Server(bad),
+        SendError::Folder(err) => unfit_for(err),
     }
 }

@@ -8,22 +8,22 @@ ghost use Rattle.run_base.specs.Change.{dialer_change, files_change, parts_chang
 ghost use Rattle.run_base.specs.Unopened.{OpensNone};
 ghost use Rattle.run_archives.specs.Vacfs.{DoesVacfs, IsUnmade, ServesView, ViewsKept};
 ghost use Rattle.run_archives.specs.Vacfs.{ViewsMet, ViewsOpened, ViewsServed};
-ghost use Rattle.run_base.specs.Failure.{HasCauseIn, no_cause, with_dialer, with_files, with_parts, with_sink, with_source};
+ghost use Rattle.run_base.specs.Errors.{HasCauseIn, no_cause, with_dialer, with_files, with_parts, with_sink, with_source};
 
 use crate::viewed::outcome_of_view;
-use run_base::{Failure, Place, place_of, read_conf, read_made, refusal_for, score_in, told};
+use run_base::{CommandError, Place, place_of, read_conf, read_made, refusal_for, score_in, told};
 use std::alloc::Global;
 use vac_view::laws::{failures_have_causes, remote_failures_have_causes, views_are_runs};
 use vac_view::{view_archive, view_on};
-use vt_answer::Streams;
 use vt_base::{Kind, Score, Scorer, Text};
 use vt_client::Client;
 use vt_conf::{Address, Conf};
 use vt_core::Core;
 use vt_dial::Dialer;
+use vt_handler::Streams;
 use vt_open::{close_store, configurations_can_be_opened, open_store, shapes_are_kept};
 use vt_out::{Files, Sink, Source};
-use vt_parts::Parts;
+use vt_partitions::Parts;
 use vt_remote::{meet, part, refusals_have_causes};
 
 /// Reads the word, and serves the archive that it names until the client has ended.
@@ -37,7 +37,7 @@ pub fn vacfs<R: Source, K: Sink, I: Files, P: Parts, N: Dialer, T: Sink + Drop, 
     store: &Text,
     score: &Text,
     scorer: &S,
-) -> Result<(), Failure>
+) -> Result<(), CommandError>
     ensures does { DoesVacfs S.score_of P.Disk.Disk N.Link.Link store.now score.now result
         (source_change R.Source streams.old.source streams.new.source)
         (sink_change K.Sink streams.old.sink streams.new.sink)
@@ -65,11 +65,11 @@ pub fn vacfs<R: Source, K: Sink, I: Files, P: Parts, N: Dialer, T: Sink + Drop, 
 }
 
 /// Why the store in memory, which has no block but that of no bytes, has no archive of this score.
-fn no_archive<S: Scorer>(alloc: Global, score: &Score, scorer: &S) -> Failure
+fn no_archive<S: Scorer>(alloc: Global, score: &Score, scorer: &S) -> CommandError
     ensures { IsUnmade S.score_of score.now.0 (Err result) }
 {
     match read_made(alloc, scorer, Kind::ROOT, score) {
-        Ok(_empty) => Failure::BadArchive(0),
+        Ok(_empty) => CommandError::BadArchive(0),
         Err(why) => refusal_for(why),
     }
 }
@@ -84,7 +84,7 @@ fn view_kept<R: Source, K: Sink, I: Files, P: Parts, T: Sink + Drop, S: Scorer>(
     file: &Text,
     score: &Score,
     scorer: &S,
-) -> Result<(), Failure>
+) -> Result<(), CommandError>
     ensures { ViewsKept S.score_of P.Disk.Disk file.now score.now.0 result
         (source_change R.Source streams.old.source streams.new.source)
         (sink_change K.Sink streams.old.sink streams.new.sink)
@@ -105,7 +105,7 @@ fn view_conf<R: Source, K: Sink, P: Parts, T: Sink + Drop, S: Scorer>(
     score: &Score,
     scorer: &S,
     conf: &Conf,
-) -> Result<(), Failure>
+) -> Result<(), CommandError>
     requires few { length conf.now.arenas.items + length conf.now.sections.items + 1 < 2 ^ 32 }
     requires some_arenas { 0 < length conf.now.arenas.items }
     requires some_section { 0 < length conf.now.sections.items }
@@ -133,7 +133,7 @@ fn view_opened<R: Source, K: Sink, P: Parts, S: Scorer + Drop>(
     scorer: S,
     conf: &Conf,
     core: Core<P::Disk, S>,
-) -> Result<(), Failure>
+) -> Result<(), CommandError>
     requires free { WaitsForNone core.waiting 0 }
     requires shape { HaveOneShape (devices_of core) (files_of conf.now) }
     ensures views { ViewsOpened S.score_of P.Disk.Disk conf.now score.now.0 core result
@@ -157,7 +157,7 @@ fn view_served<R: Source, K: Sink, N: Dialer, S: Scorer>(
     address: &Address,
     score: &Score,
     scorer: &S,
-) -> Result<(), Failure>
+) -> Result<(), CommandError>
     ensures { ViewsServed N.Link.Link S.score_of address.now score.now.0 result
         (source_change R.Source streams.old.source streams.new.source)
         (sink_change K.Sink streams.old.sink streams.new.sink)
@@ -165,7 +165,7 @@ fn view_served<R: Source, K: Sink, N: Dialer, S: Scorer>(
 {
     match meet(alloc, dialer, address, scorer) {
         Ok(client) => view_met(alloc, streams, dialer, score, client),
-        Err(bad) => Err(Failure::Server(bad)),
+        Err(bad) => Err(CommandError::Server(bad)),
     }
 }
 
@@ -176,7 +176,7 @@ fn view_met<R: Source, K: Sink, N: Dialer, S: Scorer + Drop>(
     dialer: &mut N,
     score: &Score,
     client: Client<N::Link, S>,
-) -> Result<(), Failure>
+) -> Result<(), CommandError>
     ensures views { ViewsMet N.Link.Link S.score_of score.now.0 client result
         (source_change R.Source streams.old.source streams.new.source)
         (sink_change K.Sink streams.old.sink streams.new.sink)

@@ -2,10 +2,10 @@
 
 ghost use Rattle.run_base.specs.Change.{dialer_change, files_change, parts_change, sink_change};
 ghost use Rattle.run_sessions.specs.Read.{DoesRead, PrintsKept, PrintsMade, PrintsServed};
-ghost use Rattle.run_base.specs.Failure.{HasCauseIn, no_cause, with_dialer, with_files, with_parts, with_sink};
+ghost use Rattle.run_base.specs.Errors.{HasCauseIn, no_cause, with_dialer, with_files, with_parts, with_sink};
 
 use run_base::{
-    Failure, Place, place_of, print, read_conf, read_made, refusal_for, score_in, told_stored,
+    CommandError, Place, place_of, print, read_conf, read_made, refusal_for, score_in, told_stored,
     type_in,
 };
 use std::alloc::Global;
@@ -14,7 +14,7 @@ use vt_conf::Address;
 use vt_dial::Dialer;
 use vt_open::configurations_can_be_opened;
 use vt_out::{Files, Sink};
-use vt_parts::Parts;
+use vt_partitions::Parts;
 use vt_remote::{read_remote, refusals_have_causes};
 use vt_single::{failures_have_causes, read_stored};
 
@@ -30,7 +30,7 @@ pub fn read<I: Files, P: Parts, N: Dialer, K: Sink, T: Sink + Drop, S: Scorer>(
     score: &Text,
     kind: &Text,
     scorer: &S,
-) -> Result<(), Failure>
+) -> Result<(), CommandError>
     ensures does { DoesRead S.score_of P.Disk.Disk N.Link.Link store.now score.now kind.now result
         (files_change I.Files files.old files.new) (parts_change P.Parts parts.old parts.new)
         (dialer_change N.Dialer N.Link.Link dialer.old dialer.new)
@@ -62,7 +62,7 @@ fn print_made<K: Sink, S: Scorer>(
     kind: Kind,
     score: &Score,
     scorer: &S,
-) -> Result<(), Failure>
+) -> Result<(), CommandError>
     ensures { PrintsMade S.score_of score.now.0 kind result
         (sink_change K.Sink sink.old sink.new) }
 {
@@ -83,7 +83,7 @@ fn print_kept<I: Files, P: Parts, K: Sink, T: Sink + Drop, S: Scorer>(
     kind: Kind,
     score: &Score,
     scorer: &S,
-) -> Result<(), Failure>
+) -> Result<(), CommandError>
     ensures { PrintsKept S.score_of P.Disk.Disk file.now score.now.0 kind result
         (files_change I.Files files.old files.new) (parts_change P.Parts parts.old parts.new)
         (sink_change K.Sink sink.old sink.new) }
@@ -105,13 +105,13 @@ fn print_served<N: Dialer, K: Sink, S: Scorer>(
     kind: Kind,
     score: &Score,
     scorer: &S,
-) -> Result<(), Failure>
+) -> Result<(), CommandError>
     ensures { PrintsServed N.Link.Link S.score_of address.now score.now.0 kind result
         (dialer_change N.Dialer N.Link.Link dialer.old dialer.new)
         (sink_change K.Sink sink.old sink.new) }
 {
     match read_remote(alloc, dialer, address, scorer, kind, score) {
         Ok(block) => print(sink, &[block.as_slice()]),
-        Err(bad) => Err(Failure::Server(bad)),
+        Err(bad) => Err(CommandError::Server(bad)),
     }
 }

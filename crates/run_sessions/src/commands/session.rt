@@ -3,14 +3,14 @@
 ghost use Rattle.std.specs.Prelude.{◌≡◌};
 ghost use Rattle.run_base.specs.Change.{PassesNothing, sink_change, source_change};
 ghost use Rattle.run_sessions.specs.Session.{DoesSession, ServesMemory};
-ghost use Rattle.run_base.specs.Failure.{HasCauseIn, no_cause, with_sink, with_source};
+ghost use Rattle.run_base.specs.Errors.{HasCauseIn, no_cause, with_sink, with_source};
 
-use run_base::{Failure, memory_store, outcome_of};
+use run_base::{CommandError, memory_store, outcome_of};
 use std::alloc::Global;
 use vt_alone::{StoreServed, serve_store, sound_stores_need_memory};
-use vt_answer::Streams;
 use vt_base::Scorer;
-use vt_fresh::laws::memory_never_fails;
+use vt_empty::laws::memory_never_fails;
+use vt_handler::Streams;
 use vt_memdisk::MemDisk;
 use vt_out::{Sink, Source};
 use vt_session::Ended;
@@ -22,7 +22,7 @@ pub fn session<R: Source, K: Sink, S: Scorer>(
     streams: &mut Streams<R, K>,
     now: u32,
     scorer: &S,
-) -> Result<(), Failure>
+) -> Result<(), CommandError>
     ensures does { DoesSession S.score_of result
         (source_change R.Source streams.old.source streams.new.source)
         (sink_change K.Sink streams.old.sink streams.new.sink) }

@@ -2,16 +2,16 @@
 
 ghost use Rattle.run_base.specs.Change.{files_change, parts_change, sink_change, source_change};
 ghost use Rattle.run_sessions.specs.SessionAt.{DoesSessionAt};
-ghost use Rattle.run_base.specs.Failure.{HasCauseIn, no_cause, with_files, with_parts, with_sink, with_source};
+ghost use Rattle.run_base.specs.Errors.{HasCauseIn, no_cause, with_files, with_parts, with_sink, with_source};
 
 use crate::commands::session::session;
 use crate::commands::session_conf::session_conf;
-use run_base::{Failure, is_in_memory};
+use run_base::{CommandError, is_in_memory};
 use std::alloc::Global;
-use vt_answer::Streams;
 use vt_base::{Scorer, Text};
+use vt_handler::Streams;
 use vt_out::{Files, Sink, Source};
-use vt_parts::Parts;
+use vt_partitions::Parts;
 
 /// Serves one session over the store that a word names, from this second on.
 pub fn session_at<R: Source, K: Sink, I: Files, P: Parts, T: Sink + Drop, S: Scorer>(
@@ -23,7 +23,7 @@ pub fn session_at<R: Source, K: Sink, I: Files, P: Parts, T: Sink + Drop, S: Sco
     now: u32,
     store: &Text,
     scorer: &S,
-) -> Result<(), Failure>
+) -> Result<(), CommandError>
     ensures does { DoesSessionAt S.score_of P.Disk.Disk store.now result
         (source_change R.Source streams.old.source streams.new.source)
         (sink_change K.Sink streams.old.sink streams.new.sink)

@@ -7,18 +7,18 @@ ghost use Rattle.vt_open.specs.Names.{HaveOneShape, files_of};
 ghost use Rattle.run_base.specs.Change.{files_change, parts_change, sink_change, source_change};
 ghost use Rattle.run_sessions.specs.SessionConf.{DoesSessionConf, ServesConf, ServesOpened};
 ghost use Rattle.run_base.specs.Unopened.{OpensNone};
-ghost use Rattle.run_base.specs.Failure.{HasCauseIn, no_cause, with_files, with_parts, with_sink, with_source};
+ghost use Rattle.run_base.specs.Errors.{HasCauseIn, no_cause, with_files, with_parts, with_sink, with_source};
 
-use run_base::{Failure, outcome_of, read_conf, told};
+use run_base::{CommandError, outcome_of, read_conf, told};
 use std::alloc::Global;
 use vt_alone::{serve_store, sessions_are_runs};
-use vt_answer::Streams;
 use vt_base::{Scorer, Text};
 use vt_conf::Conf;
 use vt_core::Core;
+use vt_handler::Streams;
 use vt_open::{close_store, configurations_can_be_opened, open_store, shapes_are_kept};
 use vt_out::{Files, Sink, Source};
-use vt_parts::Parts;
+use vt_partitions::Parts;
 
 /// Reads the configuration, opens its store, serves one session over it, from this second on, and
 /// closes it, whatever ended the session. Where the store isn't opened, nothing is read or written.
@@ -31,7 +31,7 @@ pub fn session_conf<R: Source, K: Sink, I: Files, P: Parts, T: Sink + Drop, S: S
     now: u32,
     file: &Text,
     scorer: &S,
-) -> Result<(), Failure>
+) -> Result<(), CommandError>
     ensures does { DoesSessionConf S.score_of P.Disk.Disk file.now result
         (source_change R.Source streams.old.source streams.new.source)
         (sink_change K.Sink streams.old.sink streams.new.sink)
@@ -57,7 +57,7 @@ fn serve_conf<R: Source, K: Sink, P: Parts, T: Sink + Drop, S: Scorer>(
     file: &Text,
     scorer: &S,
     conf: &Conf,
-) -> Result<(), Failure>
+) -> Result<(), CommandError>
     requires few { length conf.now.arenas.items + length conf.now.sections.items + 1 < 2 ^ 32 }
     requires some_arenas { 0 < length conf.now.arenas.items }
     requires some_section { 0 < length conf.now.sections.items }
@@ -84,7 +84,7 @@ fn serve_opened<R: Source, K: Sink, P: Parts, S: Scorer + Drop>(
     now: u32,
     conf: &Conf,
     core: Core<P::Disk, S>,
-) -> Result<(), Failure>
+) -> Result<(), CommandError>
     requires free { WaitsForNone core.waiting 0 }
     requires shape { HaveOneShape (devices_of core) (files_of conf.now) }
     ensures serves { ServesOpened S.score_of P.Disk.Disk conf.now core result

@@ -4,12 +4,12 @@ ghost use Rattle.std.specs.Prelude.{◌≡◌, ◌≤◌, ◌<◌, ◌++◌, ℕ
 ghost use Rattle.vt_base.specs.Faults.{HasCause};
 ghost use Rattle.run_base.specs.Change.{dialer_change, files_change, parts_change, sink_change, source_change};
 ghost use Rattle.run_sessions.specs.Write.{DoesWrite, KeepsInput, MakesInput, PutsInput, TakesBlock, TakesNone, score_line};
-ghost use Rattle.run_base.specs.Failure.{HasCauseIn, no_cause, with_dialer, with_files, with_parts, with_sink, with_source};
+ghost use Rattle.run_base.specs.Errors.{HasCauseIn, no_cause, with_dialer, with_files, with_parts, with_sink, with_source};
 ghost use Rattle.run_base.specs.Formatting.{Prints};
 
 use run_base::{
-    Failure, Place, hexadecimal, place_of, print, read_conf, refusal_for, told_stored, type_in,
-    write_made,
+    CommandError, Place, hexadecimal, place_of, print, read_conf, refusal_for, told_stored,
+    type_in, write_made,
 };
 use std::alloc::Global;
 use vt_base::{Bytes, Failed, Kind, MAX_BLOCK, Score, Scorer, Text, Why};
@@ -17,7 +17,7 @@ use vt_conf::Address;
 use vt_dial::Dialer;
 use vt_open::configurations_can_be_opened;
 use vt_out::{Clock, Files, Sink, Source};
-use vt_parts::Parts;
+use vt_partitions::Parts;
 use vt_remote::{refusals_have_causes, write_remote};
 use vt_single::{failures_have_causes, write_stored};
 
@@ -43,7 +43,7 @@ pub fn write<
     store: &Text,
     kind: &Text,
     scorer: &S,
-) -> Result<(), Failure>
+) -> Result<(), CommandError>
     ensures does { DoesWrite S.score_of P.Disk.Disk N.Link.Link store.now kind.now result
         (source_change R.Source source.old source.new) (sink_change K.Sink sink.old sink.new)
         (files_change I.Files files.old files.new) (parts_change P.Parts parts.old parts.new)
@@ -75,7 +75,7 @@ fn make_input<R: Source, K: Sink, C: Clock, S: Scorer>(
     clock: &mut C,
     kind: Kind,
     scorer: &S,
-) -> Result<(), Failure>
+) -> Result<(), CommandError>
     ensures { MakesInput S.score_of kind result (source_change R.Source source.old source.new)
         (sink_change K.Sink sink.old sink.new) }
 {
@@ -100,7 +100,7 @@ fn keep_input<R: Source, K: Sink, I: Files, P: Parts, C: Clock, T: Sink + Drop, 
     file: &Text,
     kind: Kind,
     scorer: &S,
-) -> Result<(), Failure>
+) -> Result<(), CommandError>
     ensures { KeepsInput S.score_of P.Disk.Disk file.now kind result
         (source_change R.Source source.old source.new) (sink_change K.Sink sink.old sink.new)
         (files_change I.Files files.old files.new) (parts_change P.Parts parts.old parts.new) }
@@ -125,7 +125,7 @@ fn put_input<R: Source, K: Sink, N: Dialer, S: Scorer>(
     address: &Address,
     kind: Kind,
     scorer: &S,
-) -> Result<(), Failure>
+) -> Result<(), CommandError>
     ensures { PutsInput N.Link.Link S.score_of address.now kind result
         (source_change R.Source source.old source.new) (sink_change K.Sink sink.old sink.new)
         (dialer_change N.Dialer N.Link.Link dialer.old dialer.new) }
@@ -133,25 +133,25 @@ fn put_input<R: Source, K: Sink, N: Dialer, S: Scorer>(
     let block = take_block(alloc, source)?;
     match write_remote(alloc, dialer, address, scorer, kind, block.as_slice()) {
         Ok(score) => print_score(sink, &score),
-        Err(bad) => Err(Failure::Server(bad)),
+        Err(bad) => Err(CommandError::Server(bad)),
     }
 }
 
 /// What comes in to its end, if it isn't more than a block.
-fn take_block<R: Source>(alloc: Global, source: &mut R) -> Result<Bytes, Failure>
+fn take_block<R: Source>(alloc: Global, source: &mut R) -> Result<Bytes, CommandError>
     ensures taken { IfOk result (λ bytes.
         TakesBlock bytes (source_change R.Source source.old source.new)) }
     ensures none { IfErr result (λ failure.
         TakesNone failure (source_change R.Source source.old source.new)) }
 {
     let Ok(mut buf) = vec![in alloc; 0u8; MAX_BLOCK + 1] else {
-        return Err(Failure::NoMemory);
+        return Err(CommandError::NoMemory);
     };
     let Ok(len) = fill(source, &mut buf) else {
-        return Err(Failure::ReadFault);
+        return Err(CommandError::ReadFault);
     };
     if len > MAX_BLOCK {
-        return Err(Failure::Refused(Why::TooBig));
+        return Err(CommandError::Refused(Why::TooBig));
     }
     buf.truncate(len);
     Ok(Bytes::from_vec(buf))
@@ -181,7 +181,7 @@ fn fill<R: Source>(source: &mut R, buf: &mut [u8]) -> Result<usize, Failed>
 }
 
 /// Prints the digits of a score, in a line.
-fn print_score<K: Sink>(sink: &mut K, score: &Score) -> Result<(), Failure>
+fn print_score<K: Sink>(sink: &mut K, score: &Score) -> Result<(), CommandError>
     ensures { Prints (score_line score.now) result (sink_change K.Sink sink.old sink.new) }
 {
     let mut digits = [0; 40];

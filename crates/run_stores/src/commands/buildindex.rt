@@ -3,20 +3,20 @@
 
 ghost use Rattle.std.specs.Prelude.{◌≡◌, ◌+◌, ◌<◌, ◌^◌, length};
 ghost use Rattle.run_base.specs.Change.{files_change, parts_change, sink_change};
-ghost use Rattle.run_stores.specs.Buildindex.{DoesBuildindex, IsRebuildRefusal, RebuildsConf, blocks_line, failure_of};
-ghost use Rattle.run_base.specs.Failure.{HasCauseIn, no_cause, with_files, with_parts, with_sink};
+ghost use Rattle.run_stores.specs.Buildindex.{DoesBuildindex, IsRebuildRefusal, RebuildsConf, blocks_line, rebuild_failure};
+ghost use Rattle.run_base.specs.Errors.{HasCauseIn, no_cause, with_files, with_parts, with_sink};
 ghost use Rattle.run_base.specs.Formatting.{Prints};
 
 use itoa::Buffer;
-use run_base::{Failure, Shown, Unit, print, read_conf, told_on};
+use run_base::{CommandError, Shown, Unit, print, read_conf, told_on};
 use std::alloc::Global;
 use vt_base::{Scorer, Text};
 use vt_conf::Conf;
+use vt_maintain::{MaintainError, rebuild_store};
 use vt_open::configurations_can_be_opened;
 use vt_out::{Files, Sink};
-use vt_parts::Parts;
+use vt_partitions::Parts;
 use vt_rebuild::RebuildBad;
-use vt_upkeep::{UpkeepBad, rebuild_store};
 
 /// Reads the configuration, rebuilds the index of its store, and prints how many blocks it has.
 pub fn buildindex<I: Files, P: Parts, K: Sink, T: Sink + Drop, S: Scorer>(
@@ -27,7 +27,7 @@ pub fn buildindex<I: Files, P: Parts, K: Sink, T: Sink + Drop, S: Scorer>(
     terminal: Option<T>,
     file: &Text,
     scorer: &S,
-) -> Result<(), Failure>
+) -> Result<(), CommandError>
     ensures does { DoesBuildindex S.score_of P.Disk.Disk file.now result
         (files_change I.Files files.old files.new) (parts_change P.Parts parts.old parts.new)
         (sink_change K.Sink sink.old sink.new) }
@@ -50,7 +50,7 @@ fn rebuild_conf<P: Parts, K: Sink, T: Sink, S: Scorer>(
     file: &Text,
     scorer: &S,
     conf: &Conf,
-) -> Result<(), Failure>
+) -> Result<(), CommandError>
     requires few { length conf.now.arenas.items + length conf.now.sections.items + 1 < 2 ^ 32 }
     requires some_section { 0 < length conf.now.sections.items }
     ensures { RebuildsConf S.score_of P.Disk.Disk file.now conf.now result
@@ -58,13 +58,13 @@ fn rebuild_conf<P: Parts, K: Sink, T: Sink, S: Scorer>(
 {
     match rebuild_store(alloc, parts, conf, scorer, shown) {
         Ok(blocks) => print_blocks(sink, blocks),
-        Err(UpkeepBad::Unopened(bad)) => Err(told_on(alloc, shown, file, conf, bad)),
-        Err(UpkeepBad::Ended(bad)) => Err(failure_of(bad)),
+        Err(MaintainError::Unopened(bad)) => Err(told_on(alloc, shown, file, conf, bad)),
+        Err(MaintainError::Ended(bad)) => Err(rebuild_failure(bad)),
     }
 }
 
 /// Prints the line of an index with the entries of so many blocks.
-fn print_blocks<K: Sink>(sink: &mut K, blocks: u64) -> Result<(), Failure>
+fn print_blocks<K: Sink>(sink: &mut K, blocks: u64) -> Result<(), CommandError>
     ensures { Prints (blocks_line blocks) result (sink_change K.Sink sink.old sink.new) }
 {
     let mut digits = Buffer::new();
@@ -79,17 +79,17 @@ fn print_blocks<K: Sink>(sink: &mut K, blocks: u64) -> Result<(), Failure>
 }
 
 /// What is told of what ended the work.
-fn failure_of(bad: RebuildBad) -> Failure
-    ensures { result ≡ failure_of bad }
+fn rebuild_failure(bad: RebuildBad) -> CommandError
+    ensures { result ≡ rebuild_failure bad }
 {
     match bad {
-        RebuildBad::Fault => Failure::DiskFault,
-        RebuildBad::IndexFull { bucket: _ } => Failure::IndexFull,
+        RebuildBad::Fault => CommandError::DiskFault,
+        RebuildBad::IndexFull { bucket: _ } => CommandError::IndexFull,
         RebuildBad::Damaged {
             place: _,
             want,
             found,
-        } => Failure::Damaged { want, found },
-        RebuildBad::NoMemory => Failure::NoMemory,
+        } => CommandError::Damaged { want, found },
+        RebuildBad::NoMemory => CommandError::NoMemory,
     }
 }

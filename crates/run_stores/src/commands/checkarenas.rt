@@ -4,20 +4,20 @@ ghost use Rattle.std.specs.Prelude.{◌≡◌, ◌+◌, ◌++◌, ◌<◌, ◌^�
 ghost use Rattle.vt_base.specs.Faults.{HasCause};
 ghost use Rattle.vt_out.specs.Streams.{AppendsPrefix};
 ghost use Rattle.run_base.specs.Change.{files_change, parts_change, sink_change};
-ghost use Rattle.run_stores.specs.Checkarenas.{ChecksConf, DoesCheckarenas, TellsReports, arena_line, arena_lines, failure_of, first_of, outcome_of, result_text, state_text};
-ghost use Rattle.run_base.specs.Failure.{HasCauseIn, no_cause, with_files, with_parts, with_sink};
+ghost use Rattle.run_stores.specs.Checkarenas.{ChecksConf, DoesCheckarenas, TellsReports, arena_line, arena_lines, check_failure, first_reported_damage, damage_outcome, result_text, state_text};
+ghost use Rattle.run_base.specs.Errors.{HasCauseIn, no_cause, with_files, with_parts, with_sink};
 
 use itoa::Buffer;
-use run_base::{Failure, Shown, Unit, put_pieces, read_conf, told_on};
+use run_base::{CommandError, Shown, Unit, put_pieces, read_conf, told_on};
 use std::alloc::Global;
 use std::thread::Threads;
 use vt_base::{Failed, Scorer, Text};
 use vt_check::{ArenaReport, CheckErr, Damage};
 use vt_conf::Conf;
+use vt_maintain::{MaintainError, check_store};
 use vt_open::configurations_can_be_opened;
 use vt_out::{Files, Sink};
-use vt_parts::Parts;
-use vt_upkeep::{UpkeepBad, check_store};
+use vt_partitions::Parts;
 
 /// Reads the configuration, checks the arenas of its store, and prints a line for each of them, also
 /// behind a damaged one.
@@ -30,7 +30,7 @@ pub fn checkarenas<I: Files, P: Parts, K: Sink, T: Sink + Drop, S: Scorer + Sync
     terminal: Option<T>,
     file: &Text,
     scorer: &S,
-) -> Result<(), Failure>
+) -> Result<(), CommandError>
     ensures does { DoesCheckarenas S.score_of P.Disk.Disk file.now result
         (files_change I.Files files.old files.new) (parts_change P.Parts parts.old parts.new)
         (sink_change K.Sink sink.old sink.new) }
@@ -54,25 +54,25 @@ fn check_conf<P: Parts, K: Sink, T: Sink, S: Scorer + Sync>(
     file: &Text,
     scorer: &S,
     conf: &Conf,
-) -> Result<(), Failure>
+) -> Result<(), CommandError>
     requires { length conf.now.arenas.items + length conf.now.sections.items + 1 < 2 ^ 32 }
     ensures { ChecksConf S.score_of P.Disk.Disk file.now conf.now result
         (parts_change P.Parts parts.old parts.new) (sink_change K.Sink sink.old sink.new) }
 {
     match check_store(rt, alloc, parts, conf, scorer, shown) {
         Ok(report) => tell(sink, &report.arenas),
-        Err(UpkeepBad::Unopened(bad)) => Err(told_on(alloc, shown, file, conf, bad)),
-        Err(UpkeepBad::Ended(bad)) => Err(failure_of(bad)),
+        Err(MaintainError::Unopened(bad)) => Err(told_on(alloc, shown, file, conf, bad)),
+        Err(MaintainError::Ended(bad)) => Err(check_failure(bad)),
     }
 }
 
 /// Prints the line of each arena, and then tells the first damage, if there is one.
-fn tell<K: Sink>(sink: &mut K, reports: &[ArenaReport]) -> Result<(), Failure>
+fn tell<K: Sink>(sink: &mut K, reports: &[ArenaReport]) -> Result<(), CommandError>
     ensures { TellsReports reports.now result (sink_change K.Sink sink.old sink.new) }
 {
     match put_reports(sink, reports) {
-        Ok(()) => outcome_of(first_of(reports)),
-        Err(Failed) => Err(Failure::WriteFault),
+        Ok(()) => damage_outcome(first_reported_damage(reports)),
+        Err(Failed) => Err(CommandError::WriteFault),
     }
 }
 
@@ -136,30 +136,30 @@ fn result_text(damage: &Option<Damage>) -> &'static [u8]
 }
 
 /// The damage of the first arena that has one.
-fn first_of(reports: &[ArenaReport]) -> Option<Damage>
-    ensures { result ≡ first_of reports.now }
+fn first_reported_damage(reports: &[ArenaReport]) -> Option<Damage>
+    ensures { result ≡ first_reported_damage reports.now }
 {
     match reports {
-        [report, rest @ ..] => report.damage.or(first_of(rest)),
+        [report, rest @ ..] => report.damage.or(first_reported_damage(rest)),
         [] => None,
     }
 }
 
-fn outcome_of(first: Option<Damage>) -> Result<(), Failure>
-    ensures { result ≡ outcome_of first }
+fn damage_outcome(first: Option<Damage>) -> Result<(), CommandError>
+    ensures { result ≡ damage_outcome first }
 {
     match first {
-        Some(Damage { want, found }) => Err(Failure::Damaged { want, found }),
+        Some(Damage { want, found }) => Err(CommandError::Damaged { want, found }),
         None => Ok(()),
     }
 }
 
 /// What is told of what ended the work.
-fn failure_of(bad: CheckErr) -> Failure
-    ensures { result ≡ failure_of bad }
+fn check_failure(bad: CheckErr) -> CommandError
+    ensures { result ≡ check_failure bad }
 {
     match bad {
-        CheckErr::Fault => Failure::DiskFault,
-        CheckErr::NoMemory => Failure::NoMemory,
+        CheckErr::Fault => CommandError::DiskFault,
+        CheckErr::NoMemory => CommandError::NoMemory,
     }
 }

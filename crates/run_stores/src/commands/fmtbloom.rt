@@ -4,17 +4,17 @@ ghost use Rattle.std.specs.Prelude.{ℕ, IfErr, IfOk};
 ghost use Rattle.run_base.specs.Change.{parts_change, sink_change};
 ghost use Rattle.run_stores.specs.Fmtbloom.{AsksForFilter, AsksForNoFilter};
 ghost use Rattle.run_stores.specs.Fmtbloom.{DoesFmtbloom, filter_line};
-ghost use Rattle.run_base.specs.Failure.{HasCauseIn, no_cause, with_parts, with_sink};
+ghost use Rattle.run_base.specs.Errors.{HasCauseIn, no_cause, with_parts, with_sink};
 ghost use Rattle.run_base.specs.Formatting.{Prints};
 
 use crate::refusal::refused;
 use itoa::Buffer;
-use run_base::{Failure, print};
+use run_base::{CommandError, print};
 use std::alloc::Global;
 use vt_base::Text;
 use vt_format::{format_filter, parse_filter_size, parse_positions};
 use vt_out::Sink;
-use vt_parts::Parts;
+use vt_partitions::Parts;
 
 /// Reads the words, makes the file a Bloom filter of this size without a bit, and prints it.
 pub fn fmtbloom<P: Parts, K: Sink, T: Sink + Drop>(
@@ -25,7 +25,7 @@ pub fn fmtbloom<P: Parts, K: Sink, T: Sink + Drop>(
     file: Text,
     size: &Text,
     positions: &Text,
-) -> Result<(), Failure>
+) -> Result<(), CommandError>
     ensures does { DoesFmtbloom P.Disk.Disk file size.now positions.now result
         (parts_change P.Parts parts.old parts.new) (sink_change K.Sink sink.old sink.new) }
     ensures cause { HasCauseIn (with_parts P.Disk.Disk (parts_change P.Parts parts.old parts.new)
@@ -39,7 +39,7 @@ pub fn fmtbloom<P: Parts, K: Sink, T: Sink + Drop>(
 }
 
 /// Prints the line of a filter.
-fn print_filter<K: Sink>(sink: &mut K, bytes: u64, bits: u8) -> Result<(), Failure>
+fn print_filter<K: Sink>(sink: &mut K, bytes: u64, bits: u8) -> Result<(), CommandError>
     ensures { Prints (filter_line bytes bits) result (sink_change K.Sink sink.old sink.new) }
 {
     let mut bytes_digits = Buffer::new();
@@ -57,17 +57,17 @@ fn print_filter<K: Sink>(sink: &mut K, bytes: u64, bits: u8) -> Result<(), Failu
 }
 
 /// The size and the count of bits that are asked for.
-fn read_words(size: &Text, positions: &Text) -> Result<(u64, u8), Failure>
+fn read_words(size: &Text, positions: &Text) -> Result<(u64, u8), CommandError>
     ensures good { IfOk result (λ asked.
         (m : ℕ) × AsksForFilter size.now positions.now m asked.0 asked.1) }
     ensures bad { IfErr result (AsksForNoFilter size.now positions.now) }
 {
     let bytes = match parse_filter_size(size.as_slice()) {
         Ok(bytes) => bytes,
-        Err(bad) => return Err(Failure::BadNumber(bad.at as u64)),
+        Err(bad) => return Err(CommandError::BadNumber(bad.at as u64)),
     };
     match parse_positions(positions.as_slice()) {
         Ok(bits) => Ok((bytes, bits)),
-        Err(bad) => Err(Failure::BadNumber(bad.at as u64)),
+        Err(bad) => Err(CommandError::BadNumber(bad.at as u64)),
     }
 }

@@ -1,21 +1,21 @@
 //! The command `fmtindex CONF`: puts the sections that a configuration names to use as an index.
 
 ghost use Rattle.std.specs.Prelude.{◌<◌, ◌^◌, length};
-ghost use Rattle.vt_format.specs.Index.{files_of};
+ghost use Rattle.vt_format.specs.Index.{files_in_order};
 ghost use Rattle.run_base.specs.Change.{files_change, parts_change, sink_change};
 ghost use Rattle.run_stores.specs.Fmtindex.{DoesFmtindex, IndexesConf, IsIndexRefusal, index_line};
-ghost use Rattle.run_base.specs.Failure.{HasCauseIn, no_cause, with_files, with_parts, with_sink};
+ghost use Rattle.run_base.specs.Errors.{HasCauseIn, no_cause, with_files, with_parts, with_sink};
 ghost use Rattle.run_base.specs.Formatting.{Prints};
 
 use itoa::Buffer;
-use run_base::{Failure, Shown, Unit, name_at, print, read_conf, refusal_among};
+use run_base::{CommandError, Shown, Unit, name_at, print, read_conf, refusal_among};
 use std::alloc::{AllocError, Global};
 use vt_base::{Scorer, Text};
 use vt_conf::Conf;
 use vt_format::laws::configurations_number_their_files;
-use vt_format::{Index, IndexBad, format_index};
+use vt_format::{Index, IndexError, format_index};
 use vt_out::{Files, Sink};
-use vt_parts::Parts;
+use vt_partitions::Parts;
 
 /// Reads the configuration, puts all its sections to use, and prints how many buckets they have.
 pub fn fmtindex<I: Files, P: Parts, K: Sink, T: Sink + Drop, S: Scorer>(
@@ -26,7 +26,7 @@ pub fn fmtindex<I: Files, P: Parts, K: Sink, T: Sink + Drop, S: Scorer>(
     terminal: Option<T>,
     file: &Text,
     scorer: &S,
-) -> Result<(), Failure>
+) -> Result<(), CommandError>
     ensures does { DoesFmtindex P.Disk.Disk file.now result
         (files_change I.Files files.old files.new) (parts_change P.Parts parts.old parts.new)
         (sink_change K.Sink sink.old sink.new) }
@@ -49,8 +49,8 @@ fn index_conf<P: Parts, K: Sink, T: Sink, S: Scorer>(
     file: &Text,
     scorer: &S,
     conf: &Conf,
-) -> Result<(), Failure>
-    requires { length (files_of conf.now) < 2 ^ 32 }
+) -> Result<(), CommandError>
+    requires { length (files_in_order conf.now) < 2 ^ 32 }
     ensures { IndexesConf P.Disk.Disk file.now conf.now result
         (parts_change P.Parts parts.old parts.new) (sink_change K.Sink sink.old sink.new) }
 {
@@ -61,7 +61,7 @@ fn index_conf<P: Parts, K: Sink, T: Sink, S: Scorer>(
 }
 
 /// Prints the line of an index.
-fn print_index<K: Sink>(sink: &mut K, name: &Text, index: Index) -> Result<(), Failure>
+fn print_index<K: Sink>(sink: &mut K, name: &Text, index: Index) -> Result<(), CommandError>
     ensures { Prints (index_line name.now index) result (sink_change K.Sink sink.old sink.new) }
 {
     let mut buckets_digits = Buffer::new();
@@ -87,19 +87,19 @@ fn told<T: Sink>(
     shown: &mut Shown<T>,
     file: &Text,
     conf: &Conf,
-    bad: IndexBad,
-) -> Failure
+    bad: IndexError,
+) -> CommandError
     ensures { IsIndexRefusal file.now conf.now bad result }
 {
     match bad {
-        IndexBad::Fault { part: Some(part) } | IndexBad::Stopped { part } => {
+        IndexError::Fault { part: Some(part) } | IndexError::Stopped { part } => {
             shown.name(name_at(file, conf, part).as_slice());
-            Failure::DiskFault
+            CommandError::DiskFault
         }
-        IndexBad::Fault { part: None } => Failure::DiskFault,
-        IndexBad::Refused(bad) => match refusal_among(alloc, file, conf, bad) {
+        IndexError::Fault { part: None } => CommandError::DiskFault,
+        IndexError::Refused(bad) => match refusal_among(alloc, file, conf, bad) {
             Ok(failure) => failure,
-            Err(AllocError) => Failure::NoMemory,
+            Err(AllocError) => CommandError::NoMemory,
         },
     }
 }

@@ -4,11 +4,11 @@ ghost use Rattle.std.specs.Prelude.{◌≡◌, IfErr, IfOk};
 ghost use Rattle.run_base.specs.Change.{sink_change};
 ghost use Rattle.run_stores.specs.Rehearse.{AsksForNoRehearsal, AsksToRehearse};
 ghost use Rattle.run_stores.specs.Rehearse.{DoesRehearse, check_text, summary_text};
-ghost use Rattle.run_base.specs.Failure.{HasCauseIn, no_cause, with_sink};
+ghost use Rattle.run_base.specs.Errors.{HasCauseIn, no_cause, with_sink};
 ghost use Rattle.run_base.specs.Formatting.{Prints};
 
 use itoa::Buffer;
-use run_base::{Failure, Shown, Unit, print};
+use run_base::{CommandError, Shown, Unit, print};
 use std::alloc::{AllocError, Global};
 use vt_base::Text;
 use vt_conf::parse_number;
@@ -22,7 +22,7 @@ pub fn rehearse<K: Sink, T: Sink + Drop>(
     terminal: Option<T>,
     seed: &Text,
     count: &Text,
-) -> Result<(), Failure>
+) -> Result<(), CommandError>
     ensures does { DoesRehearse seed.now count.now result (sink_change K.Sink sink.old sink.new) }
     ensures cause { HasCauseIn (with_sink (sink_change K.Sink sink.old sink.new) no_cause) result }
 {
@@ -30,12 +30,12 @@ pub fn rehearse<K: Sink, T: Sink + Drop>(
     let mut shown = Shown::new(terminal, Unit::Rounds);
     match vt_rehearse::rehearse(alloc, &mut shown, seed, rounds) {
         Ok(summary) => print_summary(sink, &summary),
-        Err(AllocError) => Err(Failure::NoMemory),
+        Err(AllocError) => Err(CommandError::NoMemory),
     }
 }
 
 /// Prints the lines of a summary.
-fn print_summary<K: Sink>(sink: &mut K, summary: &Summary) -> Result<(), Failure>
+fn print_summary<K: Sink>(sink: &mut K, summary: &Summary) -> Result<(), CommandError>
     ensures { Prints (summary_text summary.now) result (sink_change K.Sink sink.old sink.new) }
 {
     let mut events = Buffer::new();
@@ -89,16 +89,16 @@ fn check_text(ok: bool) -> &'static [u8]
 }
 
 /// The seed and the count that are asked for.
-fn read_words(seed: &Text, count: &Text) -> Result<(u64, u32), Failure>
+fn read_words(seed: &Text, count: &Text) -> Result<(u64, u32), CommandError>
     ensures good { IfOk result (λ asked. AsksToRehearse seed.now count.now asked.0 asked.1) }
     ensures bad { IfErr result (AsksForNoRehearsal seed.now count.now) }
 {
     let seed = match parse_number(seed.as_slice(), 0, (1 << 63) - 1) {
         Ok(seed) => seed,
-        Err(bad) => return Err(Failure::BadNumber(bad.at as u64)),
+        Err(bad) => return Err(CommandError::BadNumber(bad.at as u64)),
     };
     match parse_number(count.as_slice(), 0, u64::from(u32::MAX)) {
         Ok(rounds) => Ok((seed, rounds as u32)),
-        Err(bad) => Err(Failure::BadNumber(bad.at as u64)),
+        Err(bad) => Err(CommandError::BadNumber(bad.at as u64)),
     }
 }

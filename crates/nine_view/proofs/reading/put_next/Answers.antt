@@ -3,8 +3,8 @@ use Rattle.std.specs.Prelude.{IfSome}
 use Rattle.std.specs.List.{All, flat_map}
 use Rattle.std.proofs.lemmas.List.Elements.{All-drop}
 use Rattle.vac_read.specs.declared.node.Node.{Node}
-use Rattle.nine_view.specs.declared.refusal.Refusal.TheVariants.{SmallCount}
-use Rattle.nine_view.specs.Files.{IsTold, stat_in}
+use Rattle.nine_view.specs.declared.request_error.RequestError.TheVariants.{SmallCount}
+use Rattle.nine_view.specs.Files.{FitsMessage, stat_in}
 use Rattle.nine_view.specs.Handling.{has_no_room}
 use Rattle.nine_view.proofs.Fitting.{fitting_few}
 use Rattle.nine_view.proofs.FolderRead.{put_is, told_same}
@@ -13,9 +13,9 @@ use Rattle.nine_view.proofs.reading.put_next.Goals as goal
 pub put_files-count-requires-clause-told : goal.put_files-count-requires-clause-told
 put_files-count-requires-clause-told c =
     let l = c.in-Some.ensures.some in
-    subst (λ (x : List Node). All IsTold x) (sym c.files_from.ensures)
-    (All-drop IsTold c.first_file-from.result c.in-Some.files.now
-    (subst (λ (o : Option (List Node)). IfSome o (All IsTold)) l.2 (c.requires.told l.0 l.1)))
+    subst (λ (x : List Node). All FitsMessage x) (sym c.files_from.ensures)
+    (All-drop FitsMessage c.first_file-from.result c.in-Some.files.now
+    (subst (λ (o : Option (List Node)). IfSome o (All FitsMessage)) l.2 (c.requires.told l.0 l.1)))
 
 pub returns-then-is_small : goal.returns-then-is_small
 returns-then-is_small c = λ f r files at now kept.

@@ -2,19 +2,19 @@ use Rattle.std.proofs.Common.{◌≡◌, ◌≤◌, ◌++◌, ℕ, Ok, Err, List
 use Rattle.std.specs.Prelude.{IsTrue}
 use Rattle.std.proofs.lemmas.List.{take-append-le, take_all}
 use Rattle.std.proofs.lemmas.Result.{err_from_is_err_and}
-use Rattle.nine_view.specs.Hearing.{Hears}
+use Rattle.nine_view.specs.Hearing.{HearsMessage}
 use Rattle.nine_view.specs.Known.{limit}
-use Rattle.nine_view.specs.Replies.{IsMessage, Replies}
+use Rattle.nine_view.specs.Replies.{IsMessage, AnswersMessage}
 use Rattle.nine_view.proofs.Turning.{not_written, replied_in_part, replied_to, unheard}
 use Rattle.nine_view.proofs.serving.turn.Goals as goal
 
 pub returns-in_err-len-clause-turns : goal.returns-in_err-len-clause-turns
 returns-in_err-len-clause-turns g c =
     let p = err_from_is_err_and c.from_residual.result c.from_residual.ensures.1 in
-    let so : Hears (IsTrue g.L.Link.tells) (g.L.Link.given c.args.link.now) (g.L.Link.given c.hear.new.link)
+    let so : HearsMessage (IsTrue g.L.Link.tells) (g.L.Link.given c.args.link.now) (g.L.Link.given c.hear.new.link)
     (g.L.Link.left c.hear.new.link) (limit c.args.view.now) c.args.served.now.taken c.hear.new.taken
     c.hear.new.message (Err c.in_err-len.field-0.0) =
-    subst (λ (n : ℕ). Hears (IsTrue g.L.Link.tells) (g.L.Link.given c.args.link.now)
+    subst (λ (n : ℕ). HearsMessage (IsTrue g.L.Link.tells) (g.L.Link.given c.args.link.now)
     (g.L.Link.given c.hear.new.link) (g.L.Link.left c.hear.new.link) n c.args.served.now.taken c.hear.new.taken
     c.hear.new.message (Err c.in_err-len.field-0.0)) c.limit.ensures.is c.in_err-len.ensures.hears in
     rw (p.1, p.2) (unheard g.B.Blocks.does g.B.Blocks.holds g.B.Scorer.score_of
@@ -26,10 +26,10 @@ returns-in_err-len-clause-turns g c =
 pub returns-in_err-len-clause-writes : goal.returns-in_err-len-clause-writes
 returns-in_err-len-clause-writes g c =
     let p = err_from_is_err_and c.from_residual.result c.from_residual.ensures.1 in
-    let so : Hears (IsTrue g.L.Link.tells) (g.L.Link.given c.args.link.now) (g.L.Link.given c.hear.new.link)
+    let so : HearsMessage (IsTrue g.L.Link.tells) (g.L.Link.given c.args.link.now) (g.L.Link.given c.hear.new.link)
     (g.L.Link.left c.hear.new.link) (limit c.args.view.now) c.args.served.now.taken c.hear.new.taken
     c.hear.new.message (Err c.in_err-len.field-0.0) =
-    subst (λ (n : ℕ). Hears (IsTrue g.L.Link.tells) (g.L.Link.given c.args.link.now)
+    subst (λ (n : ℕ). HearsMessage (IsTrue g.L.Link.tells) (g.L.Link.given c.args.link.now)
     (g.L.Link.given c.hear.new.link) (g.L.Link.left c.hear.new.link) n c.args.served.now.taken c.hear.new.taken
     c.hear.new.message (Err c.in_err-len.field-0.0)) c.limit.ensures.is c.in_err-len.ensures.hears in
     rw (p.1, p.2) (not_written c.in_err-len.field-0.0 (g.L.Link.write_faults c.args.link.now)
@@ -38,20 +38,20 @@ returns-in_err-len-clause-writes g c =
 pub returns-in_err-len-clause-memory : goal.returns-in_err-len-clause-memory
 returns-in_err-len-clause-memory g c =
     let p = err_from_is_err_and c.from_residual.result c.from_residual.ensures.1 in
-    let so : Hears (IsTrue g.L.Link.tells) (g.L.Link.given c.args.link.now) (g.L.Link.given c.hear.new.link)
+    let so : HearsMessage (IsTrue g.L.Link.tells) (g.L.Link.given c.args.link.now) (g.L.Link.given c.hear.new.link)
     (g.L.Link.left c.hear.new.link) (limit c.args.view.now) c.args.served.now.taken c.hear.new.taken
     c.hear.new.message (Err c.in_err-len.field-0.0) =
-    subst (λ (n : ℕ). Hears (IsTrue g.L.Link.tells) (g.L.Link.given c.args.link.now)
+    subst (λ (n : ℕ). HearsMessage (IsTrue g.L.Link.tells) (g.L.Link.given c.args.link.now)
     (g.L.Link.given c.hear.new.link) (g.L.Link.left c.hear.new.link) n c.args.served.now.taken c.hear.new.taken
     c.hear.new.message (Err c.in_err-len.field-0.0)) c.limit.ensures.is c.in_err-len.ensures.hears in
     rw (p.1, p.2) so.hears.2
 
 pub answer-answered-requires-clause-whole : goal.answer-answered-requires-clause-whole
 answer-answered-requires-clause-whole g c =
-    let so : Hears (IsTrue g.L.Link.tells) (g.L.Link.given c.args.link.now) (g.L.Link.given c.hear.new.link)
+    let so : HearsMessage (IsTrue g.L.Link.tells) (g.L.Link.given c.args.link.now) (g.L.Link.given c.hear.new.link)
     (g.L.Link.left c.hear.new.link) (limit c.args.view.now) c.args.served.now.taken c.hear.new.taken
     c.hear.new.message (Ok c.in_ok-len.len) =
-    subst (λ (n : ℕ). Hears (IsTrue g.L.Link.tells) (g.L.Link.given c.args.link.now)
+    subst (λ (n : ℕ). HearsMessage (IsTrue g.L.Link.tells) (g.L.Link.given c.args.link.now)
     (g.L.Link.given c.hear.new.link) (g.L.Link.left c.hear.new.link) n c.args.served.now.taken c.hear.new.taken
     c.hear.new.message (Ok c.in_ok-len.len)) c.limit.ensures.is c.in_ok-len.ensures.hears in
     let new : List ℕ = c.hear.new.message in
@@ -66,10 +66,10 @@ answer-answered-requires-clause-whole g c =
 
 pub returns-in-Ok-clause-turns : goal.returns-in-Ok-clause-turns
 returns-in-Ok-clause-turns g c =
-    let so : Hears (IsTrue g.L.Link.tells) (g.L.Link.given c.args.link.now) (g.L.Link.given c.hear.new.link)
+    let so : HearsMessage (IsTrue g.L.Link.tells) (g.L.Link.given c.args.link.now) (g.L.Link.given c.hear.new.link)
     (g.L.Link.left c.hear.new.link) (limit c.args.view.now) c.args.served.now.taken c.hear.new.taken
     c.hear.new.message (Ok c.in_ok-len.len) =
-    subst (λ (n : ℕ). Hears (IsTrue g.L.Link.tells) (g.L.Link.given c.args.link.now)
+    subst (λ (n : ℕ). HearsMessage (IsTrue g.L.Link.tells) (g.L.Link.given c.args.link.now)
     (g.L.Link.given c.hear.new.link) (g.L.Link.left c.hear.new.link) n c.args.served.now.taken c.hear.new.taken
     c.hear.new.message (Ok c.in_ok-len.len)) c.limit.ensures.is c.in_ok-len.ensures.hears in
     let new : List ℕ = c.hear.new.message in
@@ -95,7 +95,7 @@ returns-in-Ok-clause-turns g c =
     ap (λ (l : List ℕ). take c.answer-answered.result.len l) (c.deref-2.ensures.value ∙ all) in
     let short : length so.came ≤ limit c.args.view.now =
     subst (λ (n : ℕ). n ≤ limit c.args.view.now) so.hears.1 so.hears.2 in
-    let replies = subst (λ (m : List ℕ). Replies g.B.Blocks.does g.B.Blocks.holds g.B.Scorer.score_of
+    let replies = subst (λ (m : List ℕ). AnswersMessage g.B.Blocks.does g.B.Blocks.holds g.B.Scorer.score_of
     c.args.blocks.now c.answer-answered.new.blocks c.args.view.now c.answer-answered.new.self m said
     c.answer-answered.result.failure) message_is c.answer-answered.ensures.replies in
     let written : List ℕ = g.L.Link.written c.args.link.now in
@@ -111,10 +111,10 @@ returns-in-Ok-clause-turns g c =
 
 pub returns-in-Err-clause-turns : goal.returns-in-Err-clause-turns
 returns-in-Err-clause-turns g c =
-    let so : Hears (IsTrue g.L.Link.tells) (g.L.Link.given c.args.link.now) (g.L.Link.given c.hear.new.link)
+    let so : HearsMessage (IsTrue g.L.Link.tells) (g.L.Link.given c.args.link.now) (g.L.Link.given c.hear.new.link)
     (g.L.Link.left c.hear.new.link) (limit c.args.view.now) c.args.served.now.taken c.hear.new.taken
     c.hear.new.message (Ok c.in_ok-len.len) =
-    subst (λ (n : ℕ). Hears (IsTrue g.L.Link.tells) (g.L.Link.given c.args.link.now)
+    subst (λ (n : ℕ). HearsMessage (IsTrue g.L.Link.tells) (g.L.Link.given c.args.link.now)
     (g.L.Link.given c.hear.new.link) (g.L.Link.left c.hear.new.link) n c.args.served.now.taken c.hear.new.taken
     c.hear.new.message (Ok c.in_ok-len.len)) c.limit.ensures.is c.in_ok-len.ensures.hears in
     let new : List ℕ = c.hear.new.message in
@@ -140,7 +140,7 @@ returns-in-Err-clause-turns g c =
     ap (λ (l : List ℕ). take c.answer-answered.result.len l) (c.deref-2.ensures.value ∙ all) in
     let short : length so.came ≤ limit c.args.view.now =
     subst (λ (n : ℕ). n ≤ limit c.args.view.now) so.hears.1 so.hears.2 in
-    let replies = subst (λ (m : List ℕ). Replies g.B.Blocks.does g.B.Blocks.holds g.B.Scorer.score_of
+    let replies = subst (λ (m : List ℕ). AnswersMessage g.B.Blocks.does g.B.Blocks.holds g.B.Scorer.score_of
     c.args.blocks.now c.answer-answered.new.blocks c.args.view.now c.answer-answered.new.self m said
     c.answer-answered.result.failure) message_is c.answer-answered.ensures.replies in
     let written : List ℕ = g.L.Link.written c.args.link.now in

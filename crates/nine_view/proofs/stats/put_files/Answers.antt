@@ -1,9 +1,9 @@
 use Rattle.std.proofs.Common.{◌≡◌, ℕ, List, length, sym, ◌∙◌, ap, subst, arith}
 use Rattle.vac_read.specs.declared.node.Node.{Node}
 use Rattle.nine_wire.specs.Messages.{FitsStat, Stat, stat_bytes}
-use Rattle.nine_wire.specs.Views.{stat_of as wire_stat}
-use Rattle.nine_wire.specs.Writing.{Writes}
-use Rattle.nine_view.specs.Files.{IsTold, stat_in}
+use Rattle.nine_wire.specs.Views.{wire_stat}
+use Rattle.nine_wire.specs.Writing.{WritesField}
+use Rattle.nine_view.specs.Files.{FitsMessage, stat_in}
 use Rattle.nine_view.proofs.Fitting.{puts_more, puts_none}
 use Rattle.nine_view.proofs.stats.put_files.Goals as goal
 
@@ -12,7 +12,7 @@ loop-node-init c = puts_none c.args.room c.args.files.now c.args.buf.now
 
 pub stat_of-stat-requires : goal.stat_of-stat-requires
 stat_of-stat-requires c =
-    subst IsTold (sym c.node-item.is)
+    subst FitsMessage (sym c.node-item.is)
     (c.requires.told c.loop-node.node-index c.node-item.result c.loop-node-test.true)
 
 pub stat_len-requires : goal.stat_len-requires
@@ -31,5 +31,5 @@ loop-node-preserved c =
     puts_more c.args.room files c.loop-node.node-index c.loop-node.count c.loop-node.end
     c.put_stat-end.result c.loop-node.buf c.put_stat-end.new.buf node c.loop-node-test.true
     c.node-item.is c.loop-node.invariant (omega (arith, len, room))
-    (subst (λ (l : List ℕ). Writes c.loop-node.end c.put_stat-end.result c.loop-node.buf
+    (subst (λ (l : List ℕ). WritesField c.loop-node.end c.put_stat-end.result c.loop-node.buf
     c.put_stat-end.new.buf l) stat c.put_stat-end.ensures)

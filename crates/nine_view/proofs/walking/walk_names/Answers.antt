@@ -2,13 +2,13 @@ use Rattle.std.proofs.Common.{◌≡◌, ◌<◌, ◌^◌, ◌++◌, ℕ, Result
 use Rattle.std.specs.List.{AllByRecursion}
 use Rattle.std.proofs.lemmas.Option.{MatchOption-at_some}
 use Rattle.std.proofs.lemmas.Result.{err_from_is_err_and}
-use Rattle.vac_read.specs.declared.err.VacBad.TheVariants.{NoMemory}
+use Rattle.vac_read.specs.declared.error.VacBad.TheVariants.{NoMemory}
 use Rattle.vac_read.proofs.Readings.{reads_as, reads_nothing, reads_then}
 use Rattle.nine_wire.specs.declared.stat.Qid as wire
 use Rattle.nine_wire.specs.Messages.{Qid}
-use Rattle.nine_wire.specs.Views.{qid_of as wire_qid}
+use Rattle.nine_wire.specs.Views.{wire_qid}
 use Rattle.nine_view.specs.declared.place.Place.{Place}
-use Rattle.nine_view.specs.declared.refusal.Refusal.{Refusal}
+use Rattle.nine_view.specs.declared.request_error.RequestError.{RequestError}
 use Rattle.nine_view.specs.Walking.{AreQids}
 use Rattle.nine_view.specs.Walks.{IsLost, Walks}
 use Rattle.nine_view.proofs.Steps.{a_walk, lost_on, qids_at, walks_more, walks_no_further}
@@ -48,7 +48,7 @@ returns-in-Err-clause-reads g c =
     (λ blocks walks. subst (λ (l : List (List ℕ)).
     Walks blocks (Ok c.args.from) l (a_walk qids (Err c.in-Err.why))) (sym at)
     (walks_no_further blocks (name ∷ rest) front (Ok c.args.from) qids c.in-Err.why
-    (subst (λ (e : Result Place Refusal). Walks blocks (Ok c.args.from) front (a_walk qids e))
+    (subst (λ (e : Result Place RequestError). Walks blocks (Ok c.args.from) front (a_walk qids e))
     c.in-Err.is walks)))
 
 pub returns-in-Err-clause-paths : goal.returns-in-Err-clause-paths
@@ -72,7 +72,7 @@ returns-in_err-end-clause-reads g c =
     (λ blocks walks lost some. subst (λ (l : List (List ℕ)). IsLost blocks (Ok c.args.from) l bad)
     (sym at)
     (lost_on blocks name rest front c.args.from qids c.in-Ok.at bad
-    (subst (λ (e : Result Place Refusal). Walks blocks (Ok c.args.from) front (a_walk qids e))
+    (subst (λ (e : Result Place RequestError). Walks blocks (Ok c.args.from) front (a_walk qids e))
     c.in-Ok.is walks) (lost some))))
 
 pub returns-in_err-push-clause-reads : goal.returns-in_err-push-clause-reads
@@ -94,7 +94,7 @@ loop-left-preserved g c =
     let at : names ≡ front ++ name ∷ rest =
     MatchOption-at_some _ _ _ c.in-Some.is inv.names_are in
     let qids : List Qid = map wire_qid c.loop-left.qids.items in
-    let end : Result Place Refusal = c.in_ok-end.end in
+    let end : Result Place RequestError = c.in_ok-end.end in
     let old : List wire.Qid = c.loop-left.qids.items in
     let new : List wire.Qid = c.match-end-2.qids.items in
     let same : map wire_qid new ≡ map wire_qid old ++ qids_at end =
@@ -127,7 +127,7 @@ loop-left-preserved g c =
           (λ blocks walks steps. subst (λ (l : List Qid).
           Walks blocks (Ok c.args.from) (front ++ name ∷ []) (a_walk l end)) (sym same)
           (walks_more blocks name front c.args.from qids c.in-Ok.at end
-          (subst (λ (e : Result Place Refusal). Walks blocks (Ok c.args.from) front (a_walk qids e))
+          (subst (λ (e : Result Place RequestError). Walks blocks (Ok c.args.from) front (a_walk qids e))
           c.in-Ok.is walks) steps));
     }
 

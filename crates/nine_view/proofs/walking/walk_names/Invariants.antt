@@ -1,8 +1,8 @@
 use Rattle.std.proofs.Common.{◌≡◌, ◌+◌, ◌≤◌, ◌++◌, ℕ, Ok, List, ◌∷◌, length, map}
 use Rattle.std.specs.Prelude.{IfOk, MatchOption}
 use Rattle.std.specs.Option.{option_map_or}
-use Rattle.vac_read.specs.Reading.{Reads}
-use Rattle.nine_wire.specs.Views.{qid_of as wire_qid}
+use Rattle.vac_read.specs.Reading.{ReadsArchive}
+use Rattle.nine_wire.specs.Views.{wire_qid}
 use Rattle.nine_view.specs.Walking.{AreQids, IsToldPlace}
 use Rattle.nine_view.specs.Walks.{Walks}
 use Rattle.nine_view.proofs.Steps.{a_walk}
@@ -17,7 +17,7 @@ invariant-loop-left g l = record {
   few : length l.qids.items ≤ length front;
   paths : AreQids l.qids.items;
   told : IfOk l.end IsToldPlace;
-  reads : Reads g.B.Blocks.does g.B.Blocks.holds g.B.Scorer.score_of l.fn.blocks l.blocks
+  reads : ReadsArchive g.B.Blocks.does g.B.Blocks.holds g.B.Scorer.score_of l.fn.blocks l.blocks
       (Ok (tt {0}))
       (λ blocks. Walks blocks (Ok l.fn.from) front (a_walk (map wire_qid l.qids.items) l.end));
 }

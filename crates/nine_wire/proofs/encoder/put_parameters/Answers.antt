@@ -3,8 +3,8 @@ use Rattle.std.specs.Prelude.{map}
 use Rattle.std.proofs.lemmas.List.{length-map}
 use Rattle.nine_wire.specs.declared.message.Reply.{Reply}
 use Rattle.nine_wire.specs.Messages.{reply_parameters}
-use Rattle.nine_wire.specs.Views.{qid_of, reply_of}
-use Rattle.nine_wire.specs.Writing.{Writes}
+use Rattle.nine_wire.specs.Views.{wire_qid, reply_of}
+use Rattle.nine_wire.specs.Writing.{WritesField}
 use Rattle.nine_wire.proofs.Framed.{qids_len}
 use Rattle.nine_wire.proofs.Writes.{and_then, one_field, sized}
 use Rattle.nine_wire.proofs.encoder.put_parameters.Goals as goal
@@ -17,26 +17,26 @@ put_qids-requires-clause-room c =
     omega (
       arith,
       room,
-      qids_len (map qid_of c.in-Walk.qids.now),
-      length-map c.in-Walk.qids.now qid_of,
+      qids_len (map wire_qid c.in-Walk.qids.now),
+      length-map c.in-Walk.qids.now wire_qid,
     )
 
 pub returns-in-Version : goal.returns-in-Version
 returns-in-Version c =
-    subst (λ (r : Reply). Writes c.args.at c.put_string.result c.args.buf.now
+    subst (λ (r : Reply). WritesField c.args.at c.put_string.result c.args.buf.now
     c.put_string.new.buf (reply_parameters (reply_of r))) (sym c.in-Version.is)
     (and_then c.put_u32-at.ensures c.put_string.ensures)
 
 pub returns-in-Open : goal.returns-in-Open
 returns-in-Open c =
-    subst (λ (r : Reply). Writes c.args.at c.put_u32.result c.args.buf.now c.put_u32.new.buf
+    subst (λ (r : Reply). WritesField c.args.at c.put_u32.result c.args.buf.now c.put_u32.new.buf
     (reply_parameters (reply_of r))) (sym c.in-Open.is)
     (and_then c.put_qid-at.ensures c.put_u32.ensures)
 
 pub returns-in-Read : goal.returns-in-Read
 returns-in-Read c =
     let at = c.put_u32-at-in-Read in
-    subst (λ (r : Reply). Writes c.args.at c.put.result c.args.buf.now c.put.new.buf
+    subst (λ (r : Reply). WritesField c.args.at c.put.result c.args.buf.now c.put.new.buf
     (reply_parameters (reply_of r))) (sym c.in-Read.is)
     (and_then at.ensures (one_field at.result c.put.result (length c.in-Read.bytes.now)
     at.new.buf c.put.new.buf c.in-Read.bytes.now c.put.ensures.end refl c.put.ensures.written
@@ -47,6 +47,6 @@ returns-in-Stat c =
     let room = subst
     (λ (r : Reply). c.args.at + length (reply_parameters (reply_of r)) ≤ length c.args.buf.now)
     c.in-Stat.is c.requires.room in
-    subst (λ (r : Reply). Writes c.args.at c.put_stat-end.result c.args.buf.now c.put_u16.new.buf
+    subst (λ (r : Reply). WritesField c.args.at c.put_stat-end.result c.args.buf.now c.put_u16.new.buf
     (reply_parameters (reply_of r))) (sym c.in-Stat.is)
     (sized c.args.at (omega (arith, room)) c.put_stat-end.ensures c.put_u16.ensures)

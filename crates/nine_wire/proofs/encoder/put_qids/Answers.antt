@@ -6,20 +6,20 @@ use Rattle.std.proofs.lemmas.List.{take_more, map-append}
 use Rattle.byteorder.specs.Endian.{little_bytes}
 use Rattle.nine_wire.specs.Messages.{qid_bytes}
 use Rattle.nine_wire.specs.declared.stat.Qid.{Qid}
-use Rattle.nine_wire.specs.Views.{qid_of}
+use Rattle.nine_wire.specs.Views.{wire_qid}
 use Rattle.nine_wire.proofs.Writes.{and_then, so_spelled}
 use Rattle.nine_wire.proofs.encoder.put_qids.Goals as goal
 
 next_qid : (xs : List Qid) (i : ℕ) (d : Qid) → i < length xs
-    → flat_map qid_bytes (map qid_of (take i xs)) ++ qid_bytes (qid_of (slice_index_or xs i d))
-    ≡ flat_map qid_bytes (map qid_of (take (i + 1) xs))
+    → flat_map qid_bytes (map wire_qid (take i xs)) ++ qid_bytes (wire_qid (slice_index_or xs i d))
+    ≡ flat_map qid_bytes (map wire_qid (take (i + 1) xs))
 next_qid xs i d less =
-    let q : List ℕ = qid_bytes (qid_of (slice_index_or xs i d)) in
-    ap (λ (l : List ℕ). flat_map qid_bytes (map qid_of (take i xs)) ++ l) (sym (append-nil q))
-    ∙ sym (flat_map-append qid_bytes (map qid_of (take i xs))
-    (qid_of (slice_index_or xs i d) ∷ []))
-    ∙ ap (flat_map qid_bytes) (sym (map-append qid_of (take i xs) (slice_index_or xs i d ∷ [])))
-    ∙ ap (λ (l : List Qid). flat_map qid_bytes (map qid_of l)) (sym (take_more xs i d less))
+    let q : List ℕ = qid_bytes (wire_qid (slice_index_or xs i d)) in
+    ap (λ (l : List ℕ). flat_map qid_bytes (map wire_qid (take i xs)) ++ l) (sym (append-nil q))
+    ∙ sym (flat_map-append qid_bytes (map wire_qid (take i xs))
+    (wire_qid (slice_index_or xs i d) ∷ []))
+    ∙ ap (flat_map qid_bytes) (sym (map-append wire_qid (take i xs) (slice_index_or xs i d ∷ [])))
+    ∙ ap (λ (l : List Qid). flat_map qid_bytes (map wire_qid l)) (sym (take_more xs i d less))
 
 pub loop-qid-preserved : goal.loop-qid-preserved
 loop-qid-preserved c =

@@ -1,7 +1,7 @@
 use Rattle.std.proofs.Common.{◌≡◌, ◌≢◌, ◌==◌, ◌∙◌, ℕ, List, [], ◌∷◌, ◌++◌, false, length, sym, ap, refl, arith}
 use Rattle.std.proofs.lemmas.Bool.{eqb-true, eqb-false}
 use Rattle.std.proofs.lemmas.List.{length_push}
-use Rattle.nine_wire.specs.Names.{Fill}
+use Rattle.nine_wire.specs.Names.{SpellNames}
 use Rattle.nine_wire.proofs.NamesIn.{all_more, read_more, filled, no_more, not_all}
 use Rattle.nine_wire.proofs.Strings.{if_none}
 use Rattle.nine_wire.proofs.names.names_of.Goals as goal
@@ -25,7 +25,7 @@ pub returns-in_err-_name-clause-none : goal.returns-in_err-_name-clause-none
 returns-in_err-_name-clause-none c =
     let inv = c.loop.invariant in
     if_none c.from_residual.result
-    ((names : List (List ℕ)) → length names ≡ c.args.count → ¬ Fill names c.args.bytes.now)
+    ((names : List (List ℕ)) → length names ≡ c.args.count → ¬ SpellNames names c.args.bytes.now)
     (λ names len fill. no_more inv.names names c.args.bytes.now c.loop.rest.now inv.each
     (omega (arith, len, inv.len, c.loop-test.true)) inv.read c.in_err-_name.ensures.none fill)
 

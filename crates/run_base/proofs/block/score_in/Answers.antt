@@ -1,7 +1,7 @@
 -- no score is spelled by a word that isn't read as one
 use Rattle.std.proofs.Common.{◌∙◌, ap, subst, sym}
 use Rattle.vt_base.specs.ScoreText.{SpellsScore, wrong_place}
-use Rattle.run_base.specs.declared.failure.Failure.TheVariants.{BadScore}
+use Rattle.run_base.specs.declared.error.CommandError.TheVariants.{BadScore}
 use Rattle.run_base.proofs.block.score_in.Goals as goal
 
 pub returns-in-Err-clause-bad : goal.returns-in-Err-clause-bad

@@ -2,9 +2,9 @@ use Rattle.std.proofs.Common.{◌≡◌, ◌<◌, ◌==◌, ◌∙◌, true, fal
 use Rattle.std.specs.List.{AllByRecursion}
 use Rattle.std.proofs.lemmas.Bool.{eqb-true, eqb-false}
 use Rattle.std.proofs.lemmas.Result.{err_from_is_err_and}
-use Rattle.vac_meta.specs.declared.err.MetaErr.TheVariants.{Bad}
+use Rattle.vac_meta.specs.declared.error.MetaErr.TheVariants.{Bad}
 use Rattle.vac_meta.specs.declared.record.Record.{Record}
-use Rattle.vac_meta.specs.Found.{record_of}
+use Rattle.vac_meta.specs.Found.{found_record}
 use Rattle.vac_meta.specs.Records.{IsRecord, Ascend, last_name, is_next, all_spelled}
 use Rattle.vac_meta.proofs.Spelled.{each-append, ascend-append, last_name-append, further}
 use Rattle.vac_meta.proofs.Refused.{read_whole, refused_here, not_refused, one_list}
@@ -39,7 +39,7 @@ pub loop-last-preserved : goal.loop-last-preserved
 loop-last-preserved c =
     let inv = c.loop-last.invariant in
     let xs : List Record = c.loop-last.records.items in
-    let r : Record = record_of c.in_ok-found.found in
+    let r : Record = found_record c.in_ok-found.found in
     let found = c.in_ok-found.ensures in
     let more : c.push.new.self.items ≡ xs ++ r ∷ [] =
     c.in_ok-push.ensures.items ∙ ap (λ (x : Record). xs ++ x ∷ []) c.in_ok-kept.ensures in

@@ -4,7 +4,7 @@ use Rattle.std.specs.Option.{option_copied}
 use Rattle.std.proofs.lemmas.Result.{err_from_is_err_and}
 use Rattle.vt_base.specs.Bytes.{AreBytes}
 use Rattle.vac_meta.specs.declared.decoding.Found.{Found}
-use Rattle.vac_meta.specs.Found.{record_of}
+use Rattle.vac_meta.specs.Found.{found_record}
 use Rattle.vac_meta.specs.Records.{string}
 use Rattle.vac_meta.proofs.Flawless.{behind_name, behind_numbers, behind_uid, stops_at_numbers, stops_at_uid}
 use Rattle.vac_meta.proofs.Fronts.{bytes_before, bytes_behind, joined, numbers_are, ranges}
@@ -91,7 +91,7 @@ returns-clause-whole c =
       uid = c.in_ok-uid.uid;
       gid = c.in_ok-gid.gid;
     } in
-    joined (record_of found) c.args.bytes.now c.in_ok-name.rest.now found.numbers.now
+    joined (found_record found) c.args.bytes.now c.in_ok-name.rest.now found.numbers.now
     c.in_ok-numbers.rest.now c.in_ok-uid.rest.now c.in_ok-gid.rest.now name.whole numbers.whole
     (numbers_are found numbers.len numbers.kind
     (are c.args.bytes.now c.in_ok-name.name.now c.in_ok-name.rest.now found.numbers.now

@@ -1,8 +1,8 @@
 use Rattle.std.proofs.Common.{◌≡◌, rules, refl, true, arith}
 use Rattle.std.specs.Prelude.{not, codes}
 use Rattle.std.specs.Str.{bytes_eq}
-use Rattle.vt_fields.specs.Filled.{filled}
-use Rattle.vac_read.specs.declared.err.RootField.TheVariants.{«Type» as Kind, BlockSize}
+use Rattle.vt_base.specs.Filled.{filled}
+use Rattle.vac_read.specs.declared.error.RootField.TheVariants.{«Type» as Kind, BlockSize}
 use Rattle.vac_read.proofs.Roots.{kind_flaw, small_flaw, large_flaw}
 use Rattle.vac_read.proofs.archive.root_in.Goals as goal
 use Rattle.vac_read.proofs.archive.root_in.Goals.{then-root-lt-MIN_BLOCK_SIZE-via-then-root-lt-MIN_BLOCK_SIZE, then-root-lt-MIN_BLOCK_SIZE-via-else-root-lt-MIN_BLOCK_SIZE+then-root-gt-MAX_BLOCK_SIZE}

@@ -4,7 +4,7 @@ use Rattle.std.proofs.lemmas.List.{take_all}
 use Rattle.std.proofs.lemmas.Result.{err_from_is_err_and}
 use Rattle.vac_read.specs.declared.node.Node.{Node}
 use Rattle.vac_read.specs.Broken.{IsUnfound}
-use Rattle.vac_read.specs.Nodes.{AreEntries, Finds, Leads}
+use Rattle.vac_read.specs.Nodes.{AreNodeEntries, FindsNode, Leads}
 use Rattle.vac_read.specs.Reading.{IsLost}
 use Rattle.vac_read.proofs.Lists.{split_at, take_more}
 use Rattle.vac_read.proofs.Readings.{reads_as, reads_then}
@@ -42,8 +42,8 @@ returns-in-None-clause-walks g c =
     (Ok None) _ _ _ refl c.loop-name.invariant.reads c.in_ok-next.ensures.finds
     (λ map leads finds. subst (λ (l : List (List ℕ)). Leads map (Some node) l None) (sym split)
     (leads_nowhere map name (drop (suc i) names) node found (take i names) leads
-    (subst (λ (l : List ℕ). Finds map found.stored l None) c.as_slice.ensures
-    (subst (λ (o : Option Node). Finds map found.stored c.as_slice.result.now o) c.in-None.is
+    (subst (λ (l : List ℕ). FindsNode map found.stored l None) c.as_slice.ensures
+    (subst (λ (o : Option Node). FindsNode map found.stored c.as_slice.result.now o) c.in-None.is
     finds))))
 
 pub loop-name-preserved : goal.loop-name-preserved
@@ -56,7 +56,7 @@ loop-name-preserved g c =
     let name : List ℕ = c.name-item.result in
     let more = take_more names i name c.loop-name-test.true c.name-item.is in
     record {
-      entries = subst (λ (o : Option Node). IfSome o (λ (n : Node). AreEntries n.stored))
+      entries = subst (λ (o : Option Node). IfSome o (λ (n : Node). AreNodeEntries n.stored))
           c.in-Some.is c.in_ok-next.ensures.entries;
       reads = reads_then g.B.Blocks.does g.B.Blocks.holds g.B.Scorer.score_of
           c.args.blocks.now c.loop-name.blocks c.find_item.new.blocks (tt {0})
@@ -65,8 +65,8 @@ loop-name-preserved g c =
           (λ map leads finds.
           subst (λ (l : List (List ℕ)). Leads map (Some node) l (Some next)) (sym more)
           (leads_one_more map name node found (Some next) (take i names) leads
-          (subst (λ (l : List ℕ). Finds map found.stored l (Some next)) c.as_slice.ensures
-          (subst (λ (o : Option Node). Finds map found.stored c.as_slice.result.now o) c.in-Some.is
+          (subst (λ (l : List ℕ). FindsNode map found.stored l (Some next)) c.as_slice.ensures
+          (subst (λ (o : Option Node). FindsNode map found.stored c.as_slice.result.now o) c.in-Some.is
           finds))));
     }
 

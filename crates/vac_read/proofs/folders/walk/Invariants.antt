@@ -1,11 +1,11 @@
 use Rattle.std.proofs.Common.{Ok, Some, take}
-use Rattle.vac_read.specs.Nodes.{AreEntries, Leads}
-use Rattle.vac_read.specs.Reading.{Reads}
+use Rattle.vac_read.specs.Nodes.{AreNodeEntries, Leads}
+use Rattle.vac_read.specs.Reading.{ReadsArchive}
 use Rattle.vac_read.proofs.folders.walk.Given as goal
 
 abbrev pub invariant-loop-name : goal.invariant-loop-name
 invariant-loop-name g l = record {
-  entries : AreEntries l.found.stored;
-  reads : Reads g.B.Blocks.does g.B.Blocks.holds g.B.Scorer.score_of l.fn.blocks l.blocks
+  entries : AreNodeEntries l.found.stored;
+  reads : ReadsArchive g.B.Blocks.does g.B.Blocks.holds g.B.Scorer.score_of l.fn.blocks l.blocks
       (Ok (tt {0})) (λ map. Leads map (Some l.node) (take l.name-index l.names) (Some l.found));
 }

@@ -5,9 +5,9 @@ use Rattle.std.proofs.lemmas.List.Elements.{All-push}
 use Rattle.std.proofs.lemmas.Result.{err_from_is_err_and}
 use Rattle.vt_tree.specs.declared.entry.Entry.{Entry}
 use Rattle.vac_meta.specs.declared.record.Record.{Record}
-use Rattle.vac_read.specs.declared.err.VacBad.TheVariants.{NoMemory}
+use Rattle.vac_read.specs.declared.error.VacBad.TheVariants.{NoMemory}
 use Rattle.vac_read.specs.declared.node.Node.{Node}
-use Rattle.vac_read.specs.Nodes.{AreEntries, AreNodes, FitsItem, IsDirectory, IsNode}
+use Rattle.vac_read.specs.Nodes.{AreNodeEntries, AreNodes, FitsToldItem, IsDirectory, IsNode}
 use Rattle.vac_read.proofs.Lists.{all_of_it, is_record_there, nodes_more, place_more, place_within}
 use Rattle.vac_read.proofs.Readings.{reads_nothing, reads_as, reads_then}
 use Rattle.vac_read.proofs.Steps.{node_lacks}
@@ -107,11 +107,11 @@ loop-record-preserved g c =
       among = inv.among ∙ ap (λ (l : List Record). before ++ l) steps.0
           ∙ sym (append_assoc before (r ∷ []) (into_iter_items c.next.new.self));
       len = omega arith;
-      entries = subst (λ (l : List Node). All (λ (n : Node). AreEntries n.stored) l) (sym more)
-          (All-push (λ (n : Node). AreEntries n.stored) nodes node inv.entries
+      entries = subst (λ (l : List Node). All (λ (n : Node). AreNodeEntries n.stored) l) (sym more)
+          (All-push (λ (n : Node). AreNodeEntries n.stored) nodes node inv.entries
           c.in_ok-node.ensures.entries);
-      items = subst (λ (l : List Node). All (λ (n : Node). FitsItem n.item) l) (sym more)
-          (All-push (λ (n : Node). FitsItem n.item) nodes node inv.items
+      items = subst (λ (l : List Node). All (λ (n : Node). FitsToldItem n.item) l) (sym more)
+          (All-push (λ (n : Node). FitsToldItem n.item) nodes node inv.items
           c.in_ok-node.ensures.item);
       reads = reads_then g.B.Blocks.does g.B.Blocks.holds g.B.Scorer.score_of
           c.args.blocks.now c.loop-record.blocks c.node_of.new.blocks (tt {0}) (Ok node)

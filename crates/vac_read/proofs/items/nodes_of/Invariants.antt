@@ -3,9 +3,9 @@ use Rattle.std.specs.List.{All}
 use Rattle.std.specs.Vec.Iter.{into_iter_items, into_iter_len}
 use Rattle.vac_meta.specs.Records.{all_spelled}
 use Rattle.vac_read.specs.declared.node.Node.{Node}
-use Rattle.vac_read.specs.Folders.{Keeps}
-use Rattle.vac_read.specs.Nodes.{AreEntries, AreNodes, FitsItem}
-use Rattle.vac_read.specs.Reading.{Reads}
+use Rattle.vac_read.specs.Folders.{KeepsLeaf}
+use Rattle.vac_read.specs.Nodes.{AreNodeEntries, AreNodes, FitsToldItem}
+use Rattle.vac_read.specs.Reading.{ReadsArchive}
 use Rattle.vac_read.proofs.items.nodes_of.Given as goal
 
 abbrev pub invariant-loop-record : goal.invariant-loop-record
@@ -14,9 +14,9 @@ invariant-loop-record g l = record {
   place_is : l.place ≡ length (all_spelled l.yielded);
   among : l.fn.records ≡ l.yielded ++ into_iter_items l.record-iterator;
   len : into_iter_len l.record-iterator ≡ length (into_iter_items l.record-iterator);
-  entries : All (λ (n : Node). AreEntries n.stored) l.nodes.items;
-  items : All (λ (n : Node). FitsItem n.item) l.nodes.items;
-  reads : Reads g.B.Blocks.does g.B.Blocks.holds g.B.Scorer.score_of l.fn.blocks l.blocks
+  entries : All (λ (n : Node). AreNodeEntries n.stored) l.nodes.items;
+  items : All (λ (n : Node). FitsToldItem n.item) l.nodes.items;
+  reads : ReadsArchive g.B.Blocks.does g.B.Blocks.holds g.B.Scorer.score_of l.fn.blocks l.blocks
       (Ok (tt {0}))
-      (λ map. Keeps map l.directory × AreNodes map l.fn.entries l.yielded l.nodes.items);
+      (λ map. KeepsLeaf map l.directory × AreNodes map l.fn.entries l.yielded l.nodes.items);
 }

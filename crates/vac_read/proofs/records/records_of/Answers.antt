@@ -1,9 +1,9 @@
 use Rattle.std.proofs.Common.{◌≡◌, ◌-◌, ℕ, List, min, Ok, Err, refl, ◌∙◌, subst, inl, inr, arith}
 use Rattle.std.proofs.lemmas.Result.{err_from_is_err_and}
 use Rattle.vt_tree.specs.Content.{size_of}
-use Rattle.vac_meta.specs.declared.err.MetaErr.TheVariants.{Bad}
-use Rattle.vac_meta.specs.Flaws.{IsRefused}
-use Rattle.vac_read.specs.declared.err.VacBad.TheVariants.{Tree, Meta}
+use Rattle.vac_meta.specs.declared.error.MetaErr.TheVariants.{Bad}
+use Rattle.vac_meta.specs.Flaws.{IsRefusedMetadata}
+use Rattle.vac_read.specs.declared.error.VacBad.TheVariants.{Tree, Meta}
 use Rattle.vac_read.specs.Broken.{AreShort, IsUnread}
 use Rattle.vac_read.proofs.Readings.{range_told, reads_as}
 use Rattle.vac_read.proofs.records.records_of.Goals as goal
@@ -40,8 +40,8 @@ returns-in-Err-Bad-clause-reads g c =
     let short : AreShort c.args.entries.now e =
     record { short_entries = omega arith; short_metadata = omega arith } in
     let bad : c.decode.result ≡ Err (Bad at why) = cc in
-    let refused : IsRefused bytes (Bad at why) =
-    subst (λ (l : List ℕ). IsRefused l (Bad at why)) c.as_slice.ensures
+    let refused : IsRefusedMetadata bytes (Bad at why) =
+    subst (λ (l : List ℕ). IsRefusedMetadata l (Bad at why)) c.as_slice.ensures
     (c.decode.ensures.refused at why bad) in
     reads_as g.B.Blocks.does g.B.Blocks.holds g.B.Scorer.score_of
     c.args.blocks.now c.read_range.new.blocks (Ok bytes) (Err (Meta at)) _ _ refl

@@ -1,6 +1,6 @@
 -- one use of the store, by a job that reads
 use Rattle.std.proofs.Common.{◌∙◌, ap}
-use Rattle.vt_drive.specs.Driven.{DrivenState}
+use Rattle.vt_requests.specs.Driven.{DrivenState}
 use Rattle.vac_view.proofs.stored.view_on.Goals as goal
 
 pub returns-clause-views : goal.returns-clause-views

@@ -2,14 +2,14 @@ use Rattle.std.proofs.Common.{◌≡◌, ◌+◌, ℕ, List, [], ◌∷◌, ◌+
 use Rattle.std.specs.Prelude.{codes}
 use Rattle.std.proofs.lemmas.List.{take_all}
 use Rattle.std.proofs.lemmas.Result.{err_from_is_err_and}
-use Rattle.vt_fields.specs.Filled.{filled}
+use Rattle.vt_base.specs.Filled.{filled}
 use Rattle.vt_model.specs.History.{Block}
-use Rattle.vt_tree.specs.declared.err.TreeErr.TheVariants as trees
-use Rattle.vt_tree.specs.Entries.{spelled as entry_bytes}
-use Rattle.vt_tree.specs.Roots.{spelled as root_bytes}
+use Rattle.vt_tree.specs.declared.error.TreeErr.TheVariants as trees
+use Rattle.vt_tree.specs.Entries.{tree_entry_bytes}
+use Rattle.vt_tree.specs.Roots.{root_bytes}
 use Rattle.vac_model.specs.Archives.{root_of}
 use Rattle.vac_model.proofs.Stands.{entry_len}
-use Rattle.vac_write.specs.declared.err.VacErr.TheVariants.{Tree}
+use Rattle.vac_write.specs.declared.error.VacErr.TheVariants.{Tree}
 use Rattle.vac_write.specs.Puts.{PutsBlocks, GivesUpBlocks}
 use Rattle.vac_write.specs.Walking.{top_of}
 use Rattle.vac_write.proofs.Puts.{gives_front, gives_later, puts_join, put_refused, put_taken}
@@ -55,8 +55,8 @@ pub returns-in_err-score-clause-refused : goal.returns-in_err-score-clause-refus
 returns-in_err-score-clause-refused g c =
     let top = c.args.top.now in
     let whole : c.put.new.buf ≡ top_of top =
-    both_fields c.encode.result c.encode-2.result (entry_bytes top.entries)
-    (entry_bytes top.metadata) c.put-at.new.buf c.put.new.buf c.put-at.result
+    both_fields c.encode.result c.encode-2.result (tree_entry_bytes top.entries)
+    (tree_entry_bytes top.metadata) c.put-at.new.buf c.put.new.buf c.put-at.result
     c.encode.ensures.bytes c.encode-2.ensures.bytes (entry_len top.entries c.requires.entries)
     (entry_len top.metadata c.requires.metadata) (c.put.auto.buf ∙ c.put-at.auto.buf)
     c.put-at.ensures.written c.put-at.ensures.end c.put.ensures.written in
@@ -75,8 +75,8 @@ returns-in_err-put-clause-refused g c =
     let score_of = g.B.Scorer.score_of in
     let top = c.args.top.now in
     let whole : c.put.new.buf ≡ top_of top =
-    both_fields c.encode.result c.encode-2.result (entry_bytes top.entries)
-    (entry_bytes top.metadata) c.put-at.new.buf c.put.new.buf c.put-at.result
+    both_fields c.encode.result c.encode-2.result (tree_entry_bytes top.entries)
+    (tree_entry_bytes top.metadata) c.put-at.new.buf c.put.new.buf c.put-at.result
     c.encode.ensures.bytes c.encode-2.ensures.bytes (entry_len top.entries c.requires.entries)
     (entry_len top.metadata c.requires.metadata) (c.put.auto.buf ∙ c.put-at.auto.buf)
     c.put-at.ensures.written c.put-at.ensures.end c.put.ensures.written in
@@ -106,8 +106,8 @@ returns-clause-put g c =
     let score_of = g.B.Scorer.score_of in
     let top = c.args.top.now in
     let whole : c.put.new.buf ≡ top_of top =
-    both_fields c.encode.result c.encode-2.result (entry_bytes top.entries)
-    (entry_bytes top.metadata) c.put-at.new.buf c.put.new.buf c.put-at.result
+    both_fields c.encode.result c.encode-2.result (tree_entry_bytes top.entries)
+    (tree_entry_bytes top.metadata) c.put-at.new.buf c.put.new.buf c.put-at.result
     c.encode.ensures.bytes c.encode-2.ensures.bytes (entry_len top.entries c.requires.entries)
     (entry_len top.metadata c.requires.metadata) (c.put.auto.buf ∙ c.put-at.auto.buf)
     c.put-at.ensures.written c.put-at.ensures.end c.put.ensures.written in
@@ -135,8 +135,8 @@ returns-clause-scored g c =
     let score_of = g.B.Scorer.score_of in
     let top = c.args.top.now in
     let whole : c.put.new.buf ≡ top_of top =
-    both_fields c.encode.result c.encode-2.result (entry_bytes top.entries)
-    (entry_bytes top.metadata) c.put-at.new.buf c.put.new.buf c.put-at.result
+    both_fields c.encode.result c.encode-2.result (tree_entry_bytes top.entries)
+    (tree_entry_bytes top.metadata) c.put-at.new.buf c.put.new.buf c.put-at.result
     c.encode.ensures.bytes c.encode-2.ensures.bytes (entry_len top.entries c.requires.entries)
     (entry_len top.metadata c.requires.metadata) (c.put.auto.buf ∙ c.put-at.auto.buf)
     c.put-at.ensures.written c.put-at.ensures.end c.put.ensures.written in

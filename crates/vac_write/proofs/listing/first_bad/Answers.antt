@@ -1,7 +1,7 @@
 use Rattle.std.proofs.Common.{◌≡◌, ◌+◌, ◌||◌, ℕ, Bool, true, false, Some, None, List, ◌∷◌, drop, refl, sym, ◌∙◌, ap}
 use Rattle.std.specs.Option.{option_copied}
 use Rattle.std.proofs.lemmas.List.{drop_all, drop_more}
-use Rattle.vt_folder.specs.declared.item.Item.{Item}
+use Rattle.vt_out.specs.declared.folder_item.Item.{Item}
 use Rattle.vac_model.specs.Limits.{is_bad_behind}
 use Rattle.vac_write.specs.Listing.{has_bad_owner}
 use Rattle.vac_write.proofs.Listed.{bad_here, bad_listed, first_bad_in}

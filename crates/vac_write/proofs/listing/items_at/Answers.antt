@@ -1,12 +1,12 @@
 use Rattle.std.proofs.Common.{◌≡◌, ℕ, Bool, cond, Some, None, List, sym, ◌∙◌, ap, arith, rules}
 use Rattle.std.proofs.lemmas.Bool.{le-ltb, lt-ltb}
 use Rattle.std.proofs.lemmas.List.Sorted.{answers_always}
-use Rattle.vt_folder.specs.declared.item.Facts.{Facts}
-use Rattle.vt_folder.specs.Items.{Items}
+use Rattle.vt_out.specs.declared.folder_item.Facts.{Facts}
+use Rattle.vt_out.specs.FolderItems.{Items}
 use Rattle.vac_model.specs.declared.TheConstants.{MAX_METADATA}
 use Rattle.vac_model.specs.Kept.{in_order}
-use Rattle.vac_model.specs.Limits.{bad_name, too_long, first_bad, unfit_name}
-use Rattle.vac_write.specs.Listing.{joined, metadata_len}
+use Rattle.vac_model.specs.Limits.{bad_name, too_long, first_bad_item, unfit_name}
+use Rattle.vac_write.specs.Listing.{joined_path, metadata_len}
 use Rattle.vac_write.proofs.Listed.{below, below_orders}
 use Rattle.vac_write.proofs.Ordered.{ordered_of}
 use Rattle.vac_write.proofs.listing.items_at.Goals as goal
@@ -23,12 +23,12 @@ returns-in-Some-clause-refused g c =
     (sort.sorted below below_orders (answers_always _ _ _ (λ f a r h q. search rules)))
     (sort.stable below below_orders (answers_always _ _ _ (λ f a r h q. search rules))) in
     let s : Items Facts = in_order o.seen in
-    let bad : Some c.in-Some.name.now ≡ first_bad None s =
+    let bad : Some c.in-Some.name.now ≡ first_bad_item None s =
     c.in-Some.ensures s (c.deref.ensures.value ∙ o.ordered) in
     record {
       seen = o.seen;
       is = o.is;
-      unfit = (λ i. unfit_name (joined path) (sym bad i) (metadata_len s))
+      unfit = (λ i. unfit_name (joined_path path) (sym bad i) (metadata_len s))
           ∙ ap (λ (t : List ℕ). Some (bad_name t)) (sym c.in_ok-path_to.ensures);
     }
 
@@ -44,13 +44,13 @@ returns-then-metadata_len-gt-MAX_METADATA-clause-refused g c =
     (sort.sorted below below_orders (answers_always _ _ _ (λ f a r h q. search rules)))
     (sort.stable below below_orders (answers_always _ _ _ (λ f a r h q. search rules))) in
     let s : Items Facts = in_order o.seen in
-    let fine : first_bad None s ≡ None =
+    let fine : first_bad_item None s ≡ None =
     sym (c.in_default.ensures s (c.deref.ensures.value ∙ o.ordered)) in
     let len = c.metadata_len.ensures s (c.deref-2.ensures.value ∙ o.ordered) in
     record {
       seen = o.seen;
       is = o.is;
-      unfit = (λ i. unfit_name (joined path) (fine i) (metadata_len s))
+      unfit = (λ i. unfit_name (joined_path path) (fine i) (metadata_len s))
           ∙ ap (λ (t : Bool). cond t (Some too_long) None)
           (lt-ltb MAX_METADATA (metadata_len s)
           (omega (arith, len, c.if-metadata_len-gt-MAX_METADATA.true)));
@@ -68,14 +68,14 @@ returns-clause-listed g c =
     (sort.sorted below below_orders (answers_always _ _ _ (λ f a r h q. search rules)))
     (sort.stable below below_orders (answers_always _ _ _ (λ f a r h q. search rules))) in
     let s : Items Facts = in_order o.seen in
-    let fine : first_bad None s ≡ None =
+    let fine : first_bad_item None s ≡ None =
     sym (c.in_default.ensures s (c.deref.ensures.value ∙ o.ordered)) in
     let len = c.metadata_len.ensures s (c.deref-2.ensures.value ∙ o.ordered) in
     record {
       seen = o.seen;
       is = o.is;
       ordered = o.ordered;
-      fit = (λ i. unfit_name (joined path) (fine i) (metadata_len s))
+      fit = (λ i. unfit_name (joined_path path) (fine i) (metadata_len s))
           ∙ ap (λ (t : Bool). cond t (Some too_long) None)
           (le-ltb MAX_METADATA (metadata_len s)
           (omega (arith, len, c.if-metadata_len-gt-MAX_METADATA.false)));

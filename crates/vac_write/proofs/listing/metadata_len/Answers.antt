@@ -1,7 +1,7 @@
 use Rattle.std.proofs.Common.{◌-◌, ◌^◌, ℕ, List, min, sym, ◌∙◌, ap}
 use Rattle.std.specs.List.{sum_by}
 use Rattle.std.proofs.lemmas.List.{take_all}
-use Rattle.vt_folder.specs.declared.item.Item.{Item}
+use Rattle.vt_out.specs.declared.folder_item.Item.{Item}
 use Rattle.vac_write.specs.Listing.{record_len}
 use Rattle.vac_write.proofs.Listed.{len_listed}
 use Rattle.vac_write.proofs.listing.metadata_len.Goals as goal

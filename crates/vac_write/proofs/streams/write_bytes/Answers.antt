@@ -4,7 +4,7 @@ use Rattle.std.proofs.lemmas.Result.{err_from_is_err_and}
 use Rattle.vt_base.specs.Faults.{HasRisen}
 use Rattle.vt_tree.specs.Streams.{Shape}
 use Rattle.vt_tree.specs.Writing.{IsAll, IsTakenWhole, WritesStream, GivesUpStream, is_source_fault}
-use Rattle.vac_write.specs.Walking.{shape_of}
+use Rattle.vac_write.specs.Walking.{item_shape}
 use Rattle.vac_write.proofs.Filed.{bytes_written, bytes_given_up}
 use Rattle.vac_write.proofs.Shapes.{shape_is}
 use Rattle.vac_write.proofs.streams.write_bytes.Goals as goal
@@ -35,7 +35,7 @@ returns-in_err-write_stream-clause-refused g c =
     c.in_err-write_stream.ensures.refused) in
     let p = err_from_is_err_and c.from_residual.result c.from_residual.ensures.1 in
     rw (p.1, p.2) (bytes_given_up g.B.Blocks.does g.B.Blocks.holds g.B.Scorer.score_of
-    c.args.blocks.now c.write_stream.new.blocks (shape_of c.args.bsize c.args.is_dir) bytes e
+    c.args.blocks.now c.write_stream.new.blocks (item_shape c.args.bsize c.args.is_dir) bytes e
     c.requires.short (no_rise (is_source_fault e) c.in_err-write_stream.ensures.cause) gave).0
 
 pub returns-in_err-write_stream-clause-plain : goal.returns-in_err-write_stream-clause-plain
@@ -81,7 +81,7 @@ returns-clause-written g c =
     c.write_stream.new.blocks shape (IsTakenWhole true l new) e) left
     c.in_ok-write_stream.ensures.written) in
     let both = bytes_written g.B.Blocks.does g.B.Blocks.holds g.B.Scorer.score_of
-    c.args.blocks.now c.write_stream.new.blocks (shape_of c.args.bsize c.args.is_dir) bytes new e
+    c.args.blocks.now c.write_stream.new.blocks (item_shape c.args.bsize c.args.is_dir) bytes new e
     wrote in
     both.0
 
@@ -108,6 +108,6 @@ returns-clause-entry g c =
     c.write_stream.new.blocks shape (IsTakenWhole true l new) e) left
     c.in_ok-write_stream.ensures.written) in
     let both = bytes_written g.B.Blocks.does g.B.Blocks.holds g.B.Scorer.score_of
-    c.args.blocks.now c.write_stream.new.blocks (shape_of c.args.bsize c.args.is_dir) bytes new e
+    c.args.blocks.now c.write_stream.new.blocks (item_shape c.args.bsize c.args.is_dir) bytes new e
     wrote in
     (both.1, c.in_ok-write_stream.ensures.entry)

@@ -1,11 +1,11 @@
 use Rattle.std.proofs.Common.{◌≡◌, inl, inr, ℕ, ◌+◌, ◌*◌, List, length, Some, None, refl, sym, ◌∙◌, ap, arith, rules}
 use Rattle.vt_disk.specs.Disk.{part}
 use Rattle.vt_disk.proofs.Calls.{made_then}
-use Rattle.vt_arena.specs.declared.bad.ArenaBad.{ArenaBad}
+use Rattle.vt_arena.specs.declared.error.ArenaBad.{ArenaBad}
 use Rattle.vt_arena.specs.declared.TheConstants.{FRAME_LEN, FIELDS_LEN}
-use Rattle.vt_arena.specs.Faults.{first_bad}
+use Rattle.vt_arena.specs.Faults.{first_bad_head}
 use Rattle.vt_arena.specs.Heads.{fields_of}
-use Rattle.vt_arena.specs.Layout.{fields_at, head_of}
+use Rattle.vt_arena.specs.Layout.{fields_at, arena_head}
 use Rattle.vt_arena.proofs.Finds.{selector_named, fields_read, arena_passes, finds_bad}
 use Rattle.vt_arena.proofs.Unique.{head_reads}
 use Rattle.vt_arena.proofs.mounting.find.Goals as goal
@@ -45,11 +45,11 @@ returns-in-Ok-decode-clause-found g c score_of old told arena =
 
 pub returns-in-Err-clause-found : goal.returns-in-Err-clause-found
 returns-in-Err-clause-found g c score_of old told arena =
-    let fields : c.read_at-2.new.buf ≡ fields_of (head_of score_of c.args.number old) = (fields_read c.args.region (g.D.Disk.bytes c.args.disk.now) c.read_at-2.new.buf c.from.result
+    let fields : c.read_at-2.new.buf ≡ fields_of (arena_head score_of c.args.number old) = (fields_read c.args.region (g.D.Disk.bytes c.args.disk.now) c.read_at-2.new.buf c.from.result
     (c.from.ensures ∙ selector_named c.args.region (g.D.Disk.bytes c.args.disk.now) c.read_at.new.buf (c.in-Ok.ensures.read told))
     (c.in-Ok-read_at.ensures.read told ∙ ap (λ (l : List ℕ). part (c.args.region.start + FRAME_LEN * c.from.result) FIELDS_LEN l) c.read_at.ensures.reads.bytes)) ∙ arena.head in
-    let none : first_bad c.args.number c.args.region.len c.read_at-2.new.buf ≡ None =
-    ap (λ (l : List ℕ). first_bad c.args.number c.args.region.len l) fields
+    let none : first_bad_head c.args.number c.args.region.len c.read_at-2.new.buf ≡ None =
+    ap (λ (l : List ℕ). first_bad_head c.args.number c.args.region.len l) fields
     ∙ arena_passes score_of c.args.region.len c.args.number old (omega (arith, c.ranges.number.fits)) c.requires.len.1 arena.content in
     absurd (none_some (sym none ∙ c.in-Err.ensures.refused))
   where

@@ -1,7 +1,7 @@
 use Rattle.std.proofs.Common.{◌≡◌, ℕ, List, length, sym, ◌∙◌, subst, rules}
 use Rattle.std.proofs.lemmas.Result.{on_err_weaker}
 use Rattle.vt_twin.specs.Formatting.{EndsFormat}
-use Rattle.vt_arena.specs.Layout.{IsArena, head_place, head_of, empty}
+use Rattle.vt_arena.specs.Layout.{IsArena, head_place, arena_head, empty}
 use Rattle.vt_arena.proofs.Empty.{on_ok, on_both, written_frame, frame_there, current_there, selector_there, empty_arena}
 use Rattle.vt_arena.proofs.mounting.format.Goals as goal
 
@@ -20,7 +20,7 @@ returns-clause-frame g c score_of told =
     let len : length c.encode.new.frame ≡ 8192 = search rules in
     on_ok c.format.result
     (λ frame. frame_there c.args.region (length c.encode.new.frame) len (g.D.Disk.bytes c.format.new.disk) 0 ∙ frame told
-    ∙ written_frame (head_of score_of c.args.number empty) c.encode.new.frame c.encode.ensures.fields c.encode.ensures.behind)
+    ∙ written_frame (arena_head score_of c.args.number empty) c.encode.new.frame c.encode.ensures.fields c.encode.ensures.behind)
     c.format.ensures.frame
 
 pub returns-clause-selector : goal.returns-clause-selector
@@ -44,6 +44,6 @@ returns-clause-failed g c score_of =
     (λ ends. (
       ends.0,
       subst (λ (frame : List ℕ). EndsFormat g.D.Disk (head_place c.args.region) frame ends.0 c.args.disk.now c.format.new.disk)
-          (written_frame (head_of score_of c.args.number empty) c.encode.new.frame c.encode.ensures.fields c.encode.ensures.behind) ends.1,
+          (written_frame (arena_head score_of c.args.number empty) c.encode.new.frame c.encode.ensures.fields c.encode.ensures.behind) ends.1,
     ))
     c.format.ensures.failed

@@ -4,19 +4,19 @@ use Rattle.vt_disk.proofs.Calls.{made_then}
 use Rattle.vt_twin.specs.Frames.{named_number}
 use Rattle.vt_arena.specs.declared.TheConstants.{FRAME_LEN}
 use Rattle.vt_arena.specs.Arena.{ArenaState}
-use Rattle.vt_arena.specs.declared.bad.ArenaBad.{ArenaBad}
-use Rattle.vt_arena.specs.declared.bad.ArenaBad.TheVariants.{Fault}
+use Rattle.vt_arena.specs.declared.error.ArenaBad.{ArenaBad}
+use Rattle.vt_arena.specs.declared.error.ArenaBad.TheVariants.{Fault}
 use Rattle.vt_arena.specs.Heads.{fields_of}
 use Rattle.vt_arena.specs.Layout.{IsArena, fields_at}
 use Rattle.vt_arena.proofs.Finds.{mounts_bad}
-use Rattle.vt_arena.specs.Sound.{IsSound}
+use Rattle.vt_arena.specs.Sound.{IsSoundArena}
 use Rattle.vt_arena.proofs.Fresh.{fresh_sound}
 use Rattle.vt_arena.proofs.mounting.mount.Goals as goal
 
 pub returns-in-Ok-resume-clause-sound : goal.returns-in-Ok-resume-clause-sound
 returns-in-Ok-resume-clause-sound g c score_of old told arena =
     let same : g.D.Disk.bytes c.find.new.disk ≡ g.D.Disk.bytes c.args.disk.now = c.find.ensures.reads.bytes ∙ c.sync.ensures.bytes in
-    subst (λ (a : ArenaState). IsSound score_of a c.args.region old (g.D.Disk.bytes c.find.new.disk) (g.D.Disk.images c.find.new.disk)) (sym c.in-Ok-resume.ensures)
+    subst (λ (a : ArenaState). IsSoundArena score_of a c.args.region old (g.D.Disk.bytes c.find.new.disk) (g.D.Disk.images c.find.new.disk)) (sym c.in-Ok-resume.ensures)
     (fresh_sound score_of c.args.region (g.D.Disk.size c.args.disk.now) c.args.number _ old c.in-Ok-find.found.head (g.D.Disk.bytes c.find.new.disk) (g.D.Disk.images c.find.new.disk) c.requires
     (λ image left. ap (λ (l : List ℕ). region_bytes c.args.region l) (c.in-Ok.ensures.settled told image (c.find.ensures.reads.images image left) ∙ sym same))
     (subst (λ (l : List ℕ). IsArena score_of c.args.region c.args.number old l) (sym same) arena)

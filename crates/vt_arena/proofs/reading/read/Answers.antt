@@ -1,11 +1,11 @@
 use Rattle.std.proofs.Common.{◌≡◌, ℕ, List, ◌++◌, length, Err, Result, refl, ◌∙◌, sym, ap, subst}
 use Rattle.std.proofs.lemmas.Result.{err_from_is_err_and}
 use Rattle.vt_disk.specs.Calls.{MadeCalls}
-use Rattle.vt_clump.specs.Spelling.{BeginsWith, size_in, stored_in}
+use Rattle.vt_clump.specs.Spelling.{BeginsWithClump, size_in, stored_in}
 use Rattle.vt_clump.proofs.ReadBack.{begins_stored, begins_good, read_as}
 use Rattle.vt_clump.specs.declared.reading.Clump.{Clump}
-use Rattle.vt_arena.specs.declared.bad.ReadBad.{ReadBad}
-use Rattle.vt_arena.specs.Reading.{ReadsAs, clump_at, reads_for}
+use Rattle.vt_arena.specs.declared.error.ReadBad.{ReadBad}
+use Rattle.vt_arena.specs.Reading.{ReadsClumpAs, clump_at, reads_for}
 use Rattle.vt_arena.proofs.Clumps.{reads_nothing, reads_refusal, begins_there, good_len, good_stored}
 use Rattle.vt_arena.proofs.reading.read.Goals as goal
 
@@ -17,7 +17,7 @@ returns-in_err-header-clause-answer g c header =
     let is : c.from_residual.result ≡ Err bad = handed.1 ∙ ap (λ (b : ReadBad). Err b) handed.2 in (
       bytes,
       (λ told. refl),
-      subst (λ (r : Result Clump ReadBad). ReadsAs g.S.Scorer.score_of bytes r) (sym is) (reads_nothing g.S.Scorer.score_of bytes bad c.in_err-header.ensures.refused),
+      subst (λ (r : Result Clump ReadBad). ReadsClumpAs g.S.Scorer.score_of bytes r) (sym is) (reads_nothing g.S.Scorer.score_of bytes bad c.in_err-header.ensures.refused),
     )
 
 pub returns-in-Ok-clause-whole : goal.returns-in-Ok-clause-whole
@@ -31,7 +31,7 @@ returns-in-Ok-clause-whole g c =
 pub returns-in-Ok-clause-committed : goal.returns-in-Ok-clause-committed
 returns-in-Ok-clause-committed g c old before behind s told content blocks split at =
     let bytes : List ℕ = c.in_ok-header.header ++ c.in_ok-header.block in
-    let begins : BeginsWith g.S.Scorer.score_of s bytes =
+    let begins : BeginsWithClump g.S.Scorer.score_of s bytes =
     begins_there g.S.Scorer.score_of c.args.region old before behind s
     (g.D.Disk.bytes c.args.disk.now) bytes c.args.offset content blocks split at (c.in_ok-header.ensures.read told) in
     read_as (stored_in bytes) s c.in-Ok.clump (begins_stored g.S.Scorer.score_of s bytes begins) c.in-Ok.ensures.read
@@ -55,7 +55,7 @@ returns-in-Err-clause-answer g c header =
 pub returns-in-Err-clause-committed : goal.returns-in-Err-clause-committed
 returns-in-Err-clause-committed g c old before behind s told content blocks split at =
     let bytes : List ℕ = c.in_ok-header.header ++ c.in_ok-header.block in
-    let begins : BeginsWith g.S.Scorer.score_of s bytes =
+    let begins : BeginsWithClump g.S.Scorer.score_of s bytes =
     begins_there g.S.Scorer.score_of c.args.region old before behind s
     (g.D.Disk.bytes c.args.disk.now) bytes c.args.offset content blocks split at (c.in_ok-header.ensures.read told) in
     absurd (cc (begins_good g.S.Scorer.score_of s bytes begins, c.in-Err.ensures.refused))

@@ -1,8 +1,8 @@
 use Rattle.std.proofs.Common.{◌≡◌, ◌∙◌, ◌≤◌, inl, inr, ℕ, List, length, refl, ap, sym, subst, arith}
 use Rattle.vt_bloom.specs.declared.TheConstants.{LEAST_LEN}
 use Rattle.vt_bloom.specs.Bits.{Filter}
-use Rattle.vt_bloom.specs.Frame.{IsFrame, empty_of, current_of}
-use Rattle.vt_bloom.specs.Size.{frame_len, IsSize, IsLargest}
+use Rattle.vt_bloom.specs.Frame.{IsFilterFrame, empty_of, current_of}
+use Rattle.vt_bloom.specs.Size.{filter_frame_len, IsFilterSize, IsLargest}
 use Rattle.vt_bloom.proofs.Frames.{size_unique}
 use Rattle.vt_bloom.proofs.Powers.{has_room, exponent_unique}
 use Rattle.vt_bloom.proofs.formatting.format.Goals as goal
@@ -14,8 +14,8 @@ encoded-frame-requires g c =
       ap length c.from_vec.ensures,
       c.in_ok-memory.memory.ok.0,
       c.in_ok-memory.ensures.len,
-      c.frame_len.ensures,
-      ap (λ (f : Filter). frame_len f.m) c.in_ok-bits.ensures.bits,
+      c.filter_frame_len.ensures,
+      ap (λ (f : Filter). filter_frame_len f.m) c.in_ok-bits.ensures.bits,
     )
 
 pub format-requires : goal.format-requires
@@ -34,7 +34,7 @@ returns-clause-refused g c =
     let long : LEAST_LEN ≤ len = omega (arith, c.len-len.ensures) in
     inr (inr (
       (long, inl refl),
-      λ m is. subst (λ (n : ℕ). IsSize n c.args.size)
+      λ m is. subst (λ (n : ℕ). IsFilterSize n c.args.size)
           (c.if-found-m.false ∙ size_unique len c.largest-m.result m largest is)
           c.in-Some.ensures.found,
     ))
@@ -63,7 +63,7 @@ returns-in-Ok-clause-saved g c told n is image left =
     rw (exponent_unique n c.in-Some.found c.args.size is c.in-Some.ensures.found, c.if-found-m.false)
     (record {
       largest = subst (λ (e : ℕ). IsLargest e j) (c.len-len.ensures ∙ sym size) c.largest-m.ensures;
-      frame = subst (λ (l : List ℕ). IsFrame (empty_of j c.args.k) l)
+      frame = subst (λ (l : List ℕ). IsFilterFrame (empty_of j c.args.k) l)
           (sym (ap (λ (l : List ℕ). current_of j l) at ∙ current))
           (rw c.in_ok-bits.ensures.bits at c.encoded-frame.ensures.is);
     })

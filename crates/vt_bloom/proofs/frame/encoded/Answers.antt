@@ -1,6 +1,6 @@
 use Rattle.std.proofs.Common.{◌∙◌, length, drop, ap, sym, subst}
 use Rattle.std.proofs.lemmas.List.{take_at}
-use Rattle.vt_bloom.specs.Frame.{IsFrame}
+use Rattle.vt_bloom.specs.Frame.{IsFilterFrame}
 use Rattle.vt_bloom.proofs.frame.encoded.Goals as goal
 
 pub returns-clause-written : goal.returns-clause-written
@@ -12,7 +12,7 @@ returns-clause-written c =
 
 pub returns-clause-is : goal.returns-clause-is
 returns-clause-is c =
-    subst (IsFrame _) (c.encode.ensures.written ∙ sym (returns-clause-written c)) c.encode.ensures.is
+    subst (IsFilterFrame _) (c.encode.ensures.written ∙ sym (returns-clause-written c)) c.encode.ensures.is
 
 pub returns-clause-whole : goal.returns-clause-whole
 returns-clause-whole c =

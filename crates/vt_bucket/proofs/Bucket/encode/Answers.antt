@@ -2,7 +2,7 @@ use Rattle.std.proofs.Common.{◌≡◌, ◌+◌, ◌∷◌, [], ◌++◌, ℕ, 
 use Rattle.std.specs.List.{AllByRecursion}
 use Rattle.std.proofs.lemmas.List.{take_more}
 use Rattle.vt_base.specs.declared.place.Entry.{Entry}
-use Rattle.vt_bucket.specs.Frame.{cell, cells, header, IsEntry}
+use Rattle.vt_bucket.specs.Frame.{cell, cells, bucket_header, IsIndexEntry}
 use Rattle.vt_bucket.proofs.Cells.{each_push, cells_push}
 use Rattle.vt_bucket.proofs.Bucket.encode.Goals as goal
 
@@ -19,7 +19,7 @@ loop-entry-preserved c =
       place = omega (arith, c.put_entry-at.ensures.end, inv.place);
       written = ap (λ (n : ℕ). take n c.put_entry-at.new.frame) c.put_entry-at.ensures.end ∙ c.put_entry-at.ensures.written
           ∙ ap (λ (l : List ℕ). l ++ cell e) inv.written
-          ∙ append_assoc (header c.args.self.now.number (length xs)) (cells (take i xs)) (cell e)
-          ∙ ap (λ (l : List ℕ). header c.args.self.now.number (length xs) ++ l) more;
-      each = subst (AllByRecursion IsEntry) (sym grown) (each_push (take i xs) e inv.each c.put_entry-at.ensures.entry);
+          ∙ append_assoc (bucket_header c.args.self.now.number (length xs)) (cells (take i xs)) (cell e)
+          ∙ ap (λ (l : List ℕ). bucket_header c.args.self.now.number (length xs) ++ l) more;
+      each = subst (AllByRecursion IsIndexEntry) (sym grown) (each_push (take i xs) e inv.each c.put_entry-at.ensures.entry);
     }

@@ -1,5 +1,5 @@
 use Rattle.std.proofs.Common.{◌≡◌, ◌+◌, length, refl, arith, rules, length-take, take}
-use Rattle.vt_bucket.specs.Buckets.{entries_of}
+use Rattle.vt_bucket.specs.Buckets.{bucket_entries}
 use Rattle.vt_bucket.proofs.Entries.{table_set, put_new, none_has}
 use Rattle.vt_bucket.proofs.Bucket.with.Goals as goal
 
@@ -16,18 +16,18 @@ returns-in-Ok-clause-put c =
 
 pub returns-then-self-eq-BUCKET_ROOM-clause-full : goal.returns-then-self-eq-BUCKET_ROOM-clause-full
 returns-then-self-eq-BUCKET_ROOM-clause-full c =
-    let full : length (entries_of c.args.self.now) ≡ 263 = let table : length c.args.self.now.table ≡ 263 = search rules in omega (arith, length-take c.args.self.now.len c.args.self.now.table) in
-    (λ yes. (full, none_has (entries_of c.args.self.now) c.entries.result.now c.in-Err.at c.args.entry.key c.entries.ensures.entries c.in-Err.ensures.below c.in-Err.ensures.above), λ yes. refl)
+    let full : length (bucket_entries c.args.self.now) ≡ 263 = let table : length c.args.self.now.table ≡ 263 = search rules in omega (arith, length-take c.args.self.now.len c.args.self.now.table) in
+    (λ yes. (full, none_has (bucket_entries c.args.self.now) c.entries.result.now c.in-Err.at c.args.entry.key c.entries.ensures.entries c.in-Err.ensures.below c.in-Err.ensures.above), λ yes. refl)
 
 pub invariant_of-self-in-Err : goal.invariant_of-self-in-Err
 invariant_of-self-in-Err c =
     let b = c.args.self.now in
-    let it = put_new (entries_of b) c.entries.result.now (take (b.len + 1) c.insert_at.new.table) b.ascending c.in-Err.at c.args.entry
+    let it = put_new (bucket_entries b) c.entries.result.now (take (b.len + 1) c.insert_at.new.table) b.ascending c.in-Err.at c.args.entry
     c.entries.ensures.entries c.insert_at.ensures c.in-Err.ensures.bound c.in-Err.ensures.below c.in-Err.ensures.above in
     record { within = omega (arith, b.within, c.if-self-eq-BUCKET_ROOM.false); ascending = it.0 }
 
 pub returns-else-self-eq-BUCKET_ROOM-clause-put : goal.returns-else-self-eq-BUCKET_ROOM-clause-put
 returns-else-self-eq-BUCKET_ROOM-clause-put c =
     let b = c.args.self.now in
-    (put_new (entries_of b) c.entries.result.now (take (b.len + 1) c.insert_at.new.table) b.ascending c.in-Err.at c.args.entry
+    (put_new (bucket_entries b) c.entries.result.now (take (b.len + 1) c.insert_at.new.table) b.ascending c.in-Err.at c.args.entry
     c.entries.ensures.entries c.insert_at.ensures c.in-Err.ensures.bound c.in-Err.ensures.below c.in-Err.ensures.above).1

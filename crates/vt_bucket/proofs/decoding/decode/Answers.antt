@@ -1,6 +1,6 @@
 use Rattle.std.proofs.Common.{◌≡◌, ◌∙◌, ℕ, length, take, ap, sym, arith, length-take}
 use Rattle.vt_bucket.specs.declared.decoding.BucketBad.TheVariants.{Order}
-use Rattle.vt_bucket.specs.Frame.{header}
+use Rattle.vt_bucket.specs.Frame.{bucket_header}
 use Rattle.vt_bucket.proofs.Frames.{head_read, one_frame, accepted}
 use Rattle.vt_bucket.proofs.decoding.decode.Goals as goal
 
@@ -16,7 +16,7 @@ returns-in-Ok-clause-found c =
     record {
       number_fits = c.ranges.number.fits;
       head = head_read c.args.number count c.args.frame.now (omega (arith, c.requires)) (λ i. omega (arith, c.type_inv.frame i)) head.magic head.number (sym head.count.0)
-          ∙ ap (λ (n : ℕ). header c.args.number n) (sym long);
+          ∙ ap (λ (n : ℕ). bucket_header c.args.number n) (sym long);
       body = c.in-Ok.ensures.read;
     }
 

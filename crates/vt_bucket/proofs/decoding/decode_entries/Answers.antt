@@ -2,7 +2,7 @@ use Rattle.std.proofs.Common.{◌≡◌, ◌+◌, ◌-◌, ◌*◌, ◌<◌, ℕ
 use Rattle.vt_base.specs.declared.place.Entry.{Entry}
 use Rattle.std.specs.Prelude.{slice_index_or}
 use Rattle.std.proofs.lemmas.Bool.{false≢true}
-use Rattle.vt_bucket.specs.Frame.{BeginsWith}
+use Rattle.vt_bucket.specs.Frame.{BeginsWithEntries}
 use Rattle.vt_bucket.specs.Order.{IsBelow}
 use Rattle.vt_bucket.proofs.Frames.{no_kind, not_above, table_each, table_ascending, table_read}
 use Rattle.vt_bucket.proofs.decoding.decode_entries.Goals as goal
@@ -64,7 +64,7 @@ pub returns-clause-read : goal.returns-clause-read
 returns-clause-read c =
     let l = c.loop-i in
     let all : l.i ≡ c.args.count = omega arith in
-    subst (λ (n : ℕ). BeginsWith (take n l.table) (drop 10 c.args.frame.now)) all
+    subst (λ (n : ℕ). BeginsWithEntries (take n l.table) (drop 10 c.args.frame.now)) all
     (record {
       allowed = record { each = l.invariant.each; ascending = l.invariant.ascending; most = omega (arith, length-take l.i l.table, c.requires.most) };
       spelling = (drop (10 + 31 * l.i) c.args.frame.now, l.invariant.read);

@@ -5,7 +5,7 @@ use Rattle.vt_arena.specs.declared.head.ArenaHead.{ArenaHead}
 use Rattle.vt_arena.specs.declared.head.Found.{Found}
 use Rattle.vt_arena.specs.Heads.{fields_of}
 use Rattle.vt_arena.specs.Layout.{fields_at}
-use Rattle.vt_log.specs.Answers.{OnlyReads}
+use Rattle.vt_log.specs.Answers.{OnlyReadsLog}
 use Rattle.vt_log.specs.Log.{LogState}
 use Rattle.vt_check.specs.declared.checking.ArenaReport.{ArenaReport}
 use Rattle.vt_check.specs.Checking.{TellsOf}

@@ -9,15 +9,15 @@ use Rattle.vt_arena.specs.Heads.{fields_of}
 use Rattle.vt_arena.specs.Layout.{fields_at}
 use Rattle.vt_arena.specs.Places.{arena_room, directory_room}
 use Rattle.vt_disk.specs.Members.{DiskOf}
-use Rattle.vt_log.specs.Answers.{OnlyReads}
+use Rattle.vt_log.specs.Answers.{OnlyReadsLog}
 use Rattle.vt_log.specs.Log.{LogState}
 use Rattle.vt_part.specs.declared.layout.ArenaRegion.{ArenaRegion}
 use Rattle.vt_check.specs.declared.checking.Damage.{Damage}
 use Rattle.vt_check.specs.declared.clumps.Cut.{Cut}
 use Rattle.vt_check.specs.declared.clumps.Tested.{Tested}
 use Rattle.vt_check.specs.Checking.{TellsOf, bad_clump, first_damage}
-use Rattle.vt_check.specs.Following.{HasFollowed, IsHeadOf, IsWithin, TestsAs, bytes_in, bytes_of}
-use Rattle.vt_check.specs.Reading.{IsNext}
+use Rattle.vt_check.specs.Following.{HasFollowed, IsReadableHead, IsWithinWindow, TestsAs, cut_bytes, bytes_of_cuts}
+use Rattle.vt_check.specs.Reading.{AreNextCuts}
 use Rattle.vt_check.proofs.Checks.{begin_check, check_ends, check_more, check_stops, reads_then}
 use Rattle.vt_check.proofs.Differs.{bad_clump_differs, differs_at}
 use Rattle.vt_check.proofs.Lists.{zip_many}
@@ -43,15 +43,15 @@ follow-requires-clause-many g c =
 
 pub follow-requires-clause-small : goal.follow-requires-clause-small
 follow-requires-clause-small g c =
-    omega (arith, ap (λ (l : List Cut). bytes_of l) c.deref-in-loop-followed-2.ensures.value, c.in_ok-fill.ensures.room, c.arena_len-len.ensures.bounds.1)
+    omega (arith, ap (λ (l : List Cut). bytes_of_cuts l) c.deref-in-loop-followed-2.ensures.value, c.in_ok-fill.ensures.room, c.arena_len-len.ensures.bounds.1)
 
 -- the arena's region, and that its head is the one that was read
 same_head : {D : Type 0} (l : LogState D) (arena : ℕ) (head : ArenaHead) → ((found : Found) × (slice_get l.heads arena ≡ Some found) × (head ≡ found.head))
     → (found : Found) → slice_get l.heads arena ≡ Some found → head ≡ found.head
 same_head l arena head (other, at, is) found there = is ∙ ap (λ (f : Found). f.head) (same_Some other found (sym at ∙ there))
 
-reads_more : {D : Type 0} (score : List ℕ → List ℕ) (disk : DiskOf D) (old now new : LogState D) (clumps most : ℕ) → OnlyReads score disk (2 * clumps) old now → OnlyReads score disk 2 now new
-    → clumps < most → OnlyReads score disk (2 * most) old new
+reads_more : {D : Type 0} (score : List ℕ → List ℕ) (disk : DiskOf D) (old now new : LogState D) (clumps most : ℕ) → OnlyReadsLog score disk (2 * clumps) old now → OnlyReadsLog score disk 2 now new
+    → clumps < most → OnlyReadsLog score disk (2 * most) old new
 reads_more score disk old now new clumps most one two less = reads_then score disk (2 * clumps) 2 (2 * most) old now new (omega (arith, less)) one two
 
 pub returns-in_err-fill-clause-reads : goal.returns-in_err-fill-clause-reads
@@ -96,17 +96,17 @@ returns-in-Some-clause-differs g c =
     let it = c.loop-followed.invariant in
     let window : List ℕ = c.fill.new.self.clumps.items in
     let cuts : List Cut = c.deref-in-loop-followed-2.result.now in
-    let Tests : List ℕ → Cut → Tested → Type 0 = λ w cut found. TestsAs score (bytes_in w cut) cut.entry found in
-    let within : All (IsWithin window) cuts = subst (λ (l : List Cut). All (IsWithin window) l) (sym c.deref-in-loop-followed-2.ensures.value) c.in_ok-fill.ensures.cuts in
+    let Tests : List ℕ → Cut → Tested → Type 0 = λ w cut found. TestsAs score (cut_bytes w cut) cut.entry found in
+    let within : All (IsWithinWindow window) cuts = subst (λ (l : List Cut). All (IsWithinWindow window) l) (sym c.deref-in-loop-followed-2.ensures.value) c.in_ok-fill.ensures.cuts in
     let tests : AllZip (Tests window) cuts c.deref-in-loop-followed-3.result.now =
     subst (λ (l : List Tested). AllZip (Tests window) cuts l) (sym c.deref-in-loop-followed-3.ensures.value)
     (subst (λ (l : List Cut). AllZip (Tests window) l c.in_ok-tested.tested.items) (c.deref-in-loop-followed.ensures.value ∙ sym c.deref-in-loop-followed-2.ensures.value)
     (subst (λ (w : List ℕ). AllZip (Tests w) c.deref-in-loop-followed.result.now c.in_ok-tested.tested.items) c.deref.ensures.value c.in_ok-tested.ensures.tested)) in
-    let Goes : Type 0 = HasFollowed score (it.clumps ++ map (bytes_in window) cuts) (it.entries ++ map (λ (cut : Cut). cut.entry) cuts) c.follow.new.self in
-    let Stops : Damage → Type 0 = λ d. (behind : List (List ℕ)) → bad_clump score (it.clumps ++ map (bytes_in window) cuts ++ behind) ≡ Some d in
+    let Goes : Type 0 = HasFollowed score (it.clumps ++ map (cut_bytes window) cuts) (it.entries ++ map (λ (cut : Cut). cut.entry) cuts) c.follow.new.self in
+    let Stops : Damage → Type 0 = λ d. (behind : List (List ℕ)) → bad_clump score (it.clumps ++ map (cut_bytes window) cuts ++ behind) ≡ Some d in
     let stops : Stops c.in-Some.damage = subst (λ (o : Option Damage). MatchOption o Goes Stops) c.in-Some.is
     (c.in_ok-damage.ensures.followed window it.clumps it.entries it.followed within tests) in
-    differs_at (bad_clump score (it.clumps ++ map (bytes_in window) cuts ++ [])) c.in-Some.damage (bad_clump_differs score (it.clumps ++ map (bytes_in window) cuts ++ [])) (stops [])
+    differs_at (bad_clump score (it.clumps ++ map (cut_bytes window) cuts ++ [])) c.in-Some.damage (bad_clump_differs score (it.clumps ++ map (cut_bytes window) cuts ++ [])) (stops [])
 
 pub returns-in-Some-clause-told : goal.returns-in-Some-clause-told
 returns-in-Some-clause-told g c = λ r disk found tells at head_at fields its.
@@ -117,19 +117,19 @@ returns-in-Some-clause-told g c = λ r disk found tells at head_at fields its.
     let head : ArenaHead = c.head-head.result in
     let window : List ℕ = c.fill.new.self.clumps.items in
     let cuts : List Cut = c.deref-in-loop-followed-2.result.now in
-    let Tests : List ℕ → Cut → Tested → Type 0 = λ w cut found. TestsAs score (bytes_in w cut) cut.entry found in
-    let within : All (IsWithin window) cuts = subst (λ (l : List Cut). All (IsWithin window) l) (sym c.deref-in-loop-followed-2.ensures.value) c.in_ok-fill.ensures.cuts in
+    let Tests : List ℕ → Cut → Tested → Type 0 = λ w cut found. TestsAs score (cut_bytes w cut) cut.entry found in
+    let within : All (IsWithinWindow window) cuts = subst (λ (l : List Cut). All (IsWithinWindow window) l) (sym c.deref-in-loop-followed-2.ensures.value) c.in_ok-fill.ensures.cuts in
     let tests : AllZip (Tests window) cuts c.deref-in-loop-followed-3.result.now =
     subst (λ (l : List Tested). AllZip (Tests window) cuts l) (sym c.deref-in-loop-followed-3.ensures.value)
     (subst (λ (l : List Cut). AllZip (Tests window) l c.in_ok-tested.tested.items) (c.deref-in-loop-followed.ensures.value ∙ sym c.deref-in-loop-followed-2.ensures.value)
     (subst (λ (w : List ℕ). AllZip (Tests w) c.deref-in-loop-followed.result.now c.in_ok-tested.tested.items) c.deref.ensures.value c.in_ok-tested.ensures.tested)) in
-    let Goes : Type 0 = HasFollowed score (it.clumps ++ map (bytes_in window) cuts) (it.entries ++ map (λ (cut : Cut). cut.entry) cuts) c.follow.new.self in
-    let Stops : Damage → Type 0 = λ d. (behind : List (List ℕ)) → bad_clump score (it.clumps ++ map (bytes_in window) cuts ++ behind) ≡ Some d in
+    let Goes : Type 0 = HasFollowed score (it.clumps ++ map (cut_bytes window) cuts) (it.entries ++ map (λ (cut : Cut). cut.entry) cuts) c.follow.new.self in
+    let Stops : Damage → Type 0 = λ d. (behind : List (List ℕ)) → bad_clump score (it.clumps ++ map (cut_bytes window) cuts ++ behind) ≡ Some d in
     let stops : Stops c.in-Some.damage = subst (λ (o : Option Damage). MatchOption o Goes Stops) c.in-Some.is
     (c.in_ok-damage.ensures.followed window it.clumps it.entries it.followed within tests) in
     let first : first_damage score r.region head file ≡ Some c.in-Some.damage =
     check_stops score g.D.Disk c.args.log.now c.loop-followed.log c.fill.new.log c.args.arena head f it window cuts c.fill.ensures.reads
-    (λ q d t a. subst (λ (l : List Cut). IsNext q.region (g.D.Disk.bytes d) head.clumps f.clumps f.used window l) (sym c.deref-in-loop-followed-2.ensures.value) (c.in_ok-fill.ensures.next q d t a))
+    (λ q d t a. subst (λ (l : List Cut). AreNextCuts q.region (g.D.Disk.bytes d) head.clumps f.clumps f.used window l) (sym c.deref-in-loop-followed-2.ensures.value) (c.in_ok-fill.ensures.next q d t a))
     c.in-Some.damage stops r disk tells at in
     let same : head ≡ found.head = same_head c.args.log.now c.args.arena head c.head-head.ensures.head found head_at in
     let region : c.arena_len-len.ensures.len.0 ≡ r = same_Some c.arena_len-len.ensures.len.0 r (sym c.arena_len-len.ensures.len.1 ∙ at.arena) in
@@ -159,7 +159,7 @@ returns-clause-told g c = λ r disk found tells at head_at fields its.
     tells_end score r head file (omega (arith, long, c.arena_len-len.ensures.len.2, c.arena_len-len.ensures.bounds.0))
     (omega (arith, long, c.arena_len-len.ensures.len.2, c.arena_len-len.ensures.bounds.1))
     (subst (λ (h : ArenaHead). fields_at r.region file ≡ fields_of h) (sym same) fields) (c.head-head.ensures.fit r at.arena)
-    it.clumps it.entries c.loop-followed.followed it.followed (subst (λ (h : ArenaHead). IsHeadOf r.number h) (sym same) its)
+    it.clumps it.entries c.loop-followed.followed it.followed (subst (λ (h : ArenaHead). IsReadableHead r.number h) (sym same) its)
     ends.0 ends.1 c.end_of.result (c.end_of.ensures score it.clumps it.entries it.followed) in
     subst (λ (h : ArenaHead). TellsOf score r h file c.end_of.result) same told
 
@@ -174,14 +174,14 @@ loop-followed-smaller g c =
     let it = c.loop-followed.invariant in
     let window : List ℕ = c.fill.new.self.clumps.items in
     let cuts : List Cut = c.deref-in-loop-followed-2.result.now in
-    let Tests : List ℕ → Cut → Tested → Type 0 = λ w cut found. TestsAs score (bytes_in w cut) cut.entry found in
-    let within : All (IsWithin window) cuts = subst (λ (l : List Cut). All (IsWithin window) l) (sym c.deref-in-loop-followed-2.ensures.value) c.in_ok-fill.ensures.cuts in
+    let Tests : List ℕ → Cut → Tested → Type 0 = λ w cut found. TestsAs score (cut_bytes w cut) cut.entry found in
+    let within : All (IsWithinWindow window) cuts = subst (λ (l : List Cut). All (IsWithinWindow window) l) (sym c.deref-in-loop-followed-2.ensures.value) c.in_ok-fill.ensures.cuts in
     let tests : AllZip (Tests window) cuts c.deref-in-loop-followed-3.result.now =
     subst (λ (l : List Tested). AllZip (Tests window) cuts l) (sym c.deref-in-loop-followed-3.ensures.value)
     (subst (λ (l : List Cut). AllZip (Tests window) l c.in_ok-tested.tested.items) (c.deref-in-loop-followed.ensures.value ∙ sym c.deref-in-loop-followed-2.ensures.value)
     (subst (λ (w : List ℕ). AllZip (Tests w) c.deref-in-loop-followed.result.now c.in_ok-tested.tested.items) c.deref.ensures.value c.in_ok-tested.ensures.tested)) in
-    let Goes : Type 0 = HasFollowed score (it.clumps ++ map (bytes_in window) cuts) (it.entries ++ map (λ (cut : Cut). cut.entry) cuts) c.follow.new.self in
-    let Stops : Damage → Type 0 = λ d. (behind : List (List ℕ)) → bad_clump score (it.clumps ++ map (bytes_in window) cuts ++ behind) ≡ Some d in
+    let Goes : Type 0 = HasFollowed score (it.clumps ++ map (cut_bytes window) cuts) (it.entries ++ map (λ (cut : Cut). cut.entry) cuts) c.follow.new.self in
+    let Stops : Damage → Type 0 = λ d. (behind : List (List ℕ)) → bad_clump score (it.clumps ++ map (cut_bytes window) cuts ++ behind) ≡ Some d in
     let goes : Goes = match_none c.in_ok-damage.field-0 Goes Stops c.in_default.not-Some
     (c.in_ok-damage.ensures.followed window it.clumps it.entries it.followed within tests) in
     let count = counted score window it.clumps it.entries (it.entries ++ map (λ (cut : Cut). cut.entry) cuts) cuts c.loop-followed.followed c.follow.new.self it.followed goes within in
@@ -194,23 +194,23 @@ loop-followed-preserved g c =
     let it = c.loop-followed.invariant in
     let window : List ℕ = c.fill.new.self.clumps.items in
     let cuts : List Cut = c.deref-in-loop-followed-2.result.now in
-    let Tests : List ℕ → Cut → Tested → Type 0 = λ w cut found. TestsAs score (bytes_in w cut) cut.entry found in
-    let within : All (IsWithin window) cuts = subst (λ (l : List Cut). All (IsWithin window) l) (sym c.deref-in-loop-followed-2.ensures.value) c.in_ok-fill.ensures.cuts in
+    let Tests : List ℕ → Cut → Tested → Type 0 = λ w cut found. TestsAs score (cut_bytes w cut) cut.entry found in
+    let within : All (IsWithinWindow window) cuts = subst (λ (l : List Cut). All (IsWithinWindow window) l) (sym c.deref-in-loop-followed-2.ensures.value) c.in_ok-fill.ensures.cuts in
     let tests : AllZip (Tests window) cuts c.deref-in-loop-followed-3.result.now =
     subst (λ (l : List Tested). AllZip (Tests window) cuts l) (sym c.deref-in-loop-followed-3.ensures.value)
     (subst (λ (l : List Cut). AllZip (Tests window) l c.in_ok-tested.tested.items) (c.deref-in-loop-followed.ensures.value ∙ sym c.deref-in-loop-followed-2.ensures.value)
     (subst (λ (w : List ℕ). AllZip (Tests w) c.deref-in-loop-followed.result.now c.in_ok-tested.tested.items) c.deref.ensures.value c.in_ok-tested.ensures.tested)) in
-    let Goes : Type 0 = HasFollowed score (it.clumps ++ map (bytes_in window) cuts) (it.entries ++ map (λ (cut : Cut). cut.entry) cuts) c.follow.new.self in
-    let Stops : Damage → Type 0 = λ d. (behind : List (List ℕ)) → bad_clump score (it.clumps ++ map (bytes_in window) cuts ++ behind) ≡ Some d in
+    let Goes : Type 0 = HasFollowed score (it.clumps ++ map (cut_bytes window) cuts) (it.entries ++ map (λ (cut : Cut). cut.entry) cuts) c.follow.new.self in
+    let Stops : Damage → Type 0 = λ d. (behind : List (List ℕ)) → bad_clump score (it.clumps ++ map (cut_bytes window) cuts ++ behind) ≡ Some d in
     let goes : Goes = match_none c.in_ok-damage.field-0 Goes Stops c.in_default.not-Some
     (c.in_ok-damage.ensures.followed window it.clumps it.entries it.followed within tests) in
     let count = counted score window it.clumps it.entries (it.entries ++ map (λ (cut : Cut). cut.entry) cuts) cuts c.loop-followed.followed c.follow.new.self it.followed goes within in
     let many : length cuts ≡ length c.fill.new.self.cuts.items = ap (λ (l : List Cut). length l) c.deref-in-loop-followed-2.ensures.value in
     let f = c.loop-followed.followed in
     let head : ArenaHead = c.head-head.result in
-    let sum : bytes_of cuts ≡ bytes_of c.fill.new.self.cuts.items = ap (λ (l : List Cut). bytes_of l) c.deref-in-loop-followed-2.ensures.value in
+    let sum : bytes_of_cuts cuts ≡ bytes_of_cuts c.fill.new.self.cuts.items = ap (λ (l : List Cut). bytes_of_cuts l) c.deref-in-loop-followed-2.ensures.value in
     check_more score g.D.Disk c.args.log.now c.loop-followed.log c.fill.new.log c.args.arena head f it window cuts c.fill.ensures.reads
-    (λ q d t a. subst (λ (l : List Cut). IsNext q.region (g.D.Disk.bytes d) head.clumps f.clumps f.used window l) (sym c.deref-in-loop-followed-2.ensures.value) (c.in_ok-fill.ensures.next q d t a))
+    (λ q d t a. subst (λ (l : List Cut). AreNextCuts q.region (g.D.Disk.bytes d) head.clumps f.clumps f.used window l) (sym c.deref-in-loop-followed-2.ensures.value) (c.in_ok-fill.ensures.next q d t a))
     c.follow.new.self goes count.0 count.1 (omega (arith, many, c.in_ok-fill.ensures.some)) (omega (arith, many, c.in_ok-fill.ensures.few))
     (λ r at.
     let region : c.arena_len-len.ensures.len.0 ≡ r = same_Some c.arena_len-len.ensures.len.0 r (sym c.arena_len-len.ensures.len.1 ∙ at) in

@@ -1,6 +1,6 @@
 use Rattle.std.proofs.Common.{◌≡◌, ℕ, ◌+◌, ◌-◌, ◌≤◌, List, [], ◌++◌, length, take, sym, subst, ◌∙◌, arith, length-append}
 use Rattle.std.proofs.lemmas.List.{length-take-le}
-use Rattle.vt_client.specs.Exchanges.{Moves, traffic_of}
+use Rattle.vt_client.specs.Exchanges.{MovesBytes, traffic_of}
 use borrow.Rule.Slice.PartMut.{post_of}
 use Rattle.vt_client.proofs.Moving.{Moves-in, Moves-append, taken_behind}
 use Rattle.vt_client.proofs.exchange.take_all.Goals as goal
@@ -25,7 +25,7 @@ loop-n-preserved g c =
         length-take-le n buf so.within,
         few,
       );
-      moves = λ told. subst (λ (l : List ℕ). Moves front after [] l)
+      moves = λ told. subst (λ (l : List ℕ). MovesBytes front after [] l)
           (sym (taken_behind n more buf part behind so.within few))
           (Moves-append front here after [] [] (take n buf) (take more part) (so.moves told)
           (Moves-in g.L.Link c.loop-n.link c.take.new.self (take more part)

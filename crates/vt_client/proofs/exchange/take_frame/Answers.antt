@@ -1,7 +1,7 @@
 use Rattle.std.proofs.Common.{◌≡◌, ℕ, ◌+◌, ◌-◌, List, [], ◌++◌, take, drop, sym, subst, arith}
 use borrow.Rule.Slice.PartMut.{post_of}
 use Rattle.vt_wire.specs.Frames.{frame_len}
-use Rattle.vt_client.specs.Exchanges.{Moves, traffic_of}
+use Rattle.vt_client.specs.Exchanges.{MovesBytes, traffic_of}
 use Rattle.vt_client.proofs.Frames.{lengths, taken_bytes, taken_frame}
 use Rattle.vt_client.proofs.Moving.{Moves-append}
 use Rattle.vt_client.proofs.exchange.take_frame.Goals as goal
@@ -32,7 +32,7 @@ returns-clause-taken g c = λ told.
     let before = traffic_of g.L.Link c.args.link.now in
     let between = traffic_of g.L.Link c.take_all.new.link in
     let after = traffic_of g.L.Link c.take_all-2.new.link in
-    subst (λ (l : List ℕ). Moves before after [] l)
+    subst (λ (l : List ℕ). MovesBytes before after [] l)
     (sym (taken_bytes size rest bytes (post_of 2 (2 + n - 2) (size ++ rest)) n lens.0 lens.1))
     (Moves-append before between after [] [] size bytes
     (c.in_ok-take_all.ensures.taken told) (c.in_ok-take_all-2.ensures.taken told))

@@ -1,7 +1,7 @@
 use Rattle.std.proofs.Common.{◌≡◌, inl, inr, Err, List, [], ◌++◌, take, refl, sym, ◌∙◌, subst}
 use Rattle.std.specs.Prelude.{IfErr}
 use Rattle.std.proofs.lemmas.Result.{err_from_is_err_and}
-use Rattle.vt_client.specs.Exchanges.{Moves, traffic_of}
+use Rattle.vt_client.specs.Exchanges.{MovesBytes, traffic_of}
 use Rattle.vt_client.specs.Greetings.{Greets, MayEndGreeting, client_line, welcome}
 use Rattle.vt_client.proofs.Asking.{answered, mild}
 use Rattle.vt_client.proofs.Beginning.{begins, greets_to_line, of_exchange, of_line, of_welcome}

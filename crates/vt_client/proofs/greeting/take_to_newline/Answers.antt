@@ -3,7 +3,7 @@ use Rattle.std.specs.List.{All}
 use Rattle.std.proofs.lemmas.List.{take_more_set}
 use Rattle.std.proofs.lemmas.List.Elements.{All-append, All-cons, All-nil}
 use Rattle.std.proofs.lemmas.Result.{err_from_is_err_and}
-use Rattle.vt_client.specs.Exchanges.{Moves, traffic_of}
+use Rattle.vt_client.specs.Exchanges.{MovesBytes, traffic_of}
 use Rattle.vt_client.proofs.Lines.{stops_in_line}
 use Rattle.vt_client.proofs.Moving.{Moves-append}
 use Rattle.vt_client.proofs.greeting.take_to_newline.Goals as goal
@@ -49,7 +49,7 @@ loop-n-preserved g c =
       plain = subst (All (λ (b : ℕ). b ≢ 10)) more (All-append (λ (b : ℕ). b ≢ 10) (take n buf)
           (byte ∷ []) so.plain (All-cons (λ (b : ℕ). b ≢ 10) byte [] c.if-byte-eq10.false
           (All-nil (λ (b : ℕ). b ≢ 10))));
-      moves = λ told. subst (λ (l : List ℕ). Moves front after [] l) more
+      moves = λ told. subst (λ (l : List ℕ). MovesBytes front after [] l) more
           (Moves-append front here after [] [] (take n buf) (byte ∷ []) (so.moves told)
           (c.in_ok-byte.ensures.taken told));
       reads = c.in_ok-byte.ensures.sides.reads ∙ so.reads;

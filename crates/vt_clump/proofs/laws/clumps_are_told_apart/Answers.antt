@@ -1,5 +1,5 @@
 use Rattle.std.proofs.Common.{List, [], ap, append-nil, arith, length, ℕ}
-use Rattle.vt_clump.specs.Spelling.{spelled}
+use Rattle.vt_clump.specs.Spelling.{clump_bytes}
 use Rattle.vt_clump.proofs.ReadBack.{one_stored, begins_good, good_begins, length-spelled}
 use Rattle.vt_clump.proofs.laws.clumps_are_told_apart.Goals as goal
 
@@ -13,4 +13,4 @@ pub returns-clause-only : goal.returns-clause-only
 returns-clause-only c = good_begins
 
 pub returns-clause-len : goal.returns-clause-len
-returns-clause-len c score_of s is = omega (arith, length-spelled score_of s [] is, ap (λ (l : List ℕ). length l) (append-nil (spelled s)))
+returns-clause-len c score_of s is = omega (arith, length-spelled score_of s [] is, ap (λ (l : List ℕ). length l) (append-nil (clump_bytes s)))

@@ -1,10 +1,10 @@
 use Rattle.std.proofs.Common.{replicate, refl}
-use Rattle.vt_clump.specs.Spelling.{Stored, spelled}
+use Rattle.vt_clump.specs.Spelling.{Stored, clump_bytes}
 use Rattle.vt_clump.proofs.ReadBack.{packed_is}
 use Rattle.vt_clump.proofs.packing.pack.Goals as goal
 
 pub returns-clause-bytes : goal.returns-clause-bytes
-unfolding spelled
+unfolding clump_bytes
 returns-clause-bytes c =
     let built = c.in_ok-extend_from_slice-2.ensures.items in
     let first = c.in_ok-extend_from_slice.ensures.items in

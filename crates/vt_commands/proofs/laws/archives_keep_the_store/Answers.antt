@@ -1,6 +1,6 @@
 -- what was opened keeps the archive; what isn't opened stands
 use Rattle.std.proofs.Common.{Ok, Err}
-use Rattle.vac_store.specs.declared.outcome.ArchiveBad.TheVariants as bads
+use Rattle.vac_store.specs.declared.outcome.ArchiveError.TheVariants as bads
 use Rattle.vt_commands.proofs.laws.archives_keep_the_store.Goals as goal
 
 pub returns : goal.returns

@@ -6,14 +6,14 @@ use Rattle.vt_base.specs.declared.score.Score.{Score}
 use Rattle.vt_conf.specs.Configuration.{Configures}
 use Rattle.vt_model.specs.Answer.{answer}
 use Rattle.vt_single.specs.Single.{ReadsBlock, WritesBlock}
-use Rattle.vt_words.specs.declared.command.Command.TheVariants.{Read, Write}
-use Rattle.run_base.specs.declared.failure.Failure.{Failure}
+use Rattle.vt_cli.specs.declared.command.Command.TheVariants.{Read, Write}
+use Rattle.run_base.specs.declared.error.CommandError.{CommandError}
 use Rattle.vt_commands.specs.Answers.{TellsReplyOrMemory}
 use Rattle.vt_commands.specs.Work.{causes_of}
 use Rattle.run_base.specs.Blocks.{SaysNoType}
 use Rattle.run_sessions.specs.Read.{PrintsBlock, SaysNoBlock}
 use Rattle.run_sessions.specs.Write.{WritesInput, score_line}
-use Rattle.run_base.specs.Failure.{HasCauseIn, Outcome}
+use Rattle.run_base.specs.Errors.{HasCauseIn, CommandOutcome}
 use Rattle.vt_commands.proofs.Answered.{first_tells, in_file, none_taken, printed_well, stored_well}
 use Rattle.vt_commands.proofs.CompleteConf.{none_read, under_same}
 use Rattle.vt_commands.proofs.DidTells.{done}
@@ -26,8 +26,8 @@ returns-clause-read g c score words status work complaint file score_word type_w
     let link = g.N.Link.Link in
     let outcome = did.outcome in
     let setup = record it.c { base = it.base } in
-    let cause_of = λ (failure : Failure) (is : outcome ≡ Err failure).
-    subst (λ (o : Outcome). HasCauseIn (causes_of disk work) o) is did.cause in
+    let cause_of = λ (failure : CommandError) (is : outcome ≡ Err failure).
+    subst (λ (o : CommandOutcome). HasCauseIn (causes_of disk work) o) is did.cause in
     ⊎_elim
     (λ does. ⊎_elim
     (λ word. inl (reading_idle disk outcome work (SaysNoBlock score_word type_word) does.1 word))
@@ -44,7 +44,7 @@ returns-clause-read g c score words status work complaint file score_word type_w
           (λ none. inl (none.outcome_is ∙ ap Err (none_read file it.text it.conf none.failure work.files it.says
           (λ line why. c.configurations_have_one_meaning.ensures.accepted it.text it.conf line why it.says)
           it.files it.content none.none
-          (λ fault. fails.files (subst (λ (f : Failure). HasCauseIn (causes_of disk work) (Err f)) fault
+          (λ fault. fails.files (subst (λ (f : CommandError). HasCauseIn (causes_of disk work) (Err f)) fault
           (cause_of none.failure none.outcome_is))))))
           (λ x.
           let text_is : x.reads.text ≡ it.text = (let is = sym (x.reads.content it.files) ∙ it.content in cc) in
@@ -75,8 +75,8 @@ returns-clause-written g c score words status work complaint file type_word did 
     let outcome = did.outcome in
     let setup = record it.c { base = it.base } in
     let tells = first_tells work.source.tells work.sink.tells it.streams in
-    let cause_of = λ (failure : Failure) (is : outcome ≡ Err failure).
-    subst (λ (o : Outcome). HasCauseIn (causes_of disk work) o) is did.cause in
+    let cause_of = λ (failure : CommandError) (is : outcome ≡ Err failure).
+    subst (λ (o : CommandOutcome). HasCauseIn (causes_of disk work) o) is did.cause in
     ⊎_elim
     (λ does. ⊎_elim
     (λ word. inl (writing_idle disk outcome work (SaysNoType type_word) does.1 word))
@@ -91,7 +91,7 @@ returns-clause-written g c score words status work complaint file type_word did 
           (λ none. inl (none.outcome_is ∙ ap Err (none_read file it.text it.conf none.failure work.files it.says
           (λ line why. c.configurations_have_one_meaning.ensures.accepted it.text it.conf line why it.says)
           it.files it.content none.none
-          (λ fault. fails.files (subst (λ (f : Failure). HasCauseIn (causes_of disk work) (Err f)) fault
+          (λ fault. fails.files (subst (λ (f : CommandError). HasCauseIn (causes_of disk work) (Err f)) fault
           (cause_of none.failure none.outcome_is))))))
           (λ had.
           let conf = had.0 in

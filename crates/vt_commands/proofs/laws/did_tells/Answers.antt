@@ -1,11 +1,11 @@
 -- by what the words ask for, and by the status
 use Rattle.std.proofs.Common.{◌++◌, ⊎_elim, inl, inr, ap, sym, ◌∙◌, subst}
-use Rattle.vt_words.proofs.Asking.{session_taken, session_spoken}
-use Rattle.vt_words.specs.declared.command.Command.TheVariants.{Session}
-use Rattle.vt_words.specs.declared.asked.Asked.TheVariants.{Do}
-use Rattle.vt_words.specs.Words.{Asks}
+use Rattle.vt_cli.proofs.Asking.{session_taken, session_spoken}
+use Rattle.vt_cli.specs.declared.command.Command.TheVariants.{Session}
+use Rattle.vt_cli.specs.declared.asked.Asked.TheVariants.{Do}
+use Rattle.vt_cli.specs.Words.{Asks}
 use Rattle.run_base.specs.Change.{Attempts}
-use Rattle.run_base.specs.Failure.{status_of}
+use Rattle.run_base.specs.Errors.{status_of}
 use Rattle.run_base.specs.Places.{in_memory}
 use Rattle.vt_commands.proofs.Complete.{both_tell, memory_well}
 use Rattle.vt_commands.proofs.DidTells.{refused, done, never_bad, line_of_one, disk_risen, read_risen, write_risen, well_status, session_well}

@@ -2,10 +2,10 @@
 use Rattle.std.proofs.Common.{◌≡◌, ⊎_elim, inr, Err, sym, ◌∙◌, ap, subst}
 use Rattle.std.specs.Prelude.{◌&&◌}
 use Rattle.vt_conf.specs.Configuration.{Configures}
-use Rattle.vt_words.specs.declared.command.Command.TheVariants.{Session}
-use Rattle.run_base.specs.Failure.{HasCauseIn, Outcome}
+use Rattle.vt_cli.specs.declared.command.Command.TheVariants.{Session}
+use Rattle.run_base.specs.Errors.{HasCauseIn, CommandOutcome}
 use Rattle.run_sessions.specs.SessionConf.{DoesSessionConf}
-use Rattle.run_base.specs.declared.failure.Failure.{Failure}
+use Rattle.run_base.specs.declared.error.CommandError.{CommandError}
 use Rattle.vt_commands.specs.Work.{causes_of}
 use Rattle.vt_commands.proofs.Complete.{IsWell, served_well}
 use Rattle.vt_commands.proofs.CompleteConf.{none_opened_well, none_read, under_same}
@@ -18,13 +18,13 @@ returns g c score words status work complaint file did asks other it well_ended 
     let disk = g.P.Disk.Disk in
     let link = g.N.Link.Link in
     let outcome = did.outcome in
-    let cause_of = λ (failure : Failure) (is : outcome ≡ Err failure).
-    subst (λ (o : Outcome). HasCauseIn (causes_of disk work) o) is did.cause in
+    let cause_of = λ (failure : CommandError) (is : outcome ≡ Err failure).
+    subst (λ (o : CommandOutcome). HasCauseIn (causes_of disk work) o) is did.cause in
     let well = λ (does : DoesSessionConf score disk file outcome work.source work.sink work.files work.parts). ⊎_elim
     (λ none. inr (none.outcome_is ∙ ap Err (none_read file it.text it.conf none.failure work.files it.says
     (λ line why. c.configurations_have_one_meaning.ensures.accepted it.text it.conf line why it.says)
     it.files it.content none.none
-    (λ fault. fails.files (subst (λ (f : Failure). HasCauseIn (causes_of disk work) (Err f)) fault
+    (λ fault. fails.files (subst (λ (f : CommandError). HasCauseIn (causes_of disk work) (Err f)) fault
     (cause_of none.failure none.outcome_is))))))
     (λ read.
     let conf = read.0 in

@@ -1,8 +1,8 @@
 -- short help goes before the line
 use Rattle.std.proofs.Common.{inl, inr, refl, rules, []}
 use Rattle.std.specs.Prelude.{map, string_bytes}
-use Rattle.vt_words.specs.declared.asked.Asked.TheVariants.{Faulty}
-use Rattle.vt_words.specs.Words.{Asks}
+use Rattle.vt_cli.specs.declared.asked.Asked.TheVariants.{Faulty}
+use Rattle.vt_cli.specs.Words.{Asks}
 use Rattle.run_base.proofs.SaidBefore.{said_as, unsaid}
 use Rattle.vt_commands.proofs.program.do_words.Goals as goal
 

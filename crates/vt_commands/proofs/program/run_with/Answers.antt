@@ -1,6 +1,6 @@
 -- what was done, and then what goes to the fault sink
 use Rattle.std.specs.Prelude.{map}
-use Rattle.run_base.specs.Failure.{line_of}
+use Rattle.run_base.specs.Errors.{outcome_line}
 use Rattle.run_base.proofs.SaidBefore.{said_before}
 use Rattle.vt_commands.specs.Work.{work_of}
 use Rattle.vt_commands.proofs.Only.{for_archives, words_caused}
@@ -28,6 +28,6 @@ returns g c =
         does = does.1;
         folders = for_archives disk outcome work link score words does.0 does.1;
         complained = said_before g.F.Sink before.fault_sink after.fault_sink c.end.new.fault_sink
-            does.0 (line_of outcome) said does.2 c.end.ensures.complained c.end.ensures.silent;
+            does.0 (outcome_line outcome) said does.2 c.end.ensures.complained c.end.ensures.silent;
       };
     }

@@ -1,15 +1,15 @@
 use Rattle.std.proofs.Common.{◌≡◌, ℕ, ◌∷◌, List, [], drop, take, length, get_or, ap, arith, ◌∙◌, sym, eqb-true}
 use Rattle.std.specs.List.{position_or_len}
-use Rattle.vt_conf.specs.Lines.{words_of, is_blank, is_comment}
+use Rattle.vt_conf.specs.Lines.{words_of_line, is_blank, is_comment}
 use Rattle.vt_conf.proofs.LineWords.{first_word, no_words, no_words_in_comment}
 use Rattle.vt_conf.proofs.line.next_word.Goals as goal
 use Rattle.vt_conf.proofs.line.next_word.Goals.{then-is_empty-via-then-is_empty, then-is_empty-via-else-is_empty+then-line-eq35}
 
 word_and_rest : (line front back : List ℕ) (n : ℕ) → position_or_len is_blank line ≡ n → take n line ≡ front → drop n line ≡ back
-    → take (position_or_len is_blank line) line ∷ words_of (drop (position_or_len is_blank line) line) ≡ front ∷ words_of back
+    → take (position_or_len is_blank line) line ∷ words_of_line (drop (position_or_len is_blank line) line) ≡ front ∷ words_of_line back
 word_and_rest line front back n at is behind =
-    ap (λ (k : ℕ). take k line ∷ words_of (drop k line)) at ∙ ap (λ (l : List ℕ). l ∷ words_of (drop n line)) is
-    ∙ ap (λ (l : List ℕ). front ∷ words_of l) behind
+    ap (λ (k : ℕ). take k line ∷ words_of_line (drop k line)) at ∙ ap (λ (l : List ℕ). l ∷ words_of_line (drop n line)) is
+    ∙ ap (λ (l : List ℕ). front ∷ words_of_line l) behind
 
 pub returns-then-is_empty-clause-none : goal.returns-then-is_empty-clause-none
 returns-then-is_empty-clause-none c =

@@ -2,14 +2,14 @@ use Rattle.std.proofs.Common.{◌≡◌, ℕ, ◌+◌, ◌<◌, List, false, dro
 use Rattle.std.specs.List.{prefix_len}
 use Rattle.std.proofs.lemmas.List.{take_rest, get_or-drop}
 use Rattle.std.proofs.lemmas.List.Sums.{prefix_len_stops}
-use Rattle.vt_conf.specs.Lines.{words_of, is_blank}
+use Rattle.vt_conf.specs.Lines.{words_of_line, is_blank}
 use Rattle.vt_conf.proofs.LineWords.{words_behind_blanks, starts_plain}
 use Rattle.vt_conf.proofs.line.trim_start.Goals as goal
 
 pub returns-clause-words : goal.returns-clause-words
 returns-clause-words c =
     let line = c.args.line.now in
-    ap words_of (take_rest line c.blanks_len.result ∙ ap (λ (k : ℕ). drop k line) c.blanks_len.ensures.value)
+    ap words_of_line (take_rest line c.blanks_len.result ∙ ap (λ (k : ℕ). drop k line) c.blanks_len.ensures.value)
     ∙ words_behind_blanks line
 
 pub returns-clause-start : goal.returns-clause-start

@@ -6,7 +6,7 @@ use Rattle.vt_isect.specs.Section.{IsAtRest, SectionState}
 use Rattle.vt_log.specs.Log.{LogState}
 use Rattle.vt_shard.specs.Shard.{ShardState}
 use Rattle.vt_core.specs.Core.{CoreState}
-use Rattle.vt_recover.specs.Opening.{IsOpened, IsShardMade}
+use Rattle.vt_recover.specs.Opening.{IsFoundSection, IsShardMade}
 use Rattle.vt_core.specs.Opening.{IsMountOf, RefusesBeside, TestsParts, with_log}
 use Rattle.vt_recover.specs.Recalling.{IsUnused, ReadsLogBack, opened}
 use Rattle.vt_core.specs.Whole.{IsWhole}
@@ -38,12 +38,12 @@ returns-in-Err g c = λ before given.
 pub open_memory-requires-clause-rest : goal.open_memory-requires-clause-rest
 open_memory-requires-clause-rest g c =
     all_from (λ s. IsAtRest s) c.in-Ok.beside.sections.items (λ i s at.
-    let d = zip_beside (IsOpened g.D.Disk) c.args.sections.items c.in-Ok.beside.sections.items i s c.in-Ok.ensures.opened.sections at in
+    let d = zip_beside (IsFoundSection g.D.Disk) c.args.sections.items c.in-Ok.beside.sections.items i s c.in-Ok.ensures.opened.sections at in
     ap (λ (t : SectionState g.row.D.Denot). t.phase) d.2.fresh)
 
 pub open_memory-requires-clause-room : goal.open_memory-requires-clause-room
 open_memory-requires-clause-room g c =
-    let many = zip_length (IsOpened g.D.Disk) c.args.sections.items c.in-Ok.beside.sections.items c.in-Ok.ensures.opened.sections in
+    let many = zip_length (IsFoundSection g.D.Disk) c.args.sections.items c.in-Ok.beside.sections.items c.in-Ok.ensures.opened.sections in
     record { empty = c.in-Ok.ensures.opened.room.empty; enough = omega (arith, many, c.in-Ok.ensures.opened.room.enough) }
 
 pub returns-in-Err-open_memory : goal.returns-in-Err-open_memory
@@ -59,7 +59,7 @@ pub read_back-requires-clause-many : goal.read_back-requires-clause-many
 read_back-requires-clause-many g c =
     let made = c.in-Ok-open_memory.ensures.made in
     let many = zip_length (IsShardMade g.D.Disk c.args.sizes.lumps c.args.sizes.clean) c.in-Ok.beside.sections.items c.in-Ok-open_memory.opened.0.items made.0 in
-    let opens = zip_length (IsOpened g.D.Disk) c.args.sections.items c.in-Ok.beside.sections.items c.in-Ok.ensures.opened.sections in
+    let opens = zip_length (IsFoundSection g.D.Disk) c.args.sections.items c.in-Ok.beside.sections.items c.in-Ok.ensures.opened.sections in
     omega (arith, many, opens, ap length c.deref_mut.ensures.value, c.requires.many)
 
 pub read_back-requires-clause-unused : goal.read_back-requires-clause-unused

@@ -9,7 +9,7 @@ use Rattle.vt_core.proofs.Beside.{can_open, none_fails}
 use Rattle.vt_core.proofs.BesideWork.{both_held, closed_is, counts_filter, counts_none, counts_sections, filter_refused, sections_refused, tests_counts}
 use Rattle.vt_recover.proofs.Held.{hold_still}
 use Rattle.vt_recover.proofs.Zips.{zip_length}
-use Rattle.vt_recover.specs.Opening.{IsOpened}
+use Rattle.vt_recover.specs.Opening.{IsFoundSection}
 use Rattle.vt_core.proofs.mounting.open_beside.Goals as goal
 
 pub returns-in-Err-clause-refused : goal.returns-in-Err-clause-refused
@@ -29,22 +29,22 @@ returns-in-Err-clause-counts g c =
 
 pub overflow_add-part : goal.overflow_add-part
 overflow_add-part g c =
-    let many = zip_length (IsOpened g.D.Disk) c.args.devices.items c.in-Ok.opened.0.items c.in-Ok.ensures.opened.0 in
+    let many = zip_length (IsFoundSection g.D.Disk) c.args.devices.items c.in-Ok.opened.0.items c.in-Ok.ensures.opened.0 in
     omega (arith, many, c.len.ensures, c.in-Ok.opened.0.ok.0, c.requires)
 
 pub overflow_cast-len : goal.overflow_cast-len
 overflow_cast-len g c =
-    let many = zip_length (IsOpened g.D.Disk) c.args.devices.items c.in-Ok.opened.0.items c.in-Ok.ensures.opened.0 in
+    let many = zip_length (IsFoundSection g.D.Disk) c.args.devices.items c.in-Ok.opened.0.items c.in-Ok.ensures.opened.0 in
     omega (arith, many, c.len.ensures, c.in-Ok.opened.0.ok.0, c.requires)
 
 pub close_sections-requires : goal.close_sections-requires
 close_sections-requires g c =
-    let many = zip_length (IsOpened g.D.Disk) c.args.devices.items c.in-Ok.opened.0.items c.in-Ok.ensures.opened.0 in
+    let many = zip_length (IsFoundSection g.D.Disk) c.args.devices.items c.in-Ok.opened.0.items c.in-Ok.ensures.opened.0 in
     omega (arith, many, ap length c.in-Ok.ensures.opened.1.empty, c.in-Ok.ensures.opened.1.enough)
 
 pub returns-in-Err-open_filter-clause-refused : goal.returns-in-Err-open_filter-clause-refused
 returns-in-Err-open_filter-clause-refused g c =
-    let many = zip_length (IsOpened g.D.Disk) c.args.devices.items c.in-Ok.opened.0.items c.in-Ok.ensures.opened.0 in
+    let many = zip_length (IsFoundSection g.D.Disk) c.args.devices.items c.in-Ok.opened.0.items c.in-Ok.ensures.opened.0 in
     let at : c.args.part + c.len.result ≡ c.args.part + length c.args.devices.items = omega (arith, many, c.len.ensures, c.in-Ok.opened.0.ok.0) in
     filter_refused g.D.Disk c.args.devices.items c.args.filter c.args.part c.args.len (c.args.part + c.len.result) c.in-Err-open_filter.bad at c.in-Err-open_filter.ensures.refused
 
@@ -66,12 +66,12 @@ returns-in-Err-open_filter-clause-counts g c =
 
 pub test_parts-requires : goal.test_parts-requires
 test_parts-requires g c =
-    let many = zip_length (IsOpened g.D.Disk) c.args.devices.items c.in-Ok.opened.0.items c.in-Ok.ensures.opened.0 in
+    let many = zip_length (IsFoundSection g.D.Disk) c.args.devices.items c.in-Ok.opened.0.items c.in-Ok.ensures.opened.0 in
     omega (arith, many, ap length c.deref.ensures.value, c.requires)
 
 pub close_sections-requires-in-Err-test_parts : goal.close_sections-requires-in-Err-test_parts
 close_sections-requires-in-Err-test_parts g c =
-    let many = zip_length (IsOpened g.D.Disk) c.args.devices.items c.in-Ok.opened.0.items c.in-Ok.ensures.opened.0 in
+    let many = zip_length (IsFoundSection g.D.Disk) c.args.devices.items c.in-Ok.opened.0.items c.in-Ok.ensures.opened.0 in
     omega (arith, many, ap length c.in-Ok.ensures.opened.1.empty, c.in-Ok.ensures.opened.1.enough)
 
 pub returns-in-Err-test_parts-clause-refused : goal.returns-in-Err-test_parts-clause-refused

@@ -3,7 +3,7 @@ use Rattle.std.specs.Prelude.{IsTrue}
 use Rattle.vt_base.specs.declared.mount.MountBad.{MountBad}
 use Rattle.vt_part.specs.Parts.{disk_of, table_of}
 use Rattle.vt_part.specs.Table.{count_for, table_for}
-use Rattle.vt_format.specs.Arenas.{RefusesArenas}
+use Rattle.vt_format.specs.Arenas.{RefusesArenaFormat}
 use Rattle.vt_format.proofs.OnePartition.{becomes, refuses, refuses_table}
 use Rattle.vt_format.proofs.arenas.make_arenas.Goals as goal
 
@@ -41,7 +41,7 @@ returns-in-Err-mount g c =
       size = c.in-Err-mount.ensures.reads.size ∙ c.format.ensures.writes.size;
       calls = λ told. omega (arith, c.in-Err-mount.ensures.reads.calls told, c.format.ensures.writes.calls told);
       formatted = tt;
-      refused = subst (λ (bad : MountBad). RefusesArenas disk c.args.arena_size bad old c.in-Err-mount.disk) (sym c.of_part-in-Err-mount.ensures)
+      refused = subst (λ (bad : MountBad). RefusesArenaFormat disk c.args.arena_size bad old c.in-Err-mount.disk) (sym c.of_part-in-Err-mount.ensures)
           (refuses_table disk c.args.arena_size old with_table c.in-Err-mount.disk c.in-Ok.ensures.cause (disk.size with_table) c.in-Err-mount.bad
           (λ told. c.in-Err-mount.ensures.all_are_found table told (c.in-Ok.ensures.partition told (disk.bytes with_table) (g.met.D.Disk.read_is_image with_table told)))
           c.in-Err-mount.ensures.differs c.in-Err-mount.ensures.cause);

@@ -1,10 +1,10 @@
 use Rattle.std.proofs.Common.{◌≡◌, ⊎_elim, inl, inr, ◌<◌, ◌≤◌, ℕ, sym, ◌∙◌, ap, arith}
 use Rattle.vt_base.specs.declared.mount.MountBad.TheVariants.{Disagree}
 use Rattle.vt_base.specs.declared.mount.MountField.TheVariants.{M}
-use Rattle.vt_bloom.specs.declared.bad.BloomBad.TheVariants.{Fault}
+use Rattle.vt_bloom.specs.declared.error.BloomError.TheVariants.{Fault}
 use Rattle.vt_bloom.specs.Size.{filter_len}
 use Rattle.vt_bloom.proofs.Powers.{exponent_unique, filter_len-mono}
-use Rattle.vt_told.specs.Told.{of_filter}
+use Rattle.vt_mount_errors.specs.MountErrors.{of_filter}
 use Rattle.vt_format.proofs.filter.make_filter.Goals as goal
 
 pub returns-in-Ok : goal.returns-in-Ok

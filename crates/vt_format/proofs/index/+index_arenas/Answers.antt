@@ -5,11 +5,11 @@ use Rattle.vt_conf.specs.declared.conf.PartFile.{PartFile}
 use Rattle.vt_log.specs.Logs.{arena_count}
 use Rattle.vt_part.specs.declared.part.Part.{Part}
 use Rattle.vt_part.specs.Parts.{disk_of, table_of, tables_of}
-use Rattle.vt_part.specs.Table.{end_of}
-use Rattle.vt_format.specs.declared.index.IndexBad.TheVariants.{Fault, Refused}
+use Rattle.vt_part.specs.Table.{arenas_end}
+use Rattle.vt_format.specs.declared.index.IndexError.TheVariants.{Fault, Refused}
 use Rattle.vt_format.specs.declared.TheConstants.{MAX_ARENAS}
 use Rattle.vt_format.specs.Index.{IndexesArenas}
-use Rattle.vt_format.specs.Opening.{IsOpenedAs, RefusesArenas, RefusesDisk}
+use Rattle.vt_format.specs.Opening.{IsOpenedAs, RefusesArenaPart, RefusesDisk}
 use Rattle.vt_format.proofs.ArenaLevel.{arenas_behind, arenas_left_out, arenas_missing, arenas_refused_here}
 use Rattle.vt_format.proofs.Levels.{handed_is}
 use Rattle.vt_format.proofs.Slices.{all_more, arenas_more, first_and_rest, rest_long}
@@ -64,7 +64,7 @@ returns-in-Err g t c =
     })
     c.in-Err.bad c.in-Err.ensures.0
     (subst (λ (k : ℕ). RefusesDisk g.P.Disk.Disk c.len-number.result
-    (RefusesArenas g.P.Disk.Disk c.len-number.result k c.in-Ok.disk) c.in-Err.bad c.in-Ok.disk
+    (RefusesArenaPart g.P.Disk.Disk c.len-number.result k c.in-Ok.disk) c.in-Err.bad c.in-Ok.disk
     c.in-Err.disk) before c.in-Err.ensures.1))
 
 pub returns-in-Err-push : goal.returns-in-Err-push
@@ -129,11 +129,11 @@ index_arenas-opened-requires g t c =
     let few : arena_count (tables_of c.push.new.self.items) ≤ MAX_ARENAS =
     subst (λ (parts : List (Part g.row.P-Disk.Denot)). arena_count (tables_of parts)
     ≤ MAX_ARENAS) (sym more) (omega (arith, arenas_more ps p, before, opened.few)) in
-    let rooms : All (λ part. end_of (table_of part) ≤ g.P.Disk.Disk.size (disk_of part))
+    let rooms : All (λ part. arenas_end (table_of part) ≤ g.P.Disk.Disk.size (disk_of part))
     c.push.new.self.items =
-    subst (λ (parts : List (Part g.row.P-Disk.Denot)). All (λ part. end_of (table_of part)
+    subst (λ (parts : List (Part g.row.P-Disk.Denot)). All (λ part. arenas_end (table_of part)
     ≤ g.P.Disk.Disk.size (disk_of part)) parts) (sym more)
-    (all_more (λ part. end_of (table_of part) ≤ g.P.Disk.Disk.size (disk_of part)) ps p
+    (all_more (λ part. arenas_end (table_of part) ≤ g.P.Disk.Disk.size (disk_of part)) ps p
     c.requires.rooms opened.room) in
     search rules
 

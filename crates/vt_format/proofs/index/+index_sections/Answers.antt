@@ -3,12 +3,12 @@ use Rattle.std.specs.Prelude.{All, IsTrue}
 use Rattle.vt_base.specs.declared.mount.MountBad.TheVariants.{NoMemory}
 use Rattle.vt_conf.specs.declared.conf.PartFile.{PartFile}
 use Rattle.vt_isect.specs.Section.{SectionState}
-use Rattle.vt_format.specs.declared.index.IndexBad.TheVariants.{Fault, Refused}
+use Rattle.vt_format.specs.declared.index.IndexError.TheVariants.{Fault, Refused}
 use Rattle.vt_format.specs.declared.TheConstants.{MAX_BUCKETS}
 use Rattle.std.proofs.Common.{Some}
 use Rattle.vt_format.specs.Index.{IndexesSections}
 use Rattle.vt_format.specs.Opening.{IsOpenedSection, RefusesDisk, RefusesSection}
-use Rattle.vt_format.specs.Usage.{IsOpened, buckets_of}
+use Rattle.vt_format.specs.Usage.{IsOpened, total_buckets}
 use Rattle.vt_format.proofs.Levels.{handed_is}
 use Rattle.vt_format.proofs.SectionLevel.{section_behind, section_left_out, section_missing, section_refused_here}
 use Rattle.vt_format.proofs.Slices.{all_more, as_many_left, buckets_more, first_and_rest, is_empty, rest_long, written_back}
@@ -76,8 +76,8 @@ returns-in-Err g t c =
     let rest : List PartFile = take (length all - 1) (drop 1 all) in
     let os = c.args.opened.now.items in
     let number : ℕ = c.len.result + c.len-2.result in
-    let before : c.buckets_in.result ≡ buckets_of os = c.buckets_in.ensures
-    ∙ ap (λ (sections : List (SectionState g.row.P-Disk.Denot)). buckets_of sections)
+    let before : c.buckets_in.result ≡ total_buckets os = c.buckets_in.ensures
+    ∙ ap (λ (sections : List (SectionState g.row.P-Disk.Denot)). total_buckets sections)
     c.deref.ensures.value in
     subst (λ (files : List PartFile). IndexesSections g.P.Disk.Disk (IsTrue g.P.Parts.tells)
     c.args.conf.now files (g.P.Parts.standing c.args.parts.now)
@@ -116,8 +116,8 @@ returns-in-Err-push g t c =
     let rest : List PartFile = take (length all - 1) (drop 1 all) in
     let os = c.args.opened.now.items in
     let o = c.in-Ok-open_section.section in
-    let before : c.buckets_in.result ≡ buckets_of os = c.buckets_in.ensures
-    ∙ ap (λ (sections : List (SectionState g.row.P-Disk.Denot)). buckets_of sections)
+    let before : c.buckets_in.result ≡ total_buckets os = c.buckets_in.ensures
+    ∙ ap (λ (sections : List (SectionState g.row.P-Disk.Denot)). total_buckets sections)
     c.deref.ensures.value in
     subst (λ (files : List PartFile). IndexesSections g.P.Disk.Disk (IsTrue g.P.Parts.tells)
     c.args.conf.now files (g.P.Parts.standing c.args.parts.now)
@@ -156,8 +156,8 @@ index_sections-done-requires g t c =
     let all = c.args.files.now in
     let os = c.args.opened.now.items in
     let o = c.in-Ok-open_section.section in
-    let before : c.buckets_in.result ≡ buckets_of os = c.buckets_in.ensures
-    ∙ ap (λ (sections : List (SectionState g.row.P-Disk.Denot)). buckets_of sections)
+    let before : c.buckets_in.result ≡ total_buckets os = c.buckets_in.ensures
+    ∙ ap (λ (sections : List (SectionState g.row.P-Disk.Denot)). total_buckets sections)
     c.deref.ensures.value in
     let opened : IsOpenedSection g.P.Disk.Disk c.buckets_in.result c.in-Ok.disk o =
     c.in-Ok-open_section.ensures in
@@ -168,8 +168,8 @@ index_sections-done-requires g t c =
     let some = c.in-len1-up.len_at_least in
     let many : length c.push.new.self.items + length (take (length all - 1) (drop 1 all))
     ≡ length c.args.conf.now.sections.items = omega (arith, long, rest, some, c.requires.many) in
-    let few : buckets_of c.push.new.self.items ≤ MAX_BUCKETS =
-    subst (λ (sections : List (SectionState g.row.P-Disk.Denot)). buckets_of sections
+    let few : total_buckets c.push.new.self.items ≤ MAX_BUCKETS =
+    subst (λ (sections : List (SectionState g.row.P-Disk.Denot)). total_buckets sections
     ≤ MAX_BUCKETS) (sym more) (omega (arith, buckets_more os o, before, opened.few)) in
     let are : All (IsOpened g.P.Disk.Disk) c.push.new.self.items =
     subst (λ (sections : List (SectionState g.row.P-Disk.Denot)). All (IsOpened g.P.Disk.Disk)
@@ -203,8 +203,8 @@ returns g t c =
     let o = c.in-Ok-open_section.section in
     let ns = c.pop.new.self.items in
     let n = c.in-Some.section in
-    let before : c.buckets_in.result ≡ buckets_of os = c.buckets_in.ensures
-    ∙ ap (λ (sections : List (SectionState g.row.P-Disk.Denot)). buckets_of sections)
+    let before : c.buckets_in.result ≡ total_buckets os = c.buckets_in.ensures
+    ∙ ap (λ (sections : List (SectionState g.row.P-Disk.Denot)). total_buckets sections)
     c.deref.ensures.value in
     subst (λ (files : List PartFile). IndexesSections g.P.Disk.Disk (IsTrue g.P.Parts.tells)
     c.args.conf.now files (g.P.Parts.standing c.args.parts.now)

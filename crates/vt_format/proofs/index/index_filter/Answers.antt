@@ -1,8 +1,8 @@
 use Rattle.std.proofs.Common.{◌≡◌, ◌∙◌, ℕ, ◌+◌, length, refl, ap, subst, arith}
 use Rattle.std.specs.Prelude.{IfErr, IsTrue}
-use Rattle.vt_parts.specs.Parts.{there}
+use Rattle.vt_partitions.specs.Parts.{there}
 use Rattle.vt_format.specs.Index.{IsStoppedAmong, LeavesOpened}
-use Rattle.vt_format.specs.Usage.{buckets_of}
+use Rattle.vt_format.specs.Usage.{total_buckets}
 use Rattle.vt_format.proofs.FilterLevel.{filter_behind, filter_missing, filter_none, filter_refused_here}
 use Rattle.vt_format.proofs.Levels.{handed_is}
 use Rattle.vt_format.proofs.index.index_filter.Goals as goal
@@ -18,7 +18,7 @@ returns-in_default g c =
     c.index_opened.ensures.total c.index_opened.ensures.sections
     (subst (λ (k : ℕ). IfErr c.index_opened.result (IsStoppedAmong k (length c.args.opened.now)))
     behind c.index_opened.ensures.stopped)
-    (subst (λ (k : ℕ). LeavesOpened g.P.Disk.Disk k (buckets_of c.args.opened.now) c.index_opened.result c.args.opened.now
+    (subst (λ (k : ℕ). LeavesOpened g.P.Disk.Disk k (total_buckets c.args.opened.now) c.index_opened.result c.args.opened.now
     c.index_opened.new.opened) behind c.index_opened.ensures.left)
     c.in_default.is
 
@@ -43,7 +43,7 @@ returns-in-Ok-open_filter g c =
     c.index_opened-done.ensures.total c.index_opened-done.ensures.sections
     (subst (λ (k : ℕ). IfErr c.index_opened-done.result
     (IsStoppedAmong k (length c.args.opened.now))) behind c.index_opened-done.ensures.stopped)
-    (subst (λ (k : ℕ). LeavesOpened g.P.Disk.Disk k (buckets_of c.args.opened.now) c.index_opened-done.result c.args.opened.now
+    (subst (λ (k : ℕ). LeavesOpened g.P.Disk.Disk k (total_buckets c.args.opened.now) c.index_opened-done.result c.args.opened.now
     c.index_opened-done.new.opened) behind c.index_opened-done.ensures.left)
     c.in-Some.file (g.P.Parts.standing c.part.new.self) (g.P.Parts.standing c.done.new.self)
     (g.P.Parts.faults c.part.new.self) (g.P.Parts.faults c.done.new.self) c.in-Ok.disk

@@ -9,10 +9,10 @@ use Rattle.vt_part.specs.Layout.{layout_of}
 use Rattle.vt_part.specs.Parts.{tables_of}
 use Rattle.vt_part.specs.Table.{Table}
 use Rattle.vt_base.specs.declared.mount.MountBad.{MountBad}
-use Rattle.vt_format.specs.declared.index.IndexBad.{IndexBad}
+use Rattle.vt_format.specs.declared.index.IndexError.{IndexError}
 use Rattle.vt_format.specs.Index.{IndexesArenas, IndexesSections}
-use Rattle.vt_format.specs.Opening.{told}
-use Rattle.vt_told.specs.Told.{of_log}
+use Rattle.vt_format.specs.Opening.{index_error}
+use Rattle.vt_mount_errors.specs.MountErrors.{of_log}
 use Rattle.vt_format.proofs.LogLevel.{log_found, log_refused}
 use Rattle.vt_format.proofs.index.index_log.Goals as goal
 
@@ -46,11 +46,11 @@ returns-in-Ok g c =
 
 pub returns-in-Err : goal.returns-in-Err
 returns-in-Err g c =
-    subst (λ (bad : IndexBad). IndexesArenas g.P.Disk.Disk (IsTrue g.P.Parts.tells)
+    subst (λ (bad : IndexError). IndexesArenas g.P.Disk.Disk (IsTrue g.P.Parts.tells)
     c.args.conf.now [] (g.P.Parts.standing c.args.parts.now)
     (g.P.Parts.standing c.args.parts.now) (g.P.Parts.faults c.args.parts.now)
     (g.P.Parts.faults c.args.parts.now) c.args.opened.items c.in-Err.opened.items (Err bad))
-    (sym (c.told-bad.ensures ∙ ap (λ (bad : MountBad). told None bad) (c.of_log.ensures
+    (sym (c.index_error-bad.ensures ∙ ap (λ (bad : MountBad). index_error None bad) (c.of_log.ensures
     ∙ ap (λ (tables : List Table). of_log (layout_of tables) c.in-Err.bad)
     (ap (λ (parts : List (Part g.row.P-Disk.Denot)). tables_of parts) c.deref-in-Err.ensures.value
     ∙ c.in-Err.ensures.handed_back))))

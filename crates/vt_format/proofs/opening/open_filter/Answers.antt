@@ -1,14 +1,14 @@
 use Rattle.std.proofs.Common.{Some, ◌∙◌, ap, subst, sym}
 use Rattle.vt_base.specs.declared.mount.MountBad.{MountBad}
-use Rattle.vt_format.specs.declared.index.IndexBad.{IndexBad}
-use Rattle.vt_format.specs.Opening.{RefusesDisk, RefusesFilter, told}
+use Rattle.vt_format.specs.declared.index.IndexError.{IndexError}
+use Rattle.vt_format.specs.Opening.{RefusesDisk, RefusesFilter, index_error}
 use Rattle.vt_format.proofs.Refused.{filter_refused}
 use Rattle.vt_format.proofs.opening.open_filter.Goals as goal
 
 pub returns-in-Err : goal.returns-in-Err
 returns-in-Err g c = (
   c.in-Err.ensures.reads,
-  subst (λ (b : IndexBad). RefusesDisk g.D.Disk c.args.number (RefusesFilter g.D.Disk c.args.number c.args.disk) b c.args.disk c.in-Err.disk)
-      (sym (c.told.ensures ∙ ap (λ (b : MountBad). told (Some c.args.number) b) c.of_filter.ensures))
+  subst (λ (b : IndexError). RefusesDisk g.D.Disk c.args.number (RefusesFilter g.D.Disk c.args.number c.args.disk) b c.args.disk c.in-Err.disk)
+      (sym (c.index_error.ensures ∙ ap (λ (b : MountBad). index_error (Some c.args.number) b) c.of_filter.ensures))
       (filter_refused g.D.Disk c.args.number c.args.disk c.in-Err.disk c.in-Err.bad c.in-Err.ensures.refused c.in-Err.ensures.differs c.in-Err.ensures.cause),
 )

@@ -1,6 +1,6 @@
 use Rattle.std.proofs.Common.{◌≡◌, ⊎_elim, inl, inr, ◌∙◌, ap}
-use Rattle.vt_isect.specs.declared.bad.SectBad.TheVariants.{Fault}
-use Rattle.vt_told.specs.Told.{of_section}
+use Rattle.vt_isect.specs.declared.error.SectBad.TheVariants.{Fault}
+use Rattle.vt_mount_errors.specs.MountErrors.{of_section}
 use Rattle.vt_format.proofs.section.make_section.Goals as goal
 
 pub returns-in-Ok : goal.returns-in-Ok

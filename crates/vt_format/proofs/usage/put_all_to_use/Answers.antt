@@ -2,7 +2,7 @@ use Rattle.std.proofs.Common.{◌≡◌, ◌+◌, ℕ, Some, set, subst, sym, ar
 use Rattle.std.specs.Prelude.{slice_get, slice_index_or}
 use Rattle.std.proofs.lemmas.Option.{slice_get-get_or}
 use Rattle.vt_isect.specs.Section.{SectionState}
-use Rattle.vt_format.specs.Usage.{IsOpened, StopsAt}
+use Rattle.vt_format.specs.Usage.{IsOpened, StopsAtSection}
 use Rattle.vt_format.proofs.InTurn.{AreUsedTo, all_used, is_told, same_old, stops, used_more, within_all}
 use Rattle.vt_format.proofs.usage.put_all_to_use.Goals as goal
 
@@ -33,7 +33,7 @@ returns-in-Err-clause-stops g c =
     subst (IsOpened g.D.Disk) (same_old g.D.Disk c.buckets_in-total.result c.loop-number.number c.loop-number.first c.args.sections.now
     c.loop-number.sections old old c.loop-number.invariant at c.index-sections-number.result)
     (c.requires.opened c.loop-number.number c.index-sections-number.result (omega (arith, c.loop-number.invariant.many))) in
-    subst (λ (n : ℕ). StopsAt g.D.Disk c.loop-number.number n c.args.sections.now (set c.loop-number.sections c.loop-number.number c.put_to_use.new.section))
+    subst (λ (n : ℕ). StopsAtSection g.D.Disk c.loop-number.number n c.args.sections.now (set c.loop-number.sections c.loop-number.number c.put_to_use.new.section))
     c.buckets_in-total.ensures
     (stops g.D.Disk c.buckets_in-total.result c.loop-number.number c.loop-number.first c.args.sections.now c.loop-number.sections
     old c.put_to_use.new.section c.loop-number.invariant at (is_told c.in-Err.field-0 (g.D.Disk.faults old.disk) (g.D.Disk.faults c.put_to_use.new.section.disk)

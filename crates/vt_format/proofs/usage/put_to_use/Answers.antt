@@ -1,7 +1,7 @@
 use Rattle.std.proofs.Common.{Ok, Err, Result}
 use Rattle.std.specs.Prelude.{IsTrue, OnErr}
 use Rattle.vt_disk.proofs.Calls.{on_err}
-use Rattle.vt_isect.specs.declared.bad.ShardErr.{ShardErr}
+use Rattle.vt_isect.specs.declared.error.ShardErr.{ShardErr}
 use Rattle.vt_isect.specs.Sound.{DiskHolds, nothing_known}
 use Rattle.vt_format.specs.Usage.{IsMidway, StopsHead}
 use Rattle.vt_format.proofs.Uses.{clearing_midway, first_midway, in_use, last_midway}

@@ -1,5 +1,5 @@
 use Rattle.std.proofs.Common.{◌≡◌, ◌≤◌, ℕ, Ok, sym, ◌∙◌, subst, arith}
-use Rattle.vt_bloom.specs.Size.{IsSize}
+use Rattle.vt_bloom.specs.Size.{IsFilterSize}
 use Rattle.vt_format.proofs.Numbers.{whole, size_least, size_most}
 use Rattle.vt_format.proofs.words.parse_filter_size.Goals as goal
 
@@ -16,7 +16,7 @@ pub returns-in-None-clause-only : goal.returns-in-None-clause-only
 returns-in-None-clause-only c n m is size =
     let found : Ok c.in_ok-size.size ≡ Ok n = sym c.in_ok-size.was ∙ c.parse_number.ensures.only n is (size_least m n size) (size_most m n size) in
     let same : c.in_ok-size.size ≡ n = cc in
-    absurd (c.in-None.ensures.none m (subst (λ (k : ℕ). IsSize m k) (sym same) size))
+    absurd (c.in-None.ensures.none m (subst (λ (k : ℕ). IsFilterSize m k) (sym same) size))
 
 pub returns-in-None-clause-bad : goal.returns-in-None-clause-bad
 returns-in-None-clause-bad c =

@@ -3,7 +3,7 @@ use Rattle.vt_disk.specs.declared.region.Region.{Region}
 use Rattle.vt_twin.specs.Formatting.{EndsFormat}
 use Rattle.vt_twin.specs.Frames.{current_frame, selector_of, selector_bytes, selector_len}
 use Rattle.vt_isect.specs.declared.head.Head.{Head}
-use Rattle.vt_fields.specs.Filled.{filled}
+use Rattle.vt_base.specs.Filled.{filled}
 use Rattle.vt_isect.specs.Head.{encoded, IsHeadFrame}
 use Rattle.vt_isect.specs.Layout.{head_place, buckets_in, formatted}
 use Rattle.vt_isect.proofs.Heads.{frame_has}

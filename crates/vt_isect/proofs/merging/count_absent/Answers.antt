@@ -3,15 +3,15 @@ use Rattle.std.specs.List.{Contains}
 use Rattle.std.proofs.lemmas.Bool.{false≢true}
 use Rattle.std.proofs.lemmas.List.{take_more, get_or_default}
 use Rattle.vt_base.specs.declared.place.Entry.{Entry}
-use Rattle.vt_bucket.specs.Buckets.{entries_of}
-use Rattle.vt_isect.specs.Merging.{HasKey, HasKeys, IsAbsent}
+use Rattle.vt_bucket.specs.Buckets.{bucket_entries}
+use Rattle.vt_isect.specs.Merging.{HasKey, HasKeys, IsAbsentEntry}
 use Rattle.vt_isect.proofs.Merges.{keys_more, keys_same, decide_held}
 use Rattle.vt_isect.proofs.merging.count_absent.Goals.{then-is_absent+then-not-has_key, else-is_absent, else-is_absent-via-then-is_absent+else-not-has_key, else-is_absent-via-else-is_absent}
 use Rattle.vt_isect.proofs.merging.count_absent.Goals as goal
 
 pub loop-i-preserved : goal.loop-i-preserved
 loop-i-preserved c =
-    let old : List Entry = entries_of c.args.bucket.now in
+    let old : List Entry = bucket_entries c.args.bucket.now in
     let xs : List Entry = c.args.entries.now in
     let i : ℕ = c.loop-i.i in
     let y : Entry = c.index-entries-i.result in
@@ -23,8 +23,8 @@ loop-i-preserved c =
     let back = subst (λ (e : Entry). ¬ HasKey (Contains old) e.key) at in
     let of = subst (λ (e : Entry). ¬ HasKey (Contains old) e.key) (sym at) in
     let same : (HasKey (Contains old) y.key ⊎ HasKey (Contains front) y.key)
-    → HasKeys (IsAbsent old (Contains (take (i + 1) xs))) c.loop-i.absent =
-    λ why. subst (λ (l : List Entry). HasKeys (IsAbsent old (Contains l)) c.loop-i.absent) (sym grown)
+    → HasKeys (IsAbsentEntry old (Contains (take (i + 1) xs))) c.loop-i.absent =
+    λ why. subst (λ (l : List Entry). HasKeys (IsAbsentEntry old (Contains l)) c.loop-i.absent) (sym grown)
     (keys_same old front y c.loop-i.absent why c.loop-i.invariant.keys) in
     elim c.if-is_absent.branch [
       | then-is_absent+then-not-has_key w ↦
@@ -34,7 +34,7 @@ loop-i-preserved c =
           let no = w.if-not-has_key.true in
           false≢true (sym no ∙ yes) in
           rw w.absent-is (record {
-            keys = subst (λ (l : List Entry). HasKeys (IsAbsent old (Contains l)) (c.loop-i.absent + 1)) (sym grown)
+            keys = subst (λ (l : List Entry). HasKeys (IsAbsentEntry old (Contains l)) (c.loop-i.absent + 1)) (sym grown)
                 (keys_more old front y c.loop-i.absent is fresh c.loop-i.invariant.keys);
             most = omega (arith, c.loop-i.invariant.most);
           })

@@ -3,9 +3,9 @@ use Rattle.std.specs.Prelude.{IfErr}
 use Rattle.std.specs.Result.{IsErrAnd}
 use Rattle.std.proofs.lemmas.List.{take_at}
 use Rattle.vt_twin.specs.Frames.{current_frame}
-use Rattle.vt_isect.specs.declared.bad.SectBad.{SectBad}
-use Rattle.vt_isect.specs.declared.bad.SectBad.TheVariants.{NoMemory, Fault}
-use Rattle.vt_isect.specs.Faults.{first_bad}
+use Rattle.vt_isect.specs.declared.error.SectBad.{SectBad}
+use Rattle.vt_isect.specs.declared.error.SectBad.TheVariants.{NoMemory, Fault}
+use Rattle.vt_isect.specs.Faults.{first_bad_section}
 use Rattle.vt_isect.specs.Head.{IsHeadFrame}
 use Rattle.vt_isect.specs.Layout.{buckets_in, head_place}
 use Rattle.vt_isect.proofs.mounting.open.Goals as goal
@@ -18,7 +18,7 @@ returns-in-Err-clause-refused g c told =
     ∙ c.in_ok-twin.ensures.read told in
     let len = c.len-len.ensures in
     let it = c.in-Err.ensures.refused in
-    inl (subst (λ (f : List ℕ). first_bad (g.D.Disk.size c.args.disk.now) f ≡ Some c.in-Err.bad) read (rw len at it))
+    inl (subst (λ (f : List ℕ). first_bad_section (g.D.Disk.size c.args.disk.now) f ≡ Some c.in-Err.bad) read (rw len at it))
 
 pub returns-in-Ok-clause-head : goal.returns-in-Ok-clause-head
 returns-in-Ok-clause-head g c told =
@@ -36,7 +36,7 @@ returns-in-Ok-clause-accepted g c told =
     ∙ c.in_ok-twin.ensures.read told in
     let len = c.len-len.ensures in
     let it = c.in-Ok.ensures.refused in
-    subst (λ (f : List ℕ). first_bad (g.D.Disk.size c.args.disk.now) f ≡ None) read (rw len at it)
+    subst (λ (f : List ℕ). first_bad_section (g.D.Disk.size c.args.disk.now) f ≡ None) read (rw len at it)
 
 -- what holds anyway holds behind a call that failed
 anyway : {T E : Type 0} (P : E → Type 0) (Q : Type 0) (r : Result T E) → Q → IfErr r (λ bad. P bad → Q)

@@ -6,7 +6,7 @@ use Rattle.std.proofs.lemmas.Option.{slice_get-get_or}
 use Rattle.std.proofs.lemmas.Result.{err_from_is_err_and}
 use Rattle.vt_part.specs.declared.layout.ArenaRegion.{ArenaRegion}
 use Rattle.vt_arena.specs.declared.head.Found.{Found}
-use Rattle.vt_arena.specs.Faults.{first_bad as first_bad_in}
+use Rattle.vt_arena.specs.Faults.{first_bad_head}
 use Rattle.vt_log.specs.Faults.{AreFields, bad_arena}
 use Rattle.vt_log.specs.Log.{disks_of}
 use Rattle.vt_log.specs.Mounting.{AreFieldsAt, AreFound}
@@ -72,7 +72,7 @@ loop-i-preserved g c =
     record {
       passes = subst (λ (hs : List Found). Passes c.args.layout.now hs c.if-behind.behind (c.loop-i.i + 1)) (sym pushed)
           (passes_more c.args.layout.now c.loop-i.heads.items c.loop-i.behind c.if-behind.behind c.loop-i.i r found c.loop-i.invariant.passes at
-          (subst (λ (f : List ℕ). bad_arena c.loop-i.behind c.loop-i.i (first_bad_in r.number r.region.len f) f ≡ None) (sym answer.2.1) answer.2.0) next);
+          (subst (λ (f : List ℕ). bad_arena c.loop-i.behind c.loop-i.i (first_bad_head r.number r.region.len f) f ≡ None) (sym answer.2.1) answer.2.0) next);
       found = subst (AreFound _ _ _) (sym pushed)
           (found_more g.D.Disk.tells c.args.layout.now (map g.D.Disk.bytes (disks_of c.args.parts.now)) c.loop-i.heads.items c.loop-i.i r found c.loop-i.invariant.found at
           (found_file g.D.Disk (disks_of c.loop-i.parts) (map g.D.Disk.bytes (disks_of c.args.parts.now)) r found c.loop-i.invariant.read.disks.bytes_are c.in_ok-found.ensures.found));

@@ -2,9 +2,9 @@
 use Rattle.std.proofs.Common.{◌<◌, length, get_or, set, sym, subst, rules, Ok, Err, false}
 use Rattle.std.proofs.lemmas.Option.{slice_get-get_or}
 use Rattle.vt_arena.specs.declared.head.Found.{Found}
-use Rattle.vt_arena.specs.Faults.{is_fault as is_arena_fault}
-use Rattle.vt_log.specs.declared.bad.LogBad.{LogBad}
-use Rattle.vt_log.specs.Faults.{CountsFaults, is_fault}
+use Rattle.vt_arena.specs.Faults.{is_arena_fault}
+use Rattle.vt_log.specs.declared.error.LogBad.{LogBad}
+use Rattle.vt_log.specs.Faults.{CountsFaults, is_log_fault}
 use Rattle.vt_log.specs.Log.{disks_of}
 use Rattle.vt_log.specs.Mounting.{FindsNext}
 use Rattle.vt_log.proofs.AreFound.{read_set, counts_set, part_of_region, fields_for, found_for, finds_ok, finds_err, counts_refused}
@@ -83,5 +83,5 @@ returns-in-Err-clause-cause g c =
     let p = get_or c.args.parts.now c.args.r.part c.index-parts-r.result in
     let it = part_of_region g.D.Disk c.args.parts.now c.args.r c.requires in
     let at = slice_get-get_or c.args.parts.now c.args.r.part c.index-parts-r.result it.below in
-    subst (λ (bad : LogBad). CountsFaults {T = Found} g.D.Disk is_fault (Err bad) (disks_of c.args.parts.now) (disks_of (set c.args.parts.now c.args.r.part (record p { disk = c.find.new.disk }))))
+    subst (λ (bad : LogBad). CountsFaults {T = Found} g.D.Disk is_log_fault (Err bad) (disks_of c.args.parts.now) (disks_of (set c.args.parts.now c.args.r.part (record p { disk = c.find.new.disk }))))
     (sym c.refused.ensures) (counts_refused g.D.Disk c.args.parts.now c.args.r.part c.args.arena p c.find.new.disk c.in-Err.bad at c.in-Err.ensures.cause)

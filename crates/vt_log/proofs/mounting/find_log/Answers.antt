@@ -7,11 +7,11 @@ use Rattle.vt_part.specs.declared.layout.ArenaRegion.{ArenaRegion}
 use Rattle.vt_part.specs.Layout.{layout_of}
 use Rattle.vt_part.specs.Parts.{tables_of}
 use Rattle.vt_part.proofs.Layouts.{layouts_have_lengths}
-use Rattle.vt_log.specs.declared.bad.LogBad.{LogBad}
-use Rattle.vt_log.specs.declared.bad.LogBad.TheVariants.{NoMemory}
+use Rattle.vt_log.specs.declared.error.LogBad.{LogBad}
+use Rattle.vt_log.specs.declared.error.LogBad.TheVariants.{NoMemory}
 use Rattle.vt_log.specs.Log.{disks_of}
 use Rattle.vt_log.specs.Logs.{arena_count}
-use Rattle.vt_log.specs.Mounting.{IsTold}
+use Rattle.vt_log.specs.Mounting.{TellsOfSettled}
 use Rattle.vt_log.specs.Whole.{IsOnDisk}
 use Rattle.vt_log.proofs.AreFound.{read_then, on_held, fields_there, fields_are, settled_held, found_stands, on_ok, told_early, told_behind}
 use Rattle.vt_log.proofs.FoundLog.{regions_on}
@@ -94,7 +94,7 @@ returns-in_err-heads-clause-told g c =
 
 pub returns-clause-told : goal.returns-clause-told
 returns-clause-told g c =
-    on_error (IsTold g.D.Disk c.args.parts.now c.find_all.new.parts) c.make_room.result c.make_room.ensures.memory (inr
+    on_error (TellsOfSettled g.D.Disk c.args.parts.now c.find_all.new.parts) c.make_room.result c.make_room.ensures.memory (inr
     (settled_held g.D.Disk (disks_of c.sync_all.new.parts) (disks_of c.find_all.new.parts) c.find_all.ensures.read.disks
     c.in_ok-sync_all.ensures.settled))
   where

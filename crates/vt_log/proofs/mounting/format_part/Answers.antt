@@ -4,11 +4,11 @@ use Rattle.std.proofs.lemmas.Result.{err_from_is_err_and}
 use Rattle.vt_disk.specs.declared.region.Region.{Region}
 use Rattle.vt_disk.specs.Calls.{WritesWithin}
 use Rattle.vt_twin.specs.Formatting.{EndsFormat}
-use Rattle.vt_part.specs.Layout.{region_of}
+use Rattle.vt_part.specs.Layout.{arena_region}
 use Rattle.vt_part.specs.Parts.{disk_of, table_of}
 use Rattle.vt_part.specs.Table.{Table, IsTable}
-use Rattle.vt_arena.specs.Heads.{frame_of}
-use Rattle.vt_arena.specs.Layout.{IsArena, head_place, head_of, empty}
+use Rattle.vt_arena.specs.Heads.{head_frame}
+use Rattle.vt_arena.specs.Layout.{IsArena, head_place, arena_head, empty}
 use Rattle.vt_log.proofs.FoundLog.{region_fits}
 use Rattle.vt_log.proofs.IsEmpty.{none_written, heads_more, heads_wider, empty_kept, empty_more, empty_whole}
 use Rattle.vt_log.proofs.mounting.format_part.Goals as goal
@@ -25,7 +25,7 @@ loop-arena-init g c = record {
 pub format-requires : goal.format-requires
 format-requires g c =
     let t = table_of c.args.part.now in
-    let is : c.region-region.result ≡ region_of t c.loop-arena.arena = c.region-region.ensures.region ∙ ap (λ (u : Table). region_of u c.loop-arena.arena) c.loop-arena.invariant.table in
+    let is : c.region-region.result ≡ arena_region t c.loop-arena.arena = c.region-region.ensures.region ∙ ap (λ (u : Table). arena_region u c.loop-arena.arena) c.loop-arena.invariant.table in
     rw is (region_fits _ t c.loop-arena.arena (subst IsTable c.loop-arena.invariant.table c.region-region.ensures.table)
     (omega (arith, ap (λ (u : Table). u.count) c.loop-arena.invariant.table, c.count-arena-end.ensures.count))
     (omega (arith, c.loop-arena.invariant.writes.size, c.requires)))
@@ -35,8 +35,8 @@ loop-arena-preserved g c =
     let t = table_of c.args.part.now in
     let was = disk_of c.loop-arena.part in
     let now = c.format.new.disk in
-    let is : c.region-region.result ≡ region_of t c.loop-arena.arena = c.region-region.ensures.region ∙ ap (λ (u : Table). region_of u c.loop-arena.arena) c.loop-arena.invariant.table in
-    let writes : WritesWithin g.D.Disk (head_place (region_of t c.loop-arena.arena)) 3 was now =
+    let is : c.region-region.result ≡ arena_region t c.loop-arena.arena = c.region-region.ensures.region ∙ ap (λ (u : Table). arena_region u c.loop-arena.arena) c.loop-arena.invariant.table in
+    let writes : WritesWithin g.D.Disk (head_place (arena_region t c.loop-arena.arena)) 3 was now =
     subst (λ (r : Region). WritesWithin g.D.Disk (head_place r) 3 was now) is c.format.ensures.writes in
     record {
       table = c.loop-arena.invariant.table;
@@ -68,8 +68,8 @@ returns-in_err-format-clause-stops g c =
     let was = disk_of c.loop-arena.part in
     let now = c.format.new.disk in
     let e = err_from_is_err_and c.from_residual.result c.from_residual.ensures.1 in
-    let is : c.region-region.result ≡ region_of t c.loop-arena.arena = c.region-region.ensures.region ∙ ap (λ (u : Table). region_of u c.loop-arena.arena) c.loop-arena.invariant.table in
-    let writes : WritesWithin g.D.Disk (head_place (region_of t c.loop-arena.arena)) 3 was now =
+    let is : c.region-region.result ≡ arena_region t c.loop-arena.arena = c.region-region.ensures.region ∙ ap (λ (u : Table). arena_region u c.loop-arena.arena) c.loop-arena.invariant.table in
+    let writes : WritesWithin g.D.Disk (head_place (arena_region t c.loop-arena.arena)) 3 was now =
     subst (λ (r : Region). WritesWithin g.D.Disk (head_place r) 3 was now) is c.format.ensures.writes in
     rw e.1 (record {
       arena = c.loop-arena.arena;
@@ -79,7 +79,7 @@ returns-in_err-format-clause-stops g c =
       before = was;
       so_far = c.loop-arena.invariant.writes;
       ends = λ score_of. subst (λ (r : Region). (made : ℕ)
-          × EndsFormat g.D.Disk (head_place r) (frame_of (head_of score_of c.loop-arena.arena empty)) made was now) is
+          × EndsFormat g.D.Disk (head_place r) (head_frame (arena_head score_of c.loop-arena.arena empty)) made was now) is
           (c.in_err-format.ensures.failed score_of);
     })
 
@@ -88,8 +88,8 @@ returns-in_err-format-clause-writes g c =
     let t = table_of c.args.part.now in
     let was = disk_of c.loop-arena.part in
     let now = c.format.new.disk in
-    let is : c.region-region.result ≡ region_of t c.loop-arena.arena = c.region-region.ensures.region ∙ ap (λ (u : Table). region_of u c.loop-arena.arena) c.loop-arena.invariant.table in
-    let writes : WritesWithin g.D.Disk (head_place (region_of t c.loop-arena.arena)) 3 was now =
+    let is : c.region-region.result ≡ arena_region t c.loop-arena.arena = c.region-region.ensures.region ∙ ap (λ (u : Table). arena_region u c.loop-arena.arena) c.loop-arena.invariant.table in
+    let writes : WritesWithin g.D.Disk (head_place (arena_region t c.loop-arena.arena)) 3 was now =
     subst (λ (r : Region). WritesWithin g.D.Disk (head_place r) 3 was now) is c.format.ensures.writes in
     heads_wider g.D.Disk t (c.loop-arena.arena + 1) t.count (disk_of c.args.part.now) now
     (omega (arith, ap (λ (u : Table). u.count) c.loop-arena.invariant.table, c.count-arena-end.ensures.count))

@@ -6,11 +6,11 @@ use Rattle.vt_part.specs.declared.part.Part.{Part}
 use Rattle.vt_part.specs.Layout.{AreDistinct, layout_of}
 use Rattle.vt_part.specs.Parts.{tables_of, names_of}
 use Rattle.vt_log.specs.Answers.{HoldTheSame}
-use Rattle.vt_log.specs.Faults.{AreFields, IsMountedBy, RefusesMount}
+use Rattle.vt_log.specs.Faults.{AreFields, IsMountedBy, RefusesLogMount}
 use Rattle.vt_log.specs.Log.{LogState, disks_of}
 use Rattle.vt_log.specs.Logs.{arena_count}
-use Rattle.vt_log.specs.Mounting.{found_log, IsTold}
-use Rattle.vt_log.specs.Whole.{IsWhole}
+use Rattle.vt_log.specs.Mounting.{found_log, TellsOfSettled}
+use Rattle.vt_log.specs.Whole.{IsWholeLog}
 use Rattle.vt_log.proofs.FoundLog.{given_back, found_of, found_whole, mounted_by, mount_sound, mount_is, regions_on, numbers_small, log_passes, not_refused}
 use Rattle.vt_log.proofs.mounting.mount.Goals as goal
 
@@ -23,7 +23,7 @@ into_log-requires-clause-whole g c =
     let answer = c.in-Ok.ensures.answer in
     let it = found_of g.D.Disk _ items c.deref_mut.result.now new answer.0 o.layout o.heads.items o.base o.arena
     c.deref_mut.ensures.value c.requires.rooms c.requires.few c.find_log.ensures.read c.in-Ok.ensures.layout c.in-Ok.ensures.found answer.2 c.in-Ok.ensures.base c.in-Ok.ensures.arena in
-    subst (λ (ps : List (Part _)). IsWhole g.D.Disk (found_log (disks_of ps) (tables_of ps) o.layout o.heads.items o.base o.arena)) (sym back)
+    subst (λ (ps : List (Part _)). IsWholeLog g.D.Disk (found_log (disks_of ps) (tables_of ps) o.layout o.heads.items o.base o.arena)) (sym back)
     (found_whole g.D.Disk (disks_of new) (tables_of new) o.layout (map g.D.Disk.bytes (disks_of items)) answer.0 o.heads.items o.base o.arena it)
 
 pub returns-in-Ok-clause-whole : goal.returns-in-Ok-clause-whole
@@ -37,7 +37,7 @@ returns-in-Ok-clause-whole g c =
     let answer = c.in-Ok.ensures.answer in
     let it = found_of g.D.Disk _ items c.deref_mut.result.now new answer.0 o.layout o.heads.items o.base o.arena
     c.deref_mut.ensures.value c.requires.rooms c.requires.few c.find_log.ensures.read c.in-Ok.ensures.layout c.in-Ok.ensures.found answer.2 c.in-Ok.ensures.base c.in-Ok.ensures.arena in
-    subst (λ (l : LogState _). IsWhole g.D.Disk l) (sym l_is)
+    subst (λ (l : LogState _). IsWholeLog g.D.Disk l) (sym l_is)
     (found_whole g.D.Disk (disks_of new) (tables_of new) o.layout (map g.D.Disk.bytes (disks_of items)) answer.0 o.heads.items o.base o.arena it)
 
 pub returns-in-Ok-clause-found : goal.returns-in-Ok-clause-found
@@ -119,12 +119,12 @@ returns-in-Err-clause-found g c h base told distinct log =
     subst (λ (ps : List (Part _)). AreFields (layout_of (tables_of ps)) (map g.D.Disk.bytes (disks_of ps)) answer.0) c.deref_mut.ensures.value (answer.1 told) in
     not_refused (names_of items) (layout_of (tables_of items)) answer.0 c.in-Err.bad distinct
     (log_passes g.D.Disk (disks_of items) (layout_of (tables_of items)) answer.0 g.S.Scorer.score_of h base (regions_on g.D.Disk items c.requires.rooms) (numbers_small items) are log)
-    (subst (λ (ps : List (Part _)). RefusesMount (names_of ps) (layout_of (tables_of ps)) answer.0 c.in-Err.bad) c.deref_mut.ensures.value answer.2)
+    (subst (λ (ps : List (Part _)). RefusesLogMount (names_of ps) (layout_of (tables_of ps)) answer.0 c.in-Err.bad) c.deref_mut.ensures.value answer.2)
 
 pub returns-in-Err-clause-told : goal.returns-in-Err-clause-told
 returns-in-Err-clause-told g c =
     let new = c.find_log.new.parts in
     let items = c.args.parts.items in
     let back : take c.args.parts.len (new ++ drop (length new) items) ≡ new = given_back c.args.parts.len new items (omega arith) (omega arith) in
-    subst (λ (ps : List (Part _)). IsTold g.D.Disk items ps c.in-Err.bad) (sym back)
-    (subst (λ (ps : List (Part _)). IsTold g.D.Disk ps new c.in-Err.bad) c.deref_mut.ensures.value c.in-Err.ensures.told)
+    subst (λ (ps : List (Part _)). TellsOfSettled g.D.Disk items ps c.in-Err.bad) (sym back)
+    (subst (λ (ps : List (Part _)). TellsOfSettled g.D.Disk ps new c.in-Err.bad) c.deref_mut.ensures.value c.in-Err.ensures.told)

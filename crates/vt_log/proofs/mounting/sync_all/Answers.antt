@@ -6,8 +6,8 @@ use Rattle.std.proofs.lemmas.Option.{slice_get-get_or}
 use Rattle.std.proofs.lemmas.Result.{err_from_is_err_and}
 use Rattle.vt_part.specs.declared.part.Part.{Part}
 use Rattle.vt_part.specs.Parts.{disk_of}
-use Rattle.vt_log.specs.declared.bad.LogBad.TheVariants.{Fault}
-use Rattle.vt_log.specs.Faults.{is_fault}
+use Rattle.vt_log.specs.declared.error.LogBad.TheVariants.{Fault}
+use Rattle.vt_log.specs.Faults.{is_log_fault}
 use Rattle.vt_log.specs.Log.{disks_of}
 use Rattle.vt_log.proofs.AreFound.{read_set, read_then, synced, sync_stops, settled_more, settled_all, counts_set, counts_from}
 use Rattle.vt_log.proofs.Lists.{slice_get_set_other}
@@ -37,8 +37,8 @@ returns-in_err-sync-clause-cause g c =
     let at = slice_get-get_or c.loop-part.parts c.loop-part.part-index c.part-item.result (omega arith) in
     let e = err_from_is_err_and c.from_residual.result c.from_residual.ensures.1 in
     rw (e.1, e.2)
-    (counts_from {T = Unit} g.D.Disk is_fault (disks_of c.args.parts.now) (disks_of c.loop-part.parts) _ (Err Fault) c.loop-part.invariant.faults
-    (counts_set {T = Unit} g.D.Disk is_fault c.loop-part.parts c.loop-part.part-index p c.sync.new.self (Err Fault) at c.in_err-sync.ensures.cause))
+    (counts_from {T = Unit} g.D.Disk is_log_fault (disks_of c.args.parts.now) (disks_of c.loop-part.parts) _ (Err Fault) c.loop-part.invariant.faults
+    (counts_set {T = Unit} g.D.Disk is_log_fault c.loop-part.parts c.loop-part.part-index p c.sync.new.self (Err Fault) at c.in_err-sync.ensures.cause))
 
 pub loop-part-preserved : goal.loop-part-preserved
 loop-part-preserved g c =
@@ -52,7 +52,7 @@ loop-part-preserved g c =
       read = read_then g.D.Disk c.loop-part.part-index 1 (c.loop-part.part-index + 1) c.args.parts.now c.loop-part.parts _ (omega arith) c.loop-part.invariant.read
           (read_set g.D.Disk 1 c.loop-part.part-index c.loop-part.parts p c.sync.new.self at
           (synced g.D.Disk (disk_of p) c.sync.new.self c.sync.ensures.bytes c.sync.ensures.images c.sync.ensures.size c.sync.ensures.calls));
-      faults = counts_set {T = Unit} g.D.Disk is_fault c.loop-part.parts c.loop-part.part-index p c.sync.new.self (Ok tt) at c.in_ok-sync.ensures.cause ∙ c.loop-part.invariant.faults;
+      faults = counts_set {T = Unit} g.D.Disk is_log_fault c.loop-part.parts c.loop-part.part-index p c.sync.new.self (Ok tt) at c.in_ok-sync.ensures.cause ∙ c.loop-part.invariant.faults;
     }
 
 pub returns-clause-settled : goal.returns-clause-settled

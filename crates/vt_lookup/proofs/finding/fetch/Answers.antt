@@ -1,7 +1,7 @@
 use Rattle.std.proofs.Common.{◌≡◌, inl, sym, ◌∙◌, subst}
 use Rattle.std.specs.Prelude.{Err}
 use Rattle.vt_base.specs.declared.why.Why.{Why}
-use Rattle.vt_lumps.specs.Lumps.{bytes_of, used}
+use Rattle.vt_lumps.specs.Lumps.{cached_bytes, used}
 use Rattle.vt_shard.specs.Shard.{ShardState}
 use Rattle.vt_lookup.specs.Finding.{LooksFor, MayKeepFrom, parts_of, why_of_read}
 use Rattle.vt_lookup.specs.Seeking.{Fetches}
@@ -41,7 +41,7 @@ returns-in-Ok-clause-fetches g c =
     let s : ShardState g.row.D.Denot = c.args.shard.now in
     let none = sym c.touch_lump.ensures.kept ∙ c.if-touch_lump.false in
     let same : c.touch_lump.new.self ≡ s = nothing_used g.S.Scorer.score_of g.D.Disk c.args.entry.now.key s c.touch_lump.new.self none c.touch_lump.ensures.used in
-    read_fetched g.S.Scorer.score_of g.D.Disk c.args.entry.now c.args.log.now c.read.new.self s (none_is (bytes_of c.args.entry.now.key s.lumps) none) c.read.result
+    read_fetched g.S.Scorer.score_of g.D.Disk c.args.entry.now c.args.log.now c.read.new.self s (none_is (cached_bytes c.args.entry.now.key s.lumps) none) c.read.result
     c.read.ensures.answer c.read.ensures.reads (λ i first. (c.read.ensures.free (inl (i, first))).1) c.in-Ok.bytes c.in-Ok.is c.keep.result c.keep.new.shard
     (subst (λ (t : ShardState g.row.D.Denot). Keeping g.S.Scorer.score_of g.D.Disk c.keep.result c.args.entry.now.key c.in-Ok.bytes t c.keep.new.shard) same c.keep.ensures.kept)
 
@@ -82,5 +82,5 @@ returns-in-Err-clause-fetches g c =
     let same : c.touch_lump.new.self ≡ s = nothing_used g.S.Scorer.score_of g.D.Disk c.args.entry.now.key s c.touch_lump.new.self none c.touch_lump.ensures.used in
     subst (λ (w : Why). Fetches g.S.Scorer.score_of g.D.Disk c.args.entry.now (Err w) (parts_of c.args.log.now s) (parts_of c.read.new.self c.touch_lump.new.self)) (sym c.why_of_read.ensures)
     (subst (λ (t : ShardState g.row.D.Denot). Fetches g.S.Scorer.score_of g.D.Disk c.args.entry.now (Err (why_of_read c.args.entry.now.place c.in-Err.bad)) (parts_of c.args.log.now s) (parts_of c.read.new.self t)) (sym same)
-    (failed_fetched g.S.Scorer.score_of g.D.Disk c.args.entry.now c.args.log.now c.read.new.self s (none_is (bytes_of c.args.entry.now.key s.lumps) none) c.read.result
+    (failed_fetched g.S.Scorer.score_of g.D.Disk c.args.entry.now c.args.log.now c.read.new.self s (none_is (cached_bytes c.args.entry.now.key s.lumps) none) c.read.result
     c.read.ensures.answer c.read.ensures.reads (λ i first. (c.read.ensures.free (inl (i, first))).1) (Unit {0}) c.in-Err.bad c.in-Err.is))

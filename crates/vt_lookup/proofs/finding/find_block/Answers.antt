@@ -1,6 +1,6 @@
 use Rattle.std.proofs.Common.{ℕ, List, Bool, true, Option, sym, ap, subst}
 use Rattle.std.specs.Prelude.{Ok}
-use Rattle.vt_lumps.specs.Lumps.{bytes_of}
+use Rattle.vt_lumps.specs.Lumps.{cached_bytes}
 use Rattle.vt_lookup.specs.Finding.{SeeksBlock, parts_of}
 use Rattle.vt_lookup.specs.Seeking.{sought}
 use Rattle.std.proofs.lemmas.Result.{err_from_is_err_and}
@@ -26,7 +26,7 @@ returns-in_err-copy-clause-seeks g c =
     let key = c.args.key.now in
     let old = parts_of c.args.log.now c.args.shard.now in
     let new = parts_of c.seek.new.log c.seek.new.shard in
-    let it = some_there (bytes_of key c.seek.new.shard.lumps) (c.in_ok-there.ensures.there (ap (λ (b : Bool). Ok b) c.if-not-there.false)) in
+    let it = some_there (cached_bytes key c.seek.new.shard.lumps) (c.in_ok-there.ensures.there (ap (λ (b : Bool). Ok b) c.if-not-there.false)) in
     let p = err_from_is_err_and c.from_residual-in_err-copy.result c.from_residual-in_err-copy.ensures.1 in
     rw (p.1, p.2) (seeks_short g.S.Scorer.score_of g.D.Disk c.args.may_have key it.0 _ old new c.if-not-may_have.false c.in_err-copy.ensures.copy
     (subst (λ (o : Option (List ℕ)). SeeksBlock g.S.Scorer.score_of g.D.Disk true key (Ok o) old new) it.1

@@ -2,8 +2,8 @@ use Rattle.std.proofs.Common.{◌≡◌, Option, Some, None, refl, sym, ◌∙�
 use Rattle.std.specs.Prelude.{Result, Ok, Err}
 use Rattle.vt_base.specs.declared.place.Entry.{Entry}
 use Rattle.vt_base.specs.declared.why.Why.{Why}
-use Rattle.vt_isect.specs.declared.bad.ShardErr.{ShardErr}
-use Rattle.vt_lumps.specs.Lumps.{bytes_of}
+use Rattle.vt_isect.specs.declared.error.ShardErr.{ShardErr}
+use Rattle.vt_lumps.specs.Lumps.{cached_bytes}
 use Rattle.vt_shard.specs.Shard.{ShardState}
 use Rattle.vt_lookup.specs.Finding.{ReadsFound, parts_of}
 use Rattle.std.proofs.lemmas.Result.{err_from_is_err_and}
@@ -86,9 +86,9 @@ returns-in_ok-fetch-in-Ok-Some-clause-compares g c =
     let entry : Entry = c.in-Ok-Some.entry in
     let is : c.others.result ≡ Ok (Some entry) = c.in-Ok-Some.is ∙ ap (λ (o : Option Entry). Ok o) c.in-Ok-Some.field-0-is in
     record {
-      other = Ok (bytes_of entry.key c.fetch.new.shard.lumps);
+      other = Ok (cached_bytes entry.key c.fetch.new.shard.lumps);
       seeks = (c.others.result, s2, c.others.ensures.finds, reads_entry score g.D.Disk entry.key entry c.others.result is refl (tt {0}) (parts_of l s2) c.fetch.new.log c.fetch.new.shard c.in_ok-fetch-in-Ok-Some.ensures.fetches);
-      result_is = differ_is (bytes_of entry.key c.fetch.new.shard.lumps) c.args.block.now c.is_lump-same.result c.is_lump-same.ensures.same;
+      result_is = differ_is (cached_bytes entry.key c.fetch.new.shard.lumps) c.args.block.now c.is_lump-same.result c.is_lump-same.ensures.same;
     }
 
 pub returns-in-Ok-None-clause-right : goal.returns-in-Ok-None-clause-right

@@ -1,8 +1,8 @@
 use Rattle.std.proofs.Common.{◌≡◌, inl, Option, Some, None, refl, sym, ◌∙◌, ap, subst}
 use Rattle.std.specs.Prelude.{Result, Ok, Err}
 use Rattle.vt_base.specs.declared.place.Entry.{Entry}
-use Rattle.vt_isect.specs.declared.bad.ShardErr.{ShardErr}
-use Rattle.vt_lumps.specs.Lumps.{bytes_of}
+use Rattle.vt_isect.specs.declared.error.ShardErr.{ShardErr}
+use Rattle.vt_lumps.specs.Lumps.{cached_bytes}
 use Rattle.vt_shard.specs.Shard.{ShardState}
 use Rattle.vt_lookup.specs.Finding.{ReadsFound, parts_of}
 use Rattle.std.proofs.lemmas.Result.{err_from_is_err_and}
@@ -29,7 +29,7 @@ returns-in_err-fetch-in-Ok-Some-clause-right g c = λ setup h durable tells soun
     let s2 : ShardState g.row.D.Denot = c.lookup.new.self in
     let none = sym c.touch_lump.ensures.kept ∙ c.if-touch_lump.false in
     let same : mid ≡ s = nothing_used score g.D.Disk key s mid none c.touch_lump.ensures.used in
-    let absent = none_is (bytes_of key s.lumps) none in
+    let absent = none_is (cached_bytes key s.lumps) none in
     let entry : Entry = c.in-Ok-Some.entry in
     let is : c.lookup.result ≡ Ok (Some entry) = c.in-Ok-Some.is ∙ ap (λ (o : Option Entry). Ok o) c.in-Ok-Some.field-0-is in
     let kept = c.touch_lump.ensures.sound score setup h durable 0 sound.shard in
@@ -47,7 +47,7 @@ returns-in_err-fetch-in-Ok-Some-clause-sound g c = λ setup h durable tells soun
     let s2 : ShardState g.row.D.Denot = c.lookup.new.self in
     let none = sym c.touch_lump.ensures.kept ∙ c.if-touch_lump.false in
     let same : mid ≡ s = nothing_used score g.D.Disk key s mid none c.touch_lump.ensures.used in
-    let absent = none_is (bytes_of key s.lumps) none in
+    let absent = none_is (cached_bytes key s.lumps) none in
     let entry : Entry = c.in-Ok-Some.entry in
     let is : c.lookup.result ≡ Ok (Some entry) = c.in-Ok-Some.is ∙ ap (λ (o : Option Entry). Ok o) c.in-Ok-Some.field-0-is in
     let kept = c.touch_lump.ensures.sound score setup h durable 0 sound.shard in
@@ -64,7 +64,7 @@ returns-in_err-fetch-in-Ok-Some-clause-seeks g c =
     let s2 : ShardState g.row.D.Denot = c.lookup.new.self in
     let none = sym c.touch_lump.ensures.kept ∙ c.if-touch_lump.false in
     let same : mid ≡ s = nothing_used score g.D.Disk key s mid none c.touch_lump.ensures.used in
-    let absent = none_is (bytes_of key s.lumps) none in
+    let absent = none_is (cached_bytes key s.lumps) none in
     let entry : Entry = c.in-Ok-Some.entry in
     let is : c.lookup.result ≡ Ok (Some entry) = c.in-Ok-Some.is ∙ ap (λ (o : Option Entry). Ok o) c.in-Ok-Some.field-0-is in
     let p = err_from_is_err_and c.from_residual.result c.from_residual.ensures.1 in
@@ -81,7 +81,7 @@ returns-in_ok-fetch-in-Ok-Some-clause-sound g c = λ setup h durable tells sound
     let s2 : ShardState g.row.D.Denot = c.lookup.new.self in
     let none = sym c.touch_lump.ensures.kept ∙ c.if-touch_lump.false in
     let same : mid ≡ s = nothing_used score g.D.Disk key s mid none c.touch_lump.ensures.used in
-    let absent = none_is (bytes_of key s.lumps) none in
+    let absent = none_is (cached_bytes key s.lumps) none in
     let entry : Entry = c.in-Ok-Some.entry in
     let is : c.lookup.result ≡ Ok (Some entry) = c.in-Ok-Some.is ∙ ap (λ (o : Option Entry). Ok o) c.in-Ok-Some.field-0-is in
     let kept = c.touch_lump.ensures.sound score setup h durable 0 sound.shard in
@@ -98,10 +98,10 @@ returns-in_ok-fetch-in-Ok-Some-clause-seeks g c =
     let s2 : ShardState g.row.D.Denot = c.lookup.new.self in
     let none = sym c.touch_lump.ensures.kept ∙ c.if-touch_lump.false in
     let same : mid ≡ s = nothing_used score g.D.Disk key s mid none c.touch_lump.ensures.used in
-    let absent = none_is (bytes_of key s.lumps) none in
+    let absent = none_is (cached_bytes key s.lumps) none in
     let entry : Entry = c.in-Ok-Some.entry in
     let is : c.lookup.result ≡ Ok (Some entry) = c.in-Ok-Some.is ∙ ap (λ (o : Option Entry). Ok o) c.in-Ok-Some.field-0-is in
-    seeks_index score g.D.Disk key (Ok (bytes_of key c.fetch.new.shard.lumps)) l s mid s2 (parts_of c.fetch.new.log c.fetch.new.shard) c.lookup.result absent same c.lookup.ensures.looks_up
+    seeks_index score g.D.Disk key (Ok (cached_bytes key c.fetch.new.shard.lumps)) l s mid s2 (parts_of c.fetch.new.log c.fetch.new.shard) c.lookup.result absent same c.lookup.ensures.looks_up
     (reads_entry score g.D.Disk key entry c.lookup.result is (found_key key entry c.lookup.result is c.lookup.ensures.key) (tt {0}) (parts_of l s2) c.fetch.new.log c.fetch.new.shard c.in_ok-fetch-in-Ok-Some.ensures.fetches)
 
 pub returns-in-Ok-None-clause-right : goal.returns-in-Ok-None-clause-right
@@ -114,7 +114,7 @@ returns-in-Ok-None-clause-right g c = λ setup h durable tells sound.
     let s2 : ShardState g.row.D.Denot = c.lookup.new.self in
     let none = sym c.touch_lump.ensures.kept ∙ c.if-touch_lump.false in
     let same : mid ≡ s = nothing_used score g.D.Disk key s mid none c.touch_lump.ensures.used in
-    let absent = none_is (bytes_of key s.lumps) none in
+    let absent = none_is (cached_bytes key s.lumps) none in
     let is : c.lookup.result ≡ Ok None = c.in-Ok-None.is ∙ ap (λ (o : Option Entry). Ok o) c.in-Ok-None.field-0-is in
     let kept = c.touch_lump.ensures.sound score setup h durable 0 sound.shard in
     (λ _. found_none score setup h key c.lookup.result is (c.lookup.ensures.found score setup h durable 0 tells kept))
@@ -129,7 +129,7 @@ returns-in-Ok-None-clause-sound g c = λ setup h durable tells sound.
     let s2 : ShardState g.row.D.Denot = c.lookup.new.self in
     let none = sym c.touch_lump.ensures.kept ∙ c.if-touch_lump.false in
     let same : mid ≡ s = nothing_used score g.D.Disk key s mid none c.touch_lump.ensures.used in
-    let absent = none_is (bytes_of key s.lumps) none in
+    let absent = none_is (cached_bytes key s.lumps) none in
     let kept = c.touch_lump.ensures.sound score setup h durable 0 sound.shard in
     let looked = shard_sound score g.D.Disk setup h durable l s s2 (c.lookup.ensures.sound.keeps tells score setup h durable 0 kept) sound in
     looked
@@ -144,7 +144,7 @@ returns-in-Ok-None-clause-seeks g c =
     let s2 : ShardState g.row.D.Denot = c.lookup.new.self in
     let none = sym c.touch_lump.ensures.kept ∙ c.if-touch_lump.false in
     let same : mid ≡ s = nothing_used score g.D.Disk key s mid none c.touch_lump.ensures.used in
-    let absent = none_is (bytes_of key s.lumps) none in
+    let absent = none_is (cached_bytes key s.lumps) none in
     let is : c.lookup.result ≡ Ok None = c.in-Ok-None.is ∙ ap (λ (o : Option Entry). Ok o) c.in-Ok-None.field-0-is in
     seeks_index score g.D.Disk key (Ok None) l s mid s2 (parts_of l s2) c.lookup.result absent same c.lookup.ensures.looks_up
     (subst (λ (x : Result (Option Entry) ShardErr). ReadsFound score g.D.Disk x (Ok None) (parts_of l s2) (parts_of l s2)) (sym is) (refl, refl))
@@ -165,7 +165,7 @@ returns-in-Err-clause-sound g c = λ setup h durable tells sound.
     let s2 : ShardState g.row.D.Denot = c.lookup.new.self in
     let none = sym c.touch_lump.ensures.kept ∙ c.if-touch_lump.false in
     let same : mid ≡ s = nothing_used score g.D.Disk key s mid none c.touch_lump.ensures.used in
-    let absent = none_is (bytes_of key s.lumps) none in
+    let absent = none_is (cached_bytes key s.lumps) none in
     let kept = c.touch_lump.ensures.sound score setup h durable 0 sound.shard in
     let looked = shard_sound score g.D.Disk setup h durable l s s2 (c.lookup.ensures.sound.keeps tells score setup h durable 0 kept) sound in
     looked
@@ -180,7 +180,7 @@ returns-in-Err-clause-seeks g c =
     let s2 : ShardState g.row.D.Denot = c.lookup.new.self in
     let none = sym c.touch_lump.ensures.kept ∙ c.if-touch_lump.false in
     let same : mid ≡ s = nothing_used score g.D.Disk key s mid none c.touch_lump.ensures.used in
-    let absent = none_is (bytes_of key s.lumps) none in
+    let absent = none_is (cached_bytes key s.lumps) none in
     seeks_index score g.D.Disk key (Err c.why_of_shard.result) l s mid s2 (parts_of l s2) c.lookup.result absent same c.lookup.ensures.looks_up
     (subst (λ (x : Result (Option Entry) ShardErr). ReadsFound score g.D.Disk x (Err c.why_of_shard.result) (parts_of l s2) (parts_of l s2)) (sym c.in-Err.is)
     (ap (λ w. Err w) c.why_of_shard.ensures, refl))

@@ -1,8 +1,8 @@
 use Rattle.std.proofs.Common.{◌≡◌, [], ◌∷◌, ◌++◌, length, Option, Some, sym, ◌∙◌, ap, subst}
 use Rattle.vt_clump.specs.Clumps.{stored_of}
-use Rattle.vt_log.specs.Logs.{accepted}
+use Rattle.vt_log.specs.Logs.{accepted_in}
 use Rattle.vt_log.specs.Queue.{spot_of}
-use Rattle.vt_log.specs.Sound.{IsSound as IsSoundLog}
+use Rattle.vt_log.specs.Sound.{IsSoundLog}
 use Rattle.vt_base.specs.Protocol.{write}
 use Rattle.vt_model.specs.Answer.{with_added}
 use Rattle.vt_model.specs.History.{Accepted}
@@ -22,11 +22,11 @@ returns-clause-sound g c = λ setup h durable block tells sound is added.
     let operation = c.refusals_add_nothing.ensures.operation score setup h m block added in
     let model = c.places_stay.ensures.arena score setup h m block added in
     let log : next_arena setup h packed.len ≡ Some place.arena = ap (λ (d : Setup). next_arena d h packed.len) sound.opened ∙ took.0 in
-    let same : block ≡ accepted place.arena (stored_of packed) = block_is score setup h packed block place.arena is operation model log in
+    let same : block ≡ accepted_in place.arena (stored_of packed) = block_is score setup h packed block place.arena is operation model log in
     let legal : IsLegal score setup (h ++ block ∷ []) = subst (λ (o : Option Accepted). IsLegal score setup (with_added h o)) added (c.adding_keeps_legal.ensures score setup h m sound.legal) in
     let stands : place_of setup (h ++ block ∷ []) (length h) ≡ Some (spot_of place) =
     subst (λ (e : Accepted). place_of setup (h ++ e ∷ []) (length h) ≡ Some (spot_of place)) (sym same)
-    (ap (λ (d : Setup). place_of d (h ++ accepted place.arena (stored_of packed) ∷ []) (length h)) sound.opened ∙ took.1) in
+    (ap (λ (d : Setup). place_of d (h ++ accepted_in place.arena (stored_of packed) ∷ []) (length h)) sound.opened ∙ took.1) in
     record {
       log = subst (λ (e : Accepted). IsSoundLog score g.D.Disk c.append.new.self (h ++ e ∷ [])) (sym same) took.2;
       shard = c.put.ensures.adds score setup h durable 0 block sound.shard legal.keys (c.front-number.ensures.front ∙ sound.log.front)

@@ -1,11 +1,11 @@
 use Rattle.std.proofs.Common.{◌≡◌, ℕ, Bool, Option, None, inl, refl, sym, ◌∙◌, ap, subst, arith}
 use Rattle.std.specs.Prelude.{Result, Ok}
 use Rattle.vt_base.specs.declared.why.Why.{Why}
-use Rattle.vt_log.specs.Answers.{OnlyReads}
+use Rattle.vt_log.specs.Answers.{OnlyReadsLog}
 use Rattle.vt_log.specs.Log.{LogState}
 use Rattle.vt_shard.specs.Shard.{ShardState, HasRead}
 use Rattle.vt_lookup.specs.declared.writing.Verdict.{Verdict}
-use Rattle.vt_lookup.specs.Finding.{Compares, Holds, JudgesWrite, SeeksBlock, SeeksOther, TestsOther, parts_of}
+use Rattle.vt_lookup.specs.Finding.{Compares, HoldsBlock, JudgesWrite, SeeksBlock, SeeksOther, TestsOther, parts_of}
 use Rattle.std.proofs.lemmas.Result.{err_from_is_err_and}
 use Rattle.vt_lookup.specs.Seeking.{IsOwn}
 use Rattle.vt_lookup.proofs.Seeks.{key_has_score, seeks_none}
@@ -78,7 +78,7 @@ returns-in-Some-clause-read g c =
       own = it.own;
       mid = mid;
       seeks = subst (λ (b : Bool). SeeksBlock g.S.Scorer.score_of g.D.Disk b c.args.key.now it.own old mid) (sym c.if-not-may_have.false) it.seeks;
-      compares = subst (λ (v : Result Verdict Why). Compares it.own c.args.block.now Holds room v mid mid) (sym c.judge_own.ensures) (own_some c.args.block.now room mid it.own c.in-Some.same is);
+      compares = subst (λ (v : Result Verdict Why). Compares it.own c.args.block.now HoldsBlock room v mid mid) (sym c.judge_own.ensures) (own_some c.args.block.now room mid it.own c.in-Some.same is);
     }
 
 pub test_other-requires-clause-range : goal.test_other-requires-clause-range
@@ -123,7 +123,7 @@ returns-in-None-clause-looks g c =
     let first = c.in_ok-own.ensures.looks in
     let same : c.compare_block.new.log ≡ c.args.log.now = (c.in_ok-own.ensures.absent (ap (λ (o : Option Bool). found_ok o) c.in-None.is)).0 in
     then_looks g.S.Scorer.score_of g.D.Disk 2 2 0 c.test_other.result old mid new first.shard first.counts (ap (λ (l : LogState g.row.D.Denot). l.layout) same)
-    (subst (λ (l : LogState g.row.D.Denot). OnlyReads g.S.Scorer.score_of g.D.Disk 2 l c.test_other.new.log) same c.test_other.ensures.looks.log) c.test_other.ensures.looks
+    (subst (λ (l : LogState g.row.D.Denot). OnlyReadsLog g.S.Scorer.score_of g.D.Disk 2 l c.test_other.new.log) same c.test_other.ensures.looks.log) c.test_other.ensures.looks
 
 pub returns-in-None-clause-absent : goal.returns-in-None-clause-absent
 returns-in-None-clause-absent g c = λ new _.

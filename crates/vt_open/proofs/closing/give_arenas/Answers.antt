@@ -2,7 +2,7 @@ use Rattle.std.proofs.Common.{◌≡◌, ℕ, Some, get_or, length, refl, sym, �
 use Rattle.std.specs.Prelude.{IsTrue, slice_get}
 use Rattle.std.proofs.lemmas.Option.{slice_get-get_or}
 use Rattle.vt_part.specs.declared.part.Part.{Part}
-use Rattle.vt_parts.specs.Parts.{there}
+use Rattle.vt_partitions.specs.Parts.{there}
 use Rattle.vt_open.proofs.Giving.{given_all, given_bound, given_next, given_start, no_items}
 use Rattle.vt_open.proofs.closing.give_arenas.Goals as goal
 

@@ -1,7 +1,7 @@
 use Rattle.std.proofs.Common.{◌≡◌, ℕ, List, Some, get_or, length, refl, sym, ◌∙◌, ap, subst, arith}
 use Rattle.std.specs.Prelude.{IsTrue, slice_get}
 use Rattle.std.proofs.lemmas.Option.{slice_get-get_or}
-use Rattle.vt_open.specs.Taking.{AreGiven}
+use Rattle.vt_open.specs.Taking.{AreHandedBack}
 use Rattle.vt_open.proofs.Giving.{given_all, given_bound, given_next, given_start, no_items, map_same}
 use Rattle.vt_open.proofs.closing.give_sections.Goals as goal
 
@@ -31,6 +31,6 @@ loop-disk-preserved g c =
 
 pub returns-clause-given : goal.returns-clause-given
 returns-clause-given g c =
-    subst (λ (l : List g.row.P-Disk.Denot). AreGiven (IsTrue g.P.Parts.tells) c.args.files.now (g.P.Parts.standing c.args.parts.now) (g.P.Parts.standing c.loop-disk.parts) l) (map_same c.args.disks.items)
+    subst (λ (l : List g.row.P-Disk.Denot). AreHandedBack (IsTrue g.P.Parts.tells) c.args.files.now (g.P.Parts.standing c.args.parts.now) (g.P.Parts.standing c.loop-disk.parts) l) (map_same c.args.disks.items)
     (given_all (IsTrue g.P.Parts.tells) (λ (d : g.row.P-Disk.Denot). d) c.args.files.now c.args.disks.items c.loop-disk.disks.items
     (g.P.Parts.standing c.args.parts.now) (g.P.Parts.standing c.loop-disk.parts) (no_items c.loop-disk.disks.items (omega (arith, c.in_default.ensures.cases.0, c.loop-disk.disks.ok.0))) c.loop-disk.invariant.given)

@@ -1,7 +1,7 @@
 use Rattle.std.proofs.Common.{◌≡◌}
 use Rattle.std.proofs.lemmas.List.Elements.{All-contains}
 use Rattle.vt_conf.specs.declared.conf.PartFile.{PartFile}
-use Rattle.vt_parts.specs.Parts.{there}
+use Rattle.vt_partitions.specs.Parts.{there}
 use Rattle.vt_core.specs.Files.{all_of}
 use Rattle.vt_open.specs.Names.{files_of}
 use Rattle.vt_open.proofs.Shapes.{one_list, some_list}

@@ -1,9 +1,9 @@
 use Rattle.std.proofs.Common.{◌≡◌, inl, inr, ℕ, length, refl, ◌∙◌, ap, subst, arith}
 use Rattle.std.proofs.lemmas.Result.{err_from_is_err_and}
 use Rattle.std.specs.Prelude.{IsTrue}
-use Rattle.vt_core.specs.Mounting.{Mounts, devices_in, tables_in}
-use Rattle.vt_open.specs.declared.bad.OpenBad.TheVariants.{Refused}
-use Rattle.vt_conf.specs.Room.{block_room, entry_room}
+use Rattle.vt_core.specs.Mounting.{MountsStore, devices_in, tables_in}
+use Rattle.vt_open.specs.declared.error.OpenError.TheVariants.{Refused}
+use Rattle.vt_conf.specs.Room.{cached_blocks, entry_room}
 use Rattle.vt_open.specs.Opening.{sizes_of}
 use Rattle.vt_shard.specs.declared.mounting.Sizes.{Sizes}
 use Rattle.vt_open.proofs.Opened.{all_rooms, arenas_some, finds_none, many_arenas, many_sections, opens, shape_back_}
@@ -66,14 +66,14 @@ returns-in-Ok-clause-opens g c =
     let e = c.in-Ok.ensures in
     let conf = c.args.conf.now in
     let many : c.len-sections.result ≡ length conf.sections.items = omega (arith, c.len-sections.ensures, conf.sections.ok.0) in
-    let lumps : c.block_room.result ≡ (sizes_of conf).lumps =
-    c.block_room.ensures ∙ ap (λ (n : ℕ). block_room conf.mem n) many in
+    let lumps : c.cached_blocks.result ≡ (sizes_of conf).lumps =
+    c.cached_blocks.ensures ∙ ap (λ (n : ℕ). cached_blocks conf.mem n) many in
     let clean : c.entry_room.result ≡ (sizes_of conf).clean =
     c.entry_room.ensures ∙ ap (λ (n : ℕ). entry_room conf.icmem n) many in
-    let sizes : record { lumps = c.block_room.result; clean = c.entry_room.result } ≡ sizes_of conf =
+    let sizes : record { lumps = c.cached_blocks.result; clean = c.entry_room.result } ≡ sizes_of conf =
     ap (λ (n : ℕ). record { lumps = n; clean = c.entry_room.result }) lumps ∙ ap (λ (n : ℕ). record { lumps = (sizes_of conf).lumps; clean = n }) clean in
     opens g.P.Disk.Disk (IsTrue g.P.Parts.tells) c.args.conf.now (g.P.Parts.standing c.args.parts.now) (g.P.Parts.standing c.take_all.new.parts) c.in_ok-devices.devices c.in_ok-devices.ensures.taken
-    g.S.Scorer.score_of c.args.sessions c.in-Ok.core (subst (λ (z : Sizes). Mounts g.S.Scorer.score_of g.P.Disk.Disk (tables_in c.in_ok-devices.devices) (devices_in c.in_ok-devices.devices) z c.args.sessions c.in-Ok.core) sizes e.mounts) (λ tells. e.standing tells)
+    g.S.Scorer.score_of c.args.sessions c.in-Ok.core (subst (λ (z : Sizes). MountsStore g.S.Scorer.score_of g.P.Disk.Disk (tables_in c.in_ok-devices.devices) (devices_in c.in_ok-devices.devices) z c.args.sessions c.in-Ok.core) sizes e.mounts) (λ tells. e.standing tells)
 
 -- no store is found on them
 pub returns-in-Err-clause-refused : goal.returns-in-Err-clause-refused

@@ -4,7 +4,7 @@ use Rattle.std.specs.Option.{option_to_list}
 use Rattle.std.proofs.lemmas.Result.{err_from_is_err_and}
 use Rattle.vt_conf.specs.declared.conf.PartFile.{PartFile}
 use Rattle.vt_log.specs.Log.{disks_of}
-use Rattle.vt_open.specs.Taking.{AreGiven, AreTaken, AreTakenArenas, RefusesTaking}
+use Rattle.vt_open.specs.Taking.{AreHandedBack, AreTaken, AreTakenArenas, RefusesTaking}
 use Rattle.vt_open.proofs.TakingAll.{all_taken, arenas_refused, filter_refused, many_taken, sections_refused}
 use Rattle.vt_open.proofs.taking.take_all.Goals as goal
 
@@ -51,8 +51,8 @@ returns-in-Err-clause-refused g c =
     let refused : RefusesTaking disk told (length conf.arenas.items) 0 conf.sections.items s1 s2 f1 f2 c.in-Err.bad =
     subst (λ (k : ℕ). RefusesTaking disk told k 0 conf.sections.items s1 s2 f1 f2 c.in-Err.bad) number
     (subst (λ (l : List PartFile). RefusesTaking disk told c.len-number.result 0 l s1 s2 f1 f2 c.in-Err.bad) c.deref-2.ensures.value c.in-Err.ensures.refused) in
-    let given : AreGiven told conf.arenas.items s2 s3 (disks_of arenas) =
-    subst (λ (l : List PartFile). AreGiven told l s2 s3 (disks_of arenas)) c.deref-in-Err.ensures.value c.give_arenas.ensures.given in
+    let given : AreHandedBack told conf.arenas.items s2 s3 (disks_of arenas) =
+    subst (λ (l : List PartFile). AreHandedBack told l s2 s3 (disks_of arenas)) c.deref-in-Err.ensures.value c.give_arenas.ensures.given in
     sections_refused disk told conf s0 s1 s2 s3 arenas f0 f1 f2 f3 c.in-Err.bad taken refused given c.in_ok-arenas.ensures.faults c.give_arenas.ensures.faults
 
 pub returns-in-Ok-take_filter-clause-taken : goal.returns-in-Ok-take_filter-clause-taken
@@ -102,9 +102,9 @@ returns-in-Err-take_filter-clause-refused g c =
     subst (λ (l : List PartFile). AreTaken told l s1 s2 sections) c.deref-2.ensures.value c.in-Ok.ensures.taken in
     let refused : RefusesTaking disk told (length conf.arenas.items + length conf.sections.items) 0 (option_to_list conf.filter) s2 s3 f2 f3 bad =
     subst (λ (k : ℕ). RefusesTaking disk told k 0 (option_to_list conf.filter) s2 s3 f2 f3 bad) number c.in-Err-take_filter.ensures.refused in
-    let given : AreGiven told conf.sections.items s3 s4 sections =
-    subst (λ (l : List PartFile). AreGiven told l s3 s4 sections) c.deref-in-Err-take_filter.ensures.value c.give_sections.ensures.given in
-    let also : AreGiven told conf.arenas.items s4 s5 (disks_of arenas) =
-    subst (λ (l : List PartFile). AreGiven told l s4 s5 (disks_of arenas)) c.deref-in-Err-take_filter-2.ensures.value c.give_arenas-in-Err-take_filter.ensures.given in
+    let given : AreHandedBack told conf.sections.items s3 s4 sections =
+    subst (λ (l : List PartFile). AreHandedBack told l s3 s4 sections) c.deref-in-Err-take_filter.ensures.value c.give_sections.ensures.given in
+    let also : AreHandedBack told conf.arenas.items s4 s5 (disks_of arenas) =
+    subst (λ (l : List PartFile). AreHandedBack told l s4 s5 (disks_of arenas)) c.deref-in-Err-take_filter-2.ensures.value c.give_arenas-in-Err-take_filter.ensures.given in
     filter_refused disk told conf s0 s1 s2 s3 s4 s5 arenas sections f0 f1 f2 f3 f4 f5 bad taken more refused given also
     c.in_ok-arenas.ensures.faults c.in-Ok.ensures.faults c.give_sections.ensures.faults c.give_arenas-in-Err-take_filter.ensures.faults

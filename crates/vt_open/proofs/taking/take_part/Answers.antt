@@ -1,8 +1,8 @@
 use Rattle.std.proofs.Common.{◌≤◌, ◌∷◌, [], ℕ, sym, subst}
 use Rattle.std.specs.Prelude.{IsTrue}
-use Rattle.vt_part.specs.Table.{end_of}
+use Rattle.vt_part.specs.Table.{arenas_end}
 use Rattle.vt_part.specs.Parts.{table_of}
-use Rattle.vt_open.specs.declared.bad.OpenBad.TheVariants.{Refused}
+use Rattle.vt_open.specs.declared.error.OpenError.TheVariants.{Refused}
 use Rattle.vt_open.specs.Taking.{RefusesTaking}
 use Rattle.vt_open.proofs.Handing.{one_missing, one_refused, one_taken}
 use Rattle.vt_open.proofs.taking.take_part.Goals as goal
@@ -28,7 +28,7 @@ returns-in-Ok-mount-clause-taken g c =
           faults_are = m.cause;
           partition = λ tells. m.found tells;
           table = m.table;
-          room = subst (λ (n : ℕ). end_of (table_of c.in-Ok-mount.part) ≤ n) (sym m.reads.size) m.room;
+          room = subst (λ (n : ℕ). arenas_end (table_of c.in-Ok-mount.part) ≤ n) (sym m.reads.size) m.room;
         },
         tt,
       );

@@ -2,17 +2,17 @@ use Rattle.std.proofs.Common.{◌≡◌, inr, refl, ◌+◌, ◌≤◌, List, �
 use Rattle.vt_disk.specs.declared.TheConstants.{BLOCK_LEN}
 use Rattle.vt_disk.specs.Disk.{with_bytes}
 use Rattle.vt_disk.proofs.Calls.{made_then}
-use Rattle.vt_part.specs.Table.{Table, IsPartition, IsTable, count_for, block_of, end_of, table_for}
+use Rattle.vt_part.specs.Table.{Table, IsPartition, IsTable, count_for, table_block, arenas_end, table_for}
 use Rattle.vt_part.proofs.TableFor.{counted_fit, is_table, formatted}
 use Rattle.vt_part.proofs.formatting.format.Goals as goal
 
 -- what is written is the table's block
 block_is : (name text bytes : List ℕ) (size arena_size n : ℕ)
-    → bytes ≡ block_of (record { name = text; arena_size = arena_size; count = n })
+    → bytes ≡ table_block (record { name = text; arena_size = arena_size; count = n })
     → text ≡ name → n ≡ count_for size arena_size
-    → bytes ≡ block_of (table_for name size arena_size)
+    → bytes ≡ table_block (table_for name size arena_size)
 block_is name text bytes size arena_size n is same counted = is
-    ∙ (λ i. block_of (record { name = same i; arena_size = arena_size; count = counted i }))
+    ∙ (λ i. table_block (record { name = same i; arena_size = arena_size; count = counted i }))
 
 pub returns-clause-written : goal.returns-clause-written
 returns-clause-written g c told =
@@ -33,7 +33,7 @@ returns-clause-partition g c told image left =
     let counted : c.min-count.result ≡ count_for size c.args.arena_size = search rules in
     let is : IsTable t =
     is_table t.name t.arena_size size t.count c.requires.name c.requires.arena_size room refl in
-    let fits : end_of t ≤ size =
+    let fits : arenas_end t ≤ size =
     counted_fit t.name t.arena_size size t.count c.requires.name c.requires.arena_size room refl in
     subst (IsPartition t)
     (sym (c.in_ok-sync.ensures.settled told image left ∙ c.in_ok-write_at.ensures.written told

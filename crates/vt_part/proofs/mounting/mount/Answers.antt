@@ -1,6 +1,6 @@
 use Rattle.std.proofs.Common.{◌≤◌, ℕ, sym, subst}
 use Rattle.vt_part.specs.Parts.{table_in}
-use Rattle.vt_part.specs.Table.{end_of}
+use Rattle.vt_part.specs.Table.{arenas_end}
 use Rattle.vt_part.proofs.Tables.{partition_unique, refused_by_fault}
 use Rattle.vt_part.proofs.mounting.mount.Goals as goal
 
@@ -9,7 +9,7 @@ returns-in-Ok-clause-found g c told = record {
   table = c.in-Ok.ensures.table;
   spelling = c.in-Ok.ensures.spelling told;
   room =
-      subst (λ (k : ℕ). end_of (table_in c.in-Ok.head) ≤ k)
+      subst (λ (k : ℕ). arenas_end (table_in c.in-Ok.head) ≤ k)
       (sym (g.met.D.Disk.images_fit _ _ (g.met.D.Disk.read_is_image _ told)).0)
       c.in-Ok.ensures.room;
 }

@@ -1,7 +1,7 @@
 use Rattle.std.proofs.Common.{◌≡◌, ◌∙◌, ◌≤◌, ◌<◌, ℕ, sym, subst, arith}
 use Rattle.std.proofs.lemmas.Result.{err_from_is_err_and}
 use Rattle.vt_isect.specs.Section.{SectionState}
-use Rattle.vt_bucket.specs.Buckets.{entries_of}
+use Rattle.vt_bucket.specs.Buckets.{bucket_entries}
 use Rattle.vt_model.specs.Places.{crowd}
 use Rattle.vt_model.specs.declared.TheConstants.{BUCKET_ROOM}
 use Rattle.vt_rebuild.specs.Gathering.{CanIndex}
@@ -30,8 +30,8 @@ returns-in-Ok-fill-clause-filled g c =
     let old : SectionState g.row.D.Denot = c.args.section.now in
     let new : SectionState g.row.D.Denot = c.fill.new.self in
     let total : c.cover.new.gathered.total ≡ c.args.gathered.now.total = c.cover.ensures.total in (
-      entries_of c.in-Ok.bucket,
-      puts_bucket g.D.Disk old new _ c.args.number (entries_of c.in-Ok.bucket) c.in-Ok.ensures.number c.in-Ok-fill.ensures.read,
+      bucket_entries c.in-Ok.bucket,
+      puts_bucket g.D.Disk old new _ c.args.number (bucket_entries c.in-Ok.bucket) c.in-Ok.ensures.number c.in-Ok-fill.ensures.read,
       λ setup h can.
           c.in-Ok.ensures.blocks score setup h (record { buckets = can.index.buckets ∙ sym total; keys = can.index.keys })
           (c.in_ok-cover.ensures.gathers setup h can) c.in_ok-cover.ensures.covered.0 c.in_ok-cover.ensures.covered.1,

@@ -1,6 +1,6 @@
 use Rattle.std.proofs.Common.{◌≡◌}
 use Rattle.std.specs.Prelude.{IsTrue}
-use Rattle.vt_log.specs.Sound.{IsSound}
+use Rattle.vt_log.specs.Sound.{IsSoundLog}
 use Rattle.vt_model.specs.History.{History}
 use Rattle.vt_model.specs.Places.{Setup, bucket_count}
 use Rattle.vt_rebuild.specs.Gathering.{HasGathered}
@@ -10,7 +10,7 @@ use Rattle.vt_rebuild.proofs.gathering.gather.Given as goal
 -- the blocks from the walk's place on are gathered
 abbrev pub invariant-loop-tail : goal.invariant-loop-tail
 invariant-loop-tail g l = IsWalking g.S.Scorer.score_of g.D.Disk l.fn.log l.log l.tail
-    × ((c : Setup) (h : History) → IsTrue g.D.Disk.tells → IsSound g.S.Scorer.score_of g.D.Disk l.fn.log h → bucket_count c ≡ l.total
+    × ((c : Setup) (h : History) → IsTrue g.D.Disk.tells → IsSoundLog g.S.Scorer.score_of g.D.Disk l.fn.log h → bucket_count c ≡ l.total
     → HasGathered g.S.Scorer.score_of c h l.first l.end l.tail.left l.entries.items)
 
 abbrev pub decreases-loop-tail : goal.decreases-loop-tail

@@ -1,7 +1,7 @@
 use Rattle.std.proofs.Common.{◌≡◌, Option, Some, ◌∙◌, ap, subst}
 use Rattle.std.specs.Prelude.{Result, Ok, Err}
-use Rattle.vt_arena.specs.declared.bad.BackBad.{BackBad}
-use Rattle.vt_arena.specs.declared.bad.BackBad.TheVariants.{Damaged, Fault}
+use Rattle.vt_arena.specs.declared.error.BackBad.{BackBad}
+use Rattle.vt_arena.specs.declared.error.BackBad.TheVariants.{Damaged, Fault}
 use Rattle.vt_base.specs.declared.place.Info.{Info}
 use Rattle.vt_log.specs.Back.{TailState}
 use Rattle.vt_log.specs.Log.{LogState}

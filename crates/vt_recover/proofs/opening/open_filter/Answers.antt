@@ -3,7 +3,7 @@ use Rattle.std.specs.Option.{option_to_list}
 use Rattle.vt_log.specs.Answers.{HoldTheSame}
 use Rattle.vt_bloom.specs.Bits.{Filter}
 use Rattle.vt_recover.specs.Opening.{OpensFilter}
-use Rattle.vt_told.specs.Told.{of_filter}
+use Rattle.vt_mount_errors.specs.MountErrors.{of_filter}
 use Rattle.vt_recover.specs.Refusals.{CountsRefusal, FilterIsRefused}
 use Rattle.vt_recover.proofs.Held.{held_reads, hold_still, hold_zip}
 use Rattle.vt_recover.proofs.OpenWork.{one_filter}

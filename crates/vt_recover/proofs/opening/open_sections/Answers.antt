@@ -1,8 +1,8 @@
 use Rattle.std.proofs.Common.{◌≡◌, ◌<◌, ◌+◌, ◌∷◌, [], ⊎_elim, inl, inr, ℕ, List, length, map, refl, sym, ◌∙◌, ap, subst, arith, length-append}
 use Rattle.vt_isect.specs.Section.{SectionState}
 use Rattle.vt_isect.specs.Sound.{nothing_known}
-use Rattle.vt_recover.specs.Opening.{CanBeOpened, IsOpened}
-use Rattle.vt_told.specs.Told.{of_section}
+use Rattle.vt_recover.specs.Opening.{CanBeOpened, IsFoundSection}
+use Rattle.vt_mount_errors.specs.MountErrors.{of_section}
 use Rattle.vt_recover.specs.Refusals.{CountsRefusal}
 use Rattle.vt_recover.proofs.Room.{room_some}
 use Rattle.vt_recover.proofs.Held.{hold_still, hold_zip}
@@ -27,8 +27,8 @@ pub loop-device-init : goal.loop-device-init
 loop-device-init g c =
     let all = c.args.devices.items in
     record {
-      split = subst (λ (l : List (SectionState g.row.D.Denot)). IsSplitAt (IsOpened g.D.Disk) all l c.reverse.new.self.items) (sym c.in-Ok.ensures.items)
-          (split_none (IsOpened g.D.Disk) all c.reverse.new.self.items c.reverse.ensures.items);
+      split = subst (λ (l : List (SectionState g.row.D.Denot)). IsSplitAt (IsFoundSection g.D.Disk) all l c.reverse.new.self.items) (sym c.in-Ok.ensures.items)
+          (split_none (IsFoundSection g.D.Disk) all c.reverse.new.self.items c.reverse.ensures.items);
       sections = omega (arith, c.in-Ok.ensures.capacity, c.len.ensures, c.args.devices.ok.0);
       devices = omega (arith, ap length c.in-Ok.ensures.items, c.reverse.new.self.ok.0, c.reverse.new.self.ok.1);
       all = omega (arith, c.reverse.ensures.len, c.reverse.new.self.ok.1, c.args.devices.ok.0);
@@ -36,20 +36,20 @@ loop-device-init g c =
 
 pub push_reserved-requires : goal.push_reserved-requires
 push_reserved-requires g c =
-    let many = split_many (IsOpened g.D.Disk) c.args.devices.items c.loop-device.sections.items c.loop-device.devices.items c.loop-device.invariant.split in
+    let many = split_many (IsFoundSection g.D.Disk) c.args.devices.items c.loop-device.sections.items c.loop-device.devices.items c.loop-device.invariant.split in
     let some : length c.loop-device.devices.items ≡ length c.pop.new.self.items + 1 =
     ap length c.in-Some.ensures.items ∙ length-append c.pop.new.self.items (c.in-Some.device ∷ []) in
     omega (arith, many, some, c.loop-device.invariant.sections, c.loop-device.sections.ok.0)
 
 pub loop-device-preserved : goal.loop-device-preserved
 loop-device-preserved g c =
-    let R = IsOpened g.D.Disk in
+    let R = IsFoundSection g.D.Disk in
     let all = c.args.devices.items in
     let e = c.in-Ok-mount.ensures in
     let device = c.in-Some.device in
     let section = c.in-Ok-mount.section in
     let buckets = ap (λ (t : SectionState g.row.D.Denot). t.buckets) e.fresh in
-    let opened : IsOpened g.D.Disk device section = record {
+    let opened : IsFoundSection g.D.Disk device section = record {
       fresh = e.fresh;
       some = subst (λ (n : ℕ). 0 < n) (sym buckets) (room_some (g.D.Disk.size device) e.room);
       head = λ tells. e.head tells;
@@ -73,12 +73,12 @@ loop-device-preserved g c =
 
 pub overflow_add-part : goal.overflow_add-part
 overflow_add-part g c =
-    let many = split_many (IsOpened g.D.Disk) c.args.devices.items c.loop-device.sections.items c.loop-device.devices.items c.loop-device.invariant.split in
+    let many = split_many (IsFoundSection g.D.Disk) c.args.devices.items c.loop-device.sections.items c.loop-device.devices.items c.loop-device.invariant.split in
     omega (arith, many, c.requires, c.loop-device.sections.ok.0, c.len-in-Err.ensures)
 
 pub overflow_cast-len : goal.overflow_cast-len
 overflow_cast-len g c =
-    let many = split_many (IsOpened g.D.Disk) c.args.devices.items c.loop-device.sections.items c.loop-device.devices.items c.loop-device.invariant.split in
+    let many = split_many (IsFoundSection g.D.Disk) c.args.devices.items c.loop-device.sections.items c.loop-device.devices.items c.loop-device.invariant.split in
     omega (arith, many, c.requires, c.loop-device.sections.ok.0, c.len-in-Err.ensures)
 
 pub push_reserved-requires-in-Err : goal.push_reserved-requires-in-Err
@@ -128,7 +128,7 @@ returns-in-Err-clause-counts g c =
 pub returns-clause-opened : goal.returns-clause-opened
 returns-clause-opened g c =
     let left : c.loop-device.devices.items ≡ [] = no_items c.loop-device.devices.items (omega (arith, c.in_default-pop.ensures.cases.0, c.loop-device.devices.ok.0)) in (
-      split_all (IsOpened g.D.Disk) c.args.devices.items c.loop-device.sections.items c.loop-device.devices.items left c.loop-device.invariant.split,
+      split_all (IsFoundSection g.D.Disk) c.args.devices.items c.loop-device.sections.items c.loop-device.devices.items left c.loop-device.invariant.split,
       record {
         empty = no_items c.pop.new.self.items (omega (arith, c.in_default-pop.ensures.cases.1, c.pop.new.self.ok.0));
         enough = omega (arith, c.in_default-pop.ensures.capacity, c.loop-device.invariant.all);
@@ -138,11 +138,11 @@ returns-clause-opened g c =
 pub returns-clause-held : goal.returns-clause-held
 returns-clause-held g c =
     let left : c.loop-device.devices.items ≡ [] = no_items c.loop-device.devices.items (omega (arith, c.in_default-pop.ensures.cases.0, c.loop-device.devices.ok.0)) in
-    let zip = split_all (IsOpened g.D.Disk) c.args.devices.items c.loop-device.sections.items c.loop-device.devices.items left c.loop-device.invariant.split in
+    let zip = split_all (IsFoundSection g.D.Disk) c.args.devices.items c.loop-device.sections.items c.loop-device.devices.items left c.loop-device.invariant.split in
     hold_zip g.D.Disk c.args.devices.items (map (λ s. s.disk) c.loop-device.sections.items) (opened_held g.D.Disk c.args.devices.items c.loop-device.sections.items zip)
 
 pub returns-clause-counts : goal.returns-clause-counts
 returns-clause-counts g c =
     let left : c.loop-device.devices.items ≡ [] = no_items c.loop-device.devices.items (omega (arith, c.in_default-pop.ensures.cases.0, c.loop-device.devices.ok.0)) in
-    let zip = split_all (IsOpened g.D.Disk) c.args.devices.items c.loop-device.sections.items c.loop-device.devices.items left c.loop-device.invariant.split in
+    let zip = split_all (IsFoundSection g.D.Disk) c.args.devices.items c.loop-device.sections.items c.loop-device.devices.items left c.loop-device.invariant.split in
     opened_faults g.D.Disk c.args.devices.items c.loop-device.sections.items zip

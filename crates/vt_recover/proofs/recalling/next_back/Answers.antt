@@ -1,7 +1,7 @@
 use Rattle.std.proofs.Common.{◌≡◌, Option, Some, ◌∙◌, ap, subst, arith}
 use Rattle.std.specs.Prelude.{Result, Ok, Err}
-use Rattle.vt_arena.specs.declared.bad.BackBad.{BackBad}
-use Rattle.vt_arena.specs.declared.bad.BackBad.TheVariants.{Damaged}
+use Rattle.vt_arena.specs.declared.error.BackBad.{BackBad}
+use Rattle.vt_arena.specs.declared.error.BackBad.TheVariants.{Damaged}
 use Rattle.vt_base.specs.declared.place.Info.{Info}
 use Rattle.vt_base.specs.declared.place.Place.{Place}
 use Rattle.vt_log.specs.Back.{TailState}

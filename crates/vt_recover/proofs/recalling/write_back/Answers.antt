@@ -2,7 +2,7 @@ use Rattle.std.proofs.Common.{length, sym, subst, arith}
 use Rattle.std.specs.Prelude.{IsSome, ⊤, Err}
 use Rattle.vt_base.specs.declared.mount.MountBad.{MountBad}
 use Rattle.vt_shard.specs.Shard.{ShardState}
-use Rattle.vt_recover.specs.TakingBack.{WritesBack}
+use Rattle.vt_recover.specs.TakingBack.{WritesAllBack}
 use Rattle.vt_recover.proofs.WritingBack.{begun_writing, dirty_below, ends_early, one_step, writes_all}
 use Rattle.vt_recover.proofs.Owed.{under_way}
 use Rattle.vt_recover.proofs.recalling.write_back.Goals as goal
@@ -22,7 +22,7 @@ returns-in-Err g c =
     let new : ShardState g.row.D.Denot = c.advance.new.self in
     let under : IsSome now.writeback = under_way now.writeback c.owed.result c.owed.ensures.none c.loop-shard-test.true in
     let e = c.in-Err.ensures in
-    subst (λ (b : MountBad). WritesBack {U = ⊤} g.D.Disk (Err b) old new) (sym c.of_shard.ensures)
+    subst (λ (b : MountBad). WritesAllBack {U = ⊤} g.D.Disk (Err b) old new) (sym c.of_shard.ensures)
     (ends_early g.D.Disk old now new c.loop-shard.invariant under c.in-Err.bad e.takes e.calls e.reads e.sound
     (λ tells score setup h from was fits. e.undamaged score setup h (length h) from tells was fits))
 

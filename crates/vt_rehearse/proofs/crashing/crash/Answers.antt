@@ -1,7 +1,7 @@
 -- the store behind the crash has a prefix, and the list is cut to it
 use Rattle.std.proofs.Common.{sym, ap, subst}
 use Rattle.vt_core.specs.Core.{CoreState}
-use Rattle.vt_rehearse.specs.Limits.{Grows}
+use Rattle.vt_rehearse.specs.Limits.{GrowsByRound}
 use Rattle.vt_rehearse.specs.Rehearsal.{CrashesIn}
 use Rattle.vt_rehearse.specs.Stage.{AreAlike, IsSteady, StageState}
 use Rattle.vt_rehearse.proofs.Cutting.{alike_cut, crashes_in, cut_so, few_left, grows_cut, left_fits}
@@ -68,6 +68,6 @@ returns-clause-grows g c =
     let core = c.in_ok-core.core in
     let alike = subst (λ (s : StageState g.row.D.Denot). AreAlike score disk s) (sym c.stage.view_is) c.requires.alike in
     let cut = cut_so score disk old core alike (c.in_ok-core.ensures.crashes alike.history alike.store) in
-    subst (λ (s : StageState g.row.D.Denot). Grows s.summary c.note_crash.new.self.summary) c.stage.view_is
+    subst (λ (s : StageState g.row.D.Denot). GrowsByRound s.summary c.note_crash.new.self.summary) c.stage.view_is
     (grows_cut score disk g.D.Crashable.leaves c.args.mode old core alike cut c.synced-synced.result c.history_len-left.result c.synced-synced.ensures.synced c.judge_crash.new.self c.judge_crash.ensures c.history_len-left.ensures
     c.note_crash.new.self c.note_crash.ensures)

@@ -5,7 +5,7 @@ use Rattle.vt_rehearse.specs.declared.rounds.Round.{Round}
 use Rattle.vt_rehearse.specs.declared.summary.Summary.{Summary}
 use Rattle.vt_rehearse.specs.Counts.{with_events}
 use Rattle.vt_rehearse.specs.Limits.{AreAtMost}
-use Rattle.vt_rehearse.specs.Rehearsal.{Makes}
+use Rattle.vt_rehearse.specs.Rehearsal.{MakesRound}
 use Rattle.vt_rehearse.proofs.Limits.{more, more_events}
 use Rattle.vt_rehearse.proofs.Staged.{two_works}
 use Rattle.vt_rehearse.proofs.rehearsal.make.Goals as goal
@@ -17,7 +17,7 @@ returns-in-Evict-clause-makes g c =
     let shard = c.in-Evict.shard in
     let new = c.work-in-Evict.result in
     let both = two_works score disk c.requires.memory (EvictLump shard) (EvictIndex shard) c.args.stage c.work-stage.result new c.work-stage.ensures.works c.work-in-Evict.ensures.works in
-    subst (λ (round : Round). Makes score disk g.D.Crashable.leaves round c.args.stage new) (sym c.in-Evict.is) both
+    subst (λ (round : Round). MakesRound score disk g.D.Crashable.leaves round c.args.stage new) (sym c.in-Evict.is) both
 
 pub returns-in-Evict-clause-grows : goal.returns-in-Evict-clause-grows
 returns-in-Evict-clause-grows g c = λ most it.

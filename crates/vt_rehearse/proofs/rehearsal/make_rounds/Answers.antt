@@ -3,7 +3,7 @@ use Rattle.std.proofs.Common.{◌≡◌, ◌+◌, ◌-◌, ◌*◌, ◌<◌, ◌
 use Rattle.vt_rehearse.specs.declared.rounds.Round.{Round}
 use Rattle.vt_rehearse.specs.declared.summary.Summary.{Summary}
 use Rattle.vt_rehearse.specs.Limits.{AreAtMost}
-use Rattle.vt_rehearse.specs.Rehearsal.{Makes, MakesAll}
+use Rattle.vt_rehearse.specs.Rehearsal.{MakesRound, MakesAll}
 use Rattle.vt_rehearse.specs.Rounds.{rounds_from}
 use Rattle.vt_rehearse.proofs.Limits.{more, none_counted}
 use Rattle.vt_rehearse.proofs.Turns.{no_rounds_left, rounds_left}
@@ -34,7 +34,7 @@ loop-made-preserved g c =
     let old = c.loop-made.stage in
     let new = c.in_ok-stage.stage in
     let lt : made < count = omega arith in
-    let drawn = subst (λ (round : Round). Makes score disk Leaves round old new) c.draw.ensures.round c.in_ok-stage.ensures.makes in
+    let drawn = subst (λ (round : Round). MakesRound score disk Leaves round old new) c.draw.ensures.round c.in_ok-stage.ensures.makes in
     record {
       rest = λ last x. c.loop-made.invariant.rest last
           (subst (λ (rounds : List Round). MakesAll score disk Leaves rounds old last) (sym (rounds_left draws count made lt))

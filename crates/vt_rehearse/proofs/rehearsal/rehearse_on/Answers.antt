@@ -1,6 +1,6 @@
 -- the first stage is a store without blocks, and the last one is what was counted
 use Rattle.std.proofs.Common.{◌≡◌, ℕ, [], ◌∙◌, ap}
-use Rattle.vt_fresh.specs.Shape.{setup_for}
+use Rattle.vt_empty.specs.Shape.{setup_for}
 use Rattle.vt_core.specs.Core.{history_len}
 use Rattle.vt_rehearse.specs.declared.summary.Summary.{Summary}
 use Rattle.vt_rehearse.specs.Rounds.{rounds_from}

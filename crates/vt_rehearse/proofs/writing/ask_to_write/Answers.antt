@@ -3,7 +3,7 @@ use Rattle.vt_base.specs.Protocol.{sync, write}
 use Rattle.vt_base.specs.declared.operation.Operation.TheVariants as asks
 use Rattle.vt_core.specs.declared.event.Out.{Out}
 use Rattle.vt_core.specs.Steps.{Steps}
-use Rattle.vt_rehearse.specs.Rehearsal.{AsksFor, asked_by}
+use Rattle.vt_rehearse.specs.Rehearsal.{AsksForOperation, asked_by}
 use Rattle.vt_rehearse.specs.Words.{word_of}
 use Rattle.vt_rehearse.proofs.Asking.{may_give, not_given, write_answered, write_at_once}
 use Rattle.vt_rehearse.proofs.writing.ask_to_write.Goals as goal
@@ -16,7 +16,7 @@ returns-clause-right g c other =
     let a = c.in-Said.answer in
     let alike = c.requires.alike in
     let request = asks.Write 13 c.as_slice.result in
-    let is_for : AsksFor (write 13 (word_of c.args.word)) request = ap (λ (b : List ℕ). write 13 b) (c.as_slice.ensures ∙ c.new-block.ensures) in
+    let is_for : AsksForOperation (write 13 (word_of c.args.word)) request = ap (λ (b : List ℕ). write 13 b) (c.as_slice.ensures ∙ c.new-block.ensures) in
     ⊎_elim
     (λ none. absurd (other none))
     (λ wrote. (
@@ -40,7 +40,7 @@ unreachable-requires g c =
     let new = c.step_apart.new.self in
     let alike = c.requires.alike in
     let request = asks.Write 13 c.as_slice.result in
-    let is_for : AsksFor (write 13 (word_of c.args.word)) request = ap (λ (b : List ℕ). write 13 b) (c.as_slice.ensures ∙ c.new-block.ensures) in
+    let is_for : AsksForOperation (write 13 (word_of c.args.word)) request = ap (λ (b : List ℕ). write 13 b) (c.as_slice.ensures ∙ c.new-block.ensures) in
     let other : write 13 (word_of c.args.word) ≢ sync = λ same. absurd (cc) in
     not_given c.step_apart.result
     (may_give score g.D.Disk c.requires.memory c.args.session request (write 13 (word_of c.args.word)) c.step_apart.result alike.history old.core new.core other is_for alike.store alike.free c.step_apart.ensures.steps)

@@ -3,7 +3,7 @@ use Rattle.std.proofs.Common.{◌≡◌, ◌≤◌, ◌∙◌, ℕ, List, length
 use Rattle.std.specs.Prelude.{IsTrue}
 use Rattle.vt_base.specs.declared.TheConstants.{MAX_BLOCK}
 use Rattle.vt_base.specs.declared.score.Score.{Score}
-use Rattle.vt_remote.specs.Remote.{AsksForBlock, PutsBlock}
+use Rattle.vt_remote.specs.Remote.{AsksForBlock, PutsAndSyncs}
 use Rattle.vt_remote.proofs.Asking.{asks_so, holds_as}
 use Rattle.vt_remote.proofs.remote.read_remote.Goals as goal
 

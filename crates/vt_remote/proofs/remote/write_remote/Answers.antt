@@ -3,7 +3,7 @@ use Rattle.std.proofs.Common.{◌≡◌, ◌≤◌, ◌∙◌, ℕ, List, length
 use Rattle.std.specs.Prelude.{IsTrue}
 use Rattle.vt_base.specs.declared.TheConstants.{MAX_BLOCK}
 use Rattle.vt_base.specs.declared.score.Score.{Score}
-use Rattle.vt_remote.specs.Remote.{AsksForBlock, PutsBlock}
+use Rattle.vt_remote.specs.Remote.{AsksForBlock, PutsAndSyncs}
 use Rattle.vt_remote.proofs.Asking.{asks_so, holds_as}
 use Rattle.vt_remote.proofs.remote.write_remote.Goals as goal
 
@@ -13,7 +13,7 @@ returns-clause-asks g c =
     let score = g.S.Scorer.score_of in
     let dialer = g.D.Dialer in
     let met = c.in_ok-client.ensures in
-    asks_so link score (PutsBlock link score c.args.kind c.args.bytes.now)
+    asks_so link score (PutsAndSyncs link score c.args.kind c.args.bytes.now)
     (IsTrue dialer.tells) c.args.address.now (dialer.dialled c.args.dialer.now)
     (dialer.dialled c.meet.new.dialer) (dialer.dialled c.part.new.dialer)
     (dialer.faults c.args.dialer.now) (dialer.faults c.part.new.dialer) c.in_ok-client.client

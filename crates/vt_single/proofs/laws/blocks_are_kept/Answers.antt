@@ -4,7 +4,7 @@ use Rattle.std.specs.Prelude.{OnOk}
 use Rattle.vt_base.specs.Protocol.{write, r_write}
 use Rattle.vt_base.specs.declared.score.Score.{Score}
 use Rattle.vt_base.specs.declared.why.Why.{Why}
-use Rattle.vt_answer.specs.Serving.{answered}
+use Rattle.vt_handler.specs.Serving.{answered}
 use Rattle.vt_core.specs.Core.{devices_of, setup_of}
 use Rattle.vt_core.specs.Mounting.{AllStandFor}
 use Rattle.vt_use.specs.Answers.{IsAnswer}

@@ -1,6 +1,6 @@
 use Rattle.std.proofs.Common.{◌≡◌, ◌-◌, min, Ok, refl, arith}
 use Rattle.std.proofs.lemmas.Result.{err_from_is_err_and}
-use Rattle.vt_tree.specs.declared.err.TreeErr.TheVariants as errs
+use Rattle.vt_tree.specs.declared.error.TreeErr.TheVariants as errs
 use Rattle.vt_tree.specs.Content.{size_of}
 use Rattle.vt_tree.proofs.Ranges.{unread, range_read, range_given_up, content_told}
 use Rattle.vt_tree.proofs.reading.read_range.Goals as goal

@@ -1,10 +1,10 @@
 use Rattle.std.proofs.Common.{◌≡◌, ◌≤◌, ℕ, Result, Err, refl, sym, ◌∙◌, ap, subst, arith}
 use Rattle.std.specs.Prelude.{IsErrOf}
-use Rattle.nine_wire.specs.declared.message.NineBad.{NineBad}
-use Rattle.nine_wire.specs.declared.message.NineBad.TheVariants.{Bad, Unknown}
+use Rattle.nine_wire.specs.declared.message.NineError.{NineError}
+use Rattle.nine_wire.specs.declared.message.NineError.TheVariants.{Bad, Unknown}
 use Rattle.nine_wire.specs.Messages.{RMessage}
 use Rattle.nine_wire.specs.Views.{message_of}
-use Rattle.nine_view.specs.declared.refusal.Refusal.TheVariants.{BadMessage, UnknownMessage}
+use Rattle.nine_view.specs.declared.request_error.RequestError.TheVariants.{BadMessage, UnknownMessage}
 use Rattle.nine_view.specs.Answers.{misspelled, request, unknown}
 use Rattle.nine_view.specs.Handling.{Says, SaysSo}
 use Rattle.nine_view.proofs.Replied.{misread, replied}
@@ -35,9 +35,9 @@ pub returns-in-Err-Unknown-clause-replies : goal.returns-in-Err-Unknown-clause-r
 returns-in-Err-Unknown-clause-replies g c =
     let tag : ℕ = c.in-Err-Unknown.tag in
     let is : c.decode.result ≡ Err (Unknown tag) =
-    c.in-Err-Unknown.is ∙ ap (λ (b : NineBad). Err b) c.in-Err-Unknown.field-0-is in
+    c.in-Err-Unknown.is ∙ ap (λ (b : NineError). Err b) c.in-Err-Unknown.field-0-is in
     let bad = (c.decode.ensures.unknown tag).0
-    (subst (λ (r : Result _ NineBad). IsErrOf r (Unknown tag)) (sym is) refl) in
+    (subst (λ (r : Result _ NineError). IsErrOf r (Unknown tag)) (sym is) refl) in
     misread g.B.Blocks.does g.B.Blocks.holds g.B.Scorer.score_of c.args.blocks.now c.args.self.now
     c.args.message.now tag unknown
     (record {
@@ -54,9 +54,9 @@ pub returns-in-Err-Bad-clause-replies : goal.returns-in-Err-Bad-clause-replies
 returns-in-Err-Bad-clause-replies g c =
     let tag : ℕ = c.in-Err-Bad.tag in
     let is : c.decode.result ≡ Err (Bad tag) =
-    c.in-Err-Bad.is ∙ ap (λ (b : NineBad). Err b) c.in-Err-Bad.field-0-is in
+    c.in-Err-Bad.is ∙ ap (λ (b : NineError). Err b) c.in-Err-Bad.field-0-is in
     let bad = (c.decode.ensures.bad tag).0
-    (subst (λ (r : Result _ NineBad). IsErrOf r (Bad tag)) (sym is) refl) in
+    (subst (λ (r : Result _ NineError). IsErrOf r (Bad tag)) (sym is) refl) in
     misread g.B.Blocks.does g.B.Blocks.holds g.B.Scorer.score_of c.args.blocks.now c.args.self.now
     c.args.message.now tag misspelled
     (record {

@@ -2,8 +2,8 @@ use Rattle.std.proofs.Common.{◌+◌, ◌≤◌, ℕ, Option, Err, sym, subst, 
 use Rattle.std.specs.Prelude.{unwrap_or}
 use Rattle.nine_wire.specs.declared.message.Request.{Request}
 use Rattle.nine_wire.specs.Views.{message_of}
-use Rattle.nine_view.specs.declared.failure.Denied.TheVariants.{Refused}
-use Rattle.nine_view.specs.declared.refusal.Refusal.TheVariants.{NoAuthentication}
+use Rattle.nine_view.specs.declared.error.AnswerError.TheVariants.{Refused}
+use Rattle.nine_view.specs.declared.request_error.RequestError.TheVariants.{NoAuthentication}
 use Rattle.nine_view.specs.Answers.{answer_agreed, of_fid, to_read}
 use Rattle.nine_view.specs.Handling.{Handles}
 use Rattle.nine_view.proofs.Handled.{refused_so, sets_so, settled_so, settles}

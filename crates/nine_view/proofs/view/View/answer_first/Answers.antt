@@ -1,8 +1,8 @@
 use Rattle.std.proofs.Common.{Err, sym, subst}
 use Rattle.nine_wire.specs.declared.message.Request.{Request}
 use Rattle.nine_wire.specs.Views.{message_of}
-use Rattle.nine_view.specs.declared.failure.Denied.TheVariants.{Refused}
-use Rattle.nine_view.specs.declared.refusal.Refusal.TheVariants.{VersionExpected}
+use Rattle.nine_view.specs.declared.error.AnswerError.TheVariants.{Refused}
+use Rattle.nine_view.specs.declared.request_error.RequestError.TheVariants.{VersionExpected}
 use Rattle.nine_view.specs.Answers.{Answer, answer_first}
 use Rattle.nine_view.specs.Handling.{SettlesSo}
 use Rattle.nine_view.proofs.Asking.{not_first}

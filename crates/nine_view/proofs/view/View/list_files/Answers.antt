@@ -4,8 +4,8 @@ use Rattle.std.specs.Prelude.{IfSome}
 use Rattle.vac_read.specs.declared.node.Node.{Node}
 use Rattle.nine_view.specs.declared.fid.Fid.{Fid}
 use Rattle.nine_view.specs.Handling.{KeepsFiles}
-use Rattle.nine_view.specs.Kept.{IsKept}
-use Rattle.nine_view.specs.Known.{Known, fid_at, with_fid}
+use Rattle.nine_view.specs.Kept.{IsKeptView}
+use Rattle.nine_view.specs.Known.{ViewState, fid_at, with_fid}
 use Rattle.nine_view.proofs.FolderHandled.{listed, with_files}
 use Rattle.nine_view.proofs.Keeping.{kept_fid, kept_with, told_all}
 use Rattle.nine_view.proofs.Listing.{files_kept, files_lacking, files_listed}
@@ -14,13 +14,13 @@ use Rattle.nine_view.proofs.view.View.list_files.Goals as goal
 pub returns-in_default-clause-keeps : goal.returns-in_default-clause-keeps
 returns-in_default-clause-keeps g c = λ f at.
     let no : None ≡ Some f =
-    c.in_default.ensures ∙ ap (λ (k : Known). fid_at c.args.fid k.fids) c.self.view_is ∙ at in
+    c.in_default.ensures ∙ ap (λ (k : ViewState). fid_at c.args.fid k.fids) c.self.view_is ∙ at in
     absurd (cc)
 
 pub returns-then-is_some-clause-keeps : goal.returns-then-is_some-clause-keeps
 returns-then-is_some-clause-keeps g c = λ f at.
     let here : Some c.in-Some.f.now ≡ Some f =
-    c.in-Some.ensures ∙ ap (λ (k : Known). fid_at c.args.fid k.fids) c.self.view_is ∙ at in
+    c.in-Some.ensures ∙ ap (λ (k : ViewState). fid_at c.args.fid k.fids) c.self.view_is ∙ at in
     let same : c.in-Some.f.now ≡ f = cc in
     subst (λ (x : Fid). KeepsFiles g.B.Blocks.does g.B.Blocks.holds g.B.Scorer.score_of
     c.args.blocks.now c.args.blocks.now c.args.self.now c.args.self.now c.args.fid x (Ok tt) x.files)
@@ -34,7 +34,7 @@ returns-in_err-files-clause-keeps g c = λ f at.
     let p = err_from_is_err_and c.from_residual.result c.from_residual.ensures.1 in
     let bad = c.in_err-files.field-0.0 in
     let here : Some c.in-Some.f.now ≡ Some f =
-    c.in-Some.ensures ∙ ap (λ (k : Known). fid_at c.args.fid k.fids) c.self.view_is ∙ at in
+    c.in-Some.ensures ∙ ap (λ (k : ViewState). fid_at c.args.fid k.fids) c.self.view_is ∙ at in
     let same : c.in-Some.f.now ≡ f = cc in
     rw (p.1, p.2) (subst (λ (x : Fid). KeepsFiles g.B.Blocks.does g.B.Blocks.holds
     g.B.Scorer.score_of c.args.blocks.now c.list.new.blocks c.args.self.now c.args.self.now
@@ -46,7 +46,7 @@ returns-in_err-files-clause-keeps g c = λ f at.
 
 pub list-requires : goal.list-requires
 list-requires g c =
-    let known : Known = record {
+    let known : ViewState = record {
       top = c.self.inside.top;
       msize = c.self.inside.msize;
       fids = c.self.inside.fids;
@@ -57,7 +57,7 @@ list-requires g c =
 
 pub invariant_of-self : goal.invariant_of-self
 invariant_of-self g c =
-    let known : Known = record {
+    let known : ViewState = record {
       top = c.self.inside.top;
       msize = c.self.inside.msize;
       fids = c.self.inside.fids;
@@ -71,7 +71,7 @@ invariant_of-self g c =
     fids ≡ with_fid c.args.fid (with_files h files) known.fids)) at₀ c.keep.ensures in
     let old = kept_fid known c.args.fid f₀ c.self.invariant.1 at₀ in (
       c.self.invariant.0,
-      subst (λ (l : List (ℕ × Fid)). IsKept (record known { fids = l })) (sym set)
+      subst (λ (l : List (ℕ × Fid)). IsKeptView (record known { fids = l })) (sym set)
           (kept_with known c.args.fid (with_files f₀ files) c.self.invariant.1
           (record {
             node = old.node;
@@ -82,7 +82,7 @@ invariant_of-self g c =
 
 pub returns-clause-keeps : goal.returns-clause-keeps
 returns-clause-keeps g c = λ f at.
-    let known : Known = record {
+    let known : ViewState = record {
       top = c.self.inside.top;
       msize = c.self.inside.msize;
       fids = c.self.inside.fids;
@@ -95,9 +95,9 @@ returns-clause-keeps g c = λ f at.
     subst (λ (o : Option Fid). IfSome o (λ (h : Fid).
     fids ≡ with_fid c.args.fid (with_files h files) known.fids)) at₀ c.keep.ensures in
     let here : Some f₀ ≡ Some f =
-    c.in-Some.ensures ∙ ap (λ (k : Known). fid_at c.args.fid k.fids) c.self.view_is ∙ at in
+    c.in-Some.ensures ∙ ap (λ (k : ViewState). fid_at c.args.fid k.fids) c.self.view_is ∙ at in
     let same : f₀ ≡ f = cc in
-    let new : Known =
+    let new : ViewState =
     record { top = c.self.inside.top; msize = c.self.inside.msize; fids = fids } in
     subst (λ (x : Fid). KeepsFiles g.B.Blocks.does g.B.Blocks.holds g.B.Scorer.score_of
     c.args.blocks.now c.list.new.blocks c.args.self.now new c.args.fid x (Ok tt) x.files) same
@@ -105,4 +105,4 @@ returns-clause-keeps g c = λ f at.
     c.list.new.blocks c.args.self.now c.args.fid f₀ f₀.files files new
     (sym c.is_some.ensures ∙ c.if-is_some.false) c.in_ok-files.ensures.lists
     (ap (λ (l : List (ℕ × Fid)). record known { fids = l }) set
-    ∙ ap (λ (k : Known). listed k c.args.fid f₀ files) c.self.view_is))
+    ∙ ap (λ (k : ViewState). listed k c.args.fid f₀ files) c.self.view_is))

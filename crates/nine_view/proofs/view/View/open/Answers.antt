@@ -1,15 +1,15 @@
 use Rattle.std.proofs.Common.{◌≡◌, ◌<◌, ◌^◌, ℕ, Option, Some, Ok, Err, List, length, take, sym, ◌∙◌, ap, subst, arith}
 use Rattle.std.specs.Prelude.{IfSome}
-use Rattle.nine_wire.specs.Frames.{spelled}
+use Rattle.nine_wire.specs.Frames.{spelled_reply}
 use Rattle.nine_wire.specs.Messages.{Qid, r_open}
-use Rattle.nine_view.specs.declared.failure.Denied.TheVariants.{Refused}
+use Rattle.nine_view.specs.declared.error.AnswerError.TheVariants.{Refused}
 use Rattle.nine_view.specs.declared.fid.Fid.{Fid}
 use Rattle.nine_view.specs.declared.fid.Reading.{Reading}
-use Rattle.nine_view.specs.declared.refusal.Refusal.TheVariants.{FidIsOpen, ReadOnly, UnknownFid}
+use Rattle.nine_view.specs.declared.request_error.RequestError.TheVariants.{FidIsOpen, ReadOnly, UnknownFid}
 use Rattle.nine_view.specs.Answers.{iounit, of_fid, settled, to_open, unread}
 use Rattle.nine_view.specs.Handling.{SettlesSo}
-use Rattle.nine_view.specs.Kept.{IsKept}
-use Rattle.nine_view.specs.Known.{Known, fid_at, with_fid}
+use Rattle.nine_view.specs.Kept.{IsKeptView}
+use Rattle.nine_view.specs.Known.{ViewState, fid_at, with_fid}
 use Rattle.nine_view.proofs.Keeping.{kept_fid, kept_with}
 use Rattle.nine_view.proofs.Limits.{least_agreed}
 use Rattle.nine_view.proofs.Settled.{not_opened, opened, opened_for_less, unknown_at}
@@ -17,12 +17,12 @@ use Rattle.nine_view.proofs.view.View.open.Goals as goal
 
 pub returns-in_default : goal.returns-in_default
 returns-in_default c =
-    let known : Known = record {
+    let known : ViewState = record {
       top = c.self.inside.top;
       msize = c.self.inside.msize;
       fids = c.self.inside.fids;
     } in
-    rw c.into.ensures (subst (λ (k : Known). SettlesSo c.args.tag k k c.args.out.now
+    rw c.into.ensures (subst (λ (k : ViewState). SettlesSo c.args.tag k k c.args.out.now
     (Err (Refused UnknownFid)) (of_fid k c.args.fid
     (λ f. settled (to_open k c.args.msize c.args.fid c.args.mode f)))) c.self.view_is
     (unknown_at c.args.tag known c.args.out.now c.args.fid
@@ -30,14 +30,14 @@ returns-in_default c =
 
 pub returns-then-is_some : goal.returns-then-is_some
 returns-then-is_some c =
-    let known : Known = record {
+    let known : ViewState = record {
       top = c.self.inside.top;
       msize = c.self.inside.msize;
       fids = c.self.inside.fids;
     } in
     let f : Fid = c.in-Some.f.now in
     let at : fid_at c.args.fid known.fids ≡ Some f = sym c.in-Some.ensures in
-    rw c.into-then-is_some.ensures (subst (λ (k : Known). SettlesSo c.args.tag k k c.args.out.now
+    rw c.into-then-is_some.ensures (subst (λ (k : ViewState). SettlesSo c.args.tag k k c.args.out.now
     (Err (Refused FidIsOpen)) (of_fid k c.args.fid
     (λ f. settled (to_open k c.args.msize c.args.fid c.args.mode f)))) c.self.view_is
     (not_opened c.args.tag known c.args.out.now c.args.msize c.args.fid c.args.mode f at
@@ -45,14 +45,14 @@ returns-then-is_some c =
 
 pub returns-then-not-may_open : goal.returns-then-not-may_open
 returns-then-not-may_open c =
-    let known : Known = record {
+    let known : ViewState = record {
       top = c.self.inside.top;
       msize = c.self.inside.msize;
       fids = c.self.inside.fids;
     } in
     let f : Fid = c.in-Some.f.now in
     let at : fid_at c.args.fid known.fids ≡ Some f = sym c.in-Some.ensures in
-    rw c.into-then-not-may_open.ensures (subst (λ (k : Known). SettlesSo c.args.tag k k c.args.out.now
+    rw c.into-then-not-may_open.ensures (subst (λ (k : ViewState). SettlesSo c.args.tag k k c.args.out.now
     (Err (Refused ReadOnly)) (of_fid k c.args.fid
     (λ f. settled (to_open k c.args.msize c.args.fid c.args.mode f)))) c.self.view_is
     (opened_for_less c.args.tag known c.args.out.now c.args.msize c.args.fid c.args.mode f at
@@ -60,7 +60,7 @@ returns-then-not-may_open c =
 
 pub invariant_of-self : goal.invariant_of-self
 invariant_of-self c =
-    let known : Known = record {
+    let known : ViewState = record {
       top = c.self.inside.top;
       msize = c.self.inside.msize;
       fids = c.self.inside.fids;
@@ -76,25 +76,25 @@ invariant_of-self c =
     c.new.ensures in
     let old = kept_fid known c.args.fid f c.self.invariant.1 at in (
       c.self.invariant.0,
-      subst (λ (l : List (ℕ × Fid)). IsKept (record known { fids = l })) (sym set)
+      subst (λ (l : List (ℕ × Fid)). IsKeptView (record known { fids = l })) (sym set)
           (kept_with known c.args.fid (record f { reading = Some unread }) c.self.invariant.1
           (record { node = old.node; above = old.above; files = old.files })),
     )
 
 pub overflow_sub-iounit : goal.overflow_sub-iounit
 overflow_sub-iounit c =
-    let known : Known = record {
+    let known : ViewState = record {
       top = c.self.inside.top;
       msize = c.self.inside.msize;
       fids = c.self.inside.fids;
     } in
     let least = least_agreed known c.args.msize c.self.invariant.1
-    (ap (λ (k : Known). k.msize) c.self.view_is ∙ c.requires.agreed) in
+    (ap (λ (k : ViewState). k.msize) c.self.view_is ∙ c.requires.agreed) in
     omega arith
 
 pub returns : goal.returns
 returns c =
-    let known : Known = record {
+    let known : ViewState = record {
       top = c.self.inside.top;
       msize = c.self.inside.msize;
       fids = c.self.inside.fids;
@@ -109,10 +109,10 @@ returns c =
     ∙ ap (λ (r : Reading). with_fid c.args.fid (record f { reading = Some r }) known.fids)
     c.new.ensures in
     let agreed : known.msize ≡ Some c.args.msize =
-    ap (λ (k : Known). k.msize) c.self.view_is ∙ c.requires.agreed in
+    ap (λ (k : ViewState). k.msize) c.self.view_is ∙ c.requires.agreed in
     let path : f.node.qid < 2 ^ 64 =
     let e = ap (λ (q : Qid). q.path) c.qid_of-qid.ensures in omega arith in
-    subst (λ (k : Known). SettlesSo c.args.tag k
+    subst (λ (k : ViewState). SettlesSo c.args.tag k
     (record { top = c.self.inside.top; msize = c.self.inside.msize; fids = fids' })
     c.encode.new.buf (Ok c.encode.result) (of_fid k c.args.fid
     (λ f. settled (to_open k c.args.msize c.args.fid c.args.mode f)))) c.self.view_is
@@ -121,8 +121,8 @@ returns c =
     (sym c.is_some.ensures ∙ c.if-is_some.false) (sym c.may_open.ensures ∙ c.if-not-may_open.false)
     set
     (subst (λ (q : Qid). take c.encode.result c.encode.new.buf
-    ≡ spelled c.args.tag (r_open q (iounit c.args.msize))) c.qid_of-qid.ensures
+    ≡ spelled_reply c.args.tag (r_open q (iounit c.args.msize))) c.qid_of-qid.ensures
     c.encode.ensures.written)
     (subst (λ (q : Qid). c.encode.result
-    ≡ length (spelled c.args.tag (r_open q (iounit c.args.msize)))) c.qid_of-qid.ensures
+    ≡ length (spelled_reply c.args.tag (r_open q (iounit c.args.msize)))) c.qid_of-qid.ensures
     c.encode.ensures.len))

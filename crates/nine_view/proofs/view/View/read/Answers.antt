@@ -3,15 +3,15 @@ use Rattle.std.proofs.lemmas.Result.{err_from_is_err_and}
 use Rattle.vac_read.specs.declared.node.Stored.{Stored}
 use Rattle.vac_read.specs.declared.node.Stored.TheVariants as stored
 use Rattle.vac_read.specs.Reading.{ReadsNode}
-use Rattle.nine_wire.specs.Frames.{spelled}
+use Rattle.nine_wire.specs.Frames.{spelled_reply}
 use Rattle.nine_wire.specs.Messages.{r_read}
-use Rattle.nine_view.specs.declared.failure.Denied.TheVariants.{Refused, Failed}
+use Rattle.nine_view.specs.declared.error.AnswerError.TheVariants.{Refused, Failed}
 use Rattle.nine_view.specs.declared.fid.Fid.{Fid}
 use Rattle.nine_view.specs.declared.fid.Reading.{Reading}
-use Rattle.nine_view.specs.declared.refusal.Refusal.TheVariants.{BadOffset, FidNotOpen, UnknownFid}
+use Rattle.nine_view.specs.declared.request_error.RequestError.TheVariants.{BadOffset, FidNotOpen, UnknownFid}
 use Rattle.nine_view.specs.Answers.{of_fid, to_read}
 use Rattle.nine_view.specs.Handling.{Handles}
-use Rattle.nine_view.specs.Known.{Known, fid_at, limit}
+use Rattle.nine_view.specs.Known.{ViewState, fid_at, limit}
 use Rattle.nine_view.proofs.FileRead.{file_failed, file_told}
 use Rattle.nine_view.proofs.Keeping.{kept_fid}
 use Rattle.nine_view.proofs.Limits.{most_limit}
@@ -20,13 +20,13 @@ use Rattle.nine_view.proofs.view.View.read.Goals as goal
 
 pub returns-in_default : goal.returns-in_default
 returns-in_default g c =
-    let known : Known = record {
+    let known : ViewState = record {
       top = c.self.inside.top;
       msize = c.self.inside.msize;
       fids = c.self.inside.fids;
     } in
     rw c.into.ensures (
-    subst (λ (k : Known). Handles g.B.Blocks.does g.B.Blocks.holds g.B.Scorer.score_of
+    subst (λ (k : ViewState). Handles g.B.Blocks.does g.B.Blocks.holds g.B.Scorer.score_of
     c.args.blocks.now c.args.blocks.now c.args.tag k k c.args.out.now (Err (Refused UnknownFid))
     (of_fid k c.args.fid (λ h. to_read k c.args.fid c.args.offset c.args.room h h.reading)))
     c.self.view_is
@@ -35,7 +35,7 @@ returns-in_default g c =
 
 pub returns-in_default-reading : goal.returns-in_default-reading
 returns-in_default-reading g c =
-    let known : Known = record {
+    let known : ViewState = record {
       top = c.self.inside.top;
       msize = c.self.inside.msize;
       fids = c.self.inside.fids;
@@ -43,7 +43,7 @@ returns-in_default-reading g c =
     let f : Fid = c.in-Some.f.now in
     let at : fid_at c.args.fid known.fids ≡ Some f = sym c.in-Some.ensures in
     rw c.into-in_default-reading.ensures (
-    subst (λ (k : Known). Handles g.B.Blocks.does g.B.Blocks.holds g.B.Scorer.score_of
+    subst (λ (k : ViewState). Handles g.B.Blocks.does g.B.Blocks.holds g.B.Scorer.score_of
     c.args.blocks.now c.args.blocks.now c.args.tag k k c.args.out.now (Err (Refused FidNotOpen))
     (of_fid k c.args.fid (λ h. to_read k c.args.fid c.args.offset c.args.room h h.reading)))
     c.self.view_is
@@ -52,7 +52,7 @@ returns-in_default-reading g c =
 
 pub read-requires : goal.read-requires
 read-requires g c =
-    let known : Known = record {
+    let known : ViewState = record {
       top = c.self.inside.top;
       msize = c.self.inside.msize;
       fids = c.self.inside.fids;
@@ -64,7 +64,7 @@ pub returns-in_err-bytes-in-File : goal.returns-in_err-bytes-in-File
 returns-in_err-bytes-in-File g c =
     let p = err_from_is_err_and c.from_residual.result c.from_residual.ensures.1 in
     let bad = c.in_err-bytes-in-File.field-0.0 in
-    let known : Known = record {
+    let known : ViewState = record {
       top = c.self.inside.top;
       msize = c.self.inside.msize;
       fids = c.self.inside.fids;
@@ -74,7 +74,7 @@ returns-in_err-bytes-in-File g c =
     let r : Reading = c.in-Some-reading.reading in
     let now : f.reading ≡ Some r = c.in-Some-reading.is in
     rw (p.1, p.2) (
-    subst (λ (k : Known). Handles g.B.Blocks.does g.B.Blocks.holds g.B.Scorer.score_of
+    subst (λ (k : ViewState). Handles g.B.Blocks.does g.B.Blocks.holds g.B.Scorer.score_of
     c.args.blocks.now c.read.new.blocks c.args.tag k k c.args.out.now (Err (Failed bad))
     (of_fid k c.args.fid (λ h. to_read k c.args.fid c.args.offset c.args.room h h.reading)))
     c.self.view_is
@@ -90,7 +90,7 @@ returns-in_err-bytes-in-File g c =
 
 pub returns-in_ok-bytes-in-File : goal.returns-in_ok-bytes-in-File
 returns-in_ok-bytes-in-File g c =
-    let known : Known = record {
+    let known : ViewState = record {
       top = c.self.inside.top;
       msize = c.self.inside.msize;
       fids = c.self.inside.fids;
@@ -101,15 +101,15 @@ returns-in_ok-bytes-in-File g c =
     let now : f.reading ≡ Some r = c.in-Some-reading.is in
     let bytes : List ℕ = c.in_ok-bytes-in-File.bytes in
     let room : c.args.room + 24 ≤ limit known =
-    subst (λ (k : Known). c.args.room + 24 ≤ limit k) (sym c.self.view_is) c.requires.room in
+    subst (λ (k : ViewState). c.args.room + 24 ≤ limit k) (sym c.self.view_is) c.requires.room in
     let told : c.first-told.result.now ≡ take c.args.room bytes =
     c.first-told.ensures ∙ ap (λ (l : List ℕ). take c.args.room l) c.as_slice.ensures in
     let few = length-take c.args.room bytes in
     let most = most_limit known c.self.invariant.1 in
-    let len : c.encode.result ≡ length (spelled c.args.tag (r_read (take c.args.room bytes))) =
-    subst (λ (x : List ℕ). c.encode.result ≡ length (spelled c.args.tag (r_read x))) told
+    let len : c.encode.result ≡ length (spelled_reply c.args.tag (r_read (take c.args.room bytes))) =
+    subst (λ (x : List ℕ). c.encode.result ≡ length (spelled_reply c.args.tag (r_read x))) told
     c.encode.ensures.len in
-    subst (λ (k : Known). Handles g.B.Blocks.does g.B.Blocks.holds g.B.Scorer.score_of
+    subst (λ (k : ViewState). Handles g.B.Blocks.does g.B.Blocks.holds g.B.Scorer.score_of
     c.args.blocks.now c.read.new.blocks c.args.tag k k c.encode.new.buf (Ok c.encode.result)
     (of_fid k c.args.fid (λ h. to_read k c.args.fid c.args.offset c.args.room h h.reading)))
     c.self.view_is
@@ -125,14 +125,14 @@ returns-in_ok-bytes-in-File g c =
     (record {
       fits = omega arith;
       is = subst (λ (x : List ℕ). take c.encode.result c.encode.new.buf
-          ≡ spelled c.args.tag (r_read x)) told c.encode.ensures.written;
+          ≡ spelled_reply c.args.tag (r_read x)) told c.encode.ensures.written;
       len_is = len;
       short = omega arith;
     })))
 
 pub returns-then-is_bad_offset : goal.returns-then-is_bad_offset
 returns-then-is_bad_offset g c =
-    let known : Known = record {
+    let known : ViewState = record {
       top = c.self.inside.top;
       msize = c.self.inside.msize;
       fids = c.self.inside.fids;
@@ -142,7 +142,7 @@ returns-then-is_bad_offset g c =
     let r : Reading = c.in-Some-reading.reading in
     let now : f.reading ≡ Some r = c.in-Some-reading.is in
     rw c.into-then-is_bad_offset.ensures (
-    subst (λ (k : Known). Handles g.B.Blocks.does g.B.Blocks.holds g.B.Scorer.score_of
+    subst (λ (k : ViewState). Handles g.B.Blocks.does g.B.Blocks.holds g.B.Scorer.score_of
     c.args.blocks.now c.args.blocks.now c.args.tag k k c.args.out.now (Err (Refused BadOffset))
     (of_fid k c.args.fid (λ h. to_read k c.args.fid c.args.offset c.args.room h h.reading)))
     c.self.view_is
@@ -155,10 +155,10 @@ returns-then-is_bad_offset g c =
 
 pub returns-else-is_bad_offset : goal.returns-else-is_bad_offset
 returns-else-is_bad_offset g c =
-    let known : Known = c.args.self.now in
+    let known : ViewState = c.args.self.now in
     let f : Fid = c.in-Some.f.now in
     let at : fid_at c.args.fid known.fids ≡ Some f =
-    ap (λ (k : Known). fid_at c.args.fid k.fids) (sym c.self.view_is) ∙ sym c.in-Some.ensures in
+    ap (λ (k : ViewState). fid_at c.args.fid k.fids) (sym c.self.view_is) ∙ sym c.in-Some.ensures in
     let r : Reading = c.in-Some-reading.reading in
     let now : f.reading ≡ Some r = c.in-Some-reading.is in
     read_of g.B.Blocks.does g.B.Blocks.holds g.B.Scorer.score_of c.args.tag known

@@ -1,13 +1,13 @@
 use Rattle.std.proofs.Common.{ℕ, List, Err, sym, subst, ◌∙◌}
 use Rattle.nine_wire.specs.Messages.{r_error}
 use Rattle.nine_view.specs.declared.fid.Fid.{Fid}
-use Rattle.nine_view.specs.declared.failure.Denied.TheVariants.{Refused}
-use Rattle.nine_view.specs.declared.refusal.Refusal.TheVariants.{ReadOnly}
+use Rattle.nine_view.specs.declared.error.AnswerError.TheVariants.{Refused}
+use Rattle.nine_view.specs.declared.request_error.RequestError.TheVariants.{ReadOnly}
 use Rattle.nine_view.specs.Answers.{of_fid, settled, with_known}
 use Rattle.nine_view.specs.Handling.{SettlesSo}
-use Rattle.nine_view.specs.Kept.{IsKept}
-use Rattle.nine_view.specs.Known.{Known, without_fid}
-use Rattle.nine_view.specs.Refusals.{words_of}
+use Rattle.nine_view.specs.Kept.{IsKeptView}
+use Rattle.nine_view.specs.Known.{ViewState, without_fid}
+use Rattle.nine_view.specs.Refusals.{refusal_words}
 use Rattle.nine_view.proofs.Keeping.{kept_without}
 use Rattle.nine_view.proofs.Settled.{removed}
 use Rattle.nine_view.proofs.view.View.remove.Goals as goal
@@ -15,7 +15,7 @@ use Rattle.nine_view.proofs.view.View.remove.Goals as goal
 pub invariant_of-self : goal.invariant_of-self
 invariant_of-self c = (
   c.self.invariant.0,
-  subst (λ (l : List (ℕ × Fid)). IsKept
+  subst (λ (l : List (ℕ × Fid)). IsKeptView
       (record { top = c.self.inside.top; msize = c.self.inside.msize; fids = l }))
       (sym c.remove.ensures)
       (kept_without (record {
@@ -27,15 +27,15 @@ invariant_of-self c = (
 
 pub returns : goal.returns
 returns c = λ tag out.
-    let known : Known = record {
+    let known : ViewState = record {
       top = c.self.inside.top;
       msize = c.self.inside.msize;
       fids = c.self.inside.fids;
     } in
-    rw c.into-2.ensures (subst (λ (k : Known). SettlesSo tag k
+    rw c.into-2.ensures (subst (λ (k : ViewState). SettlesSo tag k
     (record { top = c.self.inside.top; msize = c.self.inside.msize; fids = c.remove.new.self })
     out (Err (Refused ReadOnly)) (of_fid k c.args.fid (λ f. settled
-    (with_known k (without_fid c.args.fid k.fids) (r_error (words_of ReadOnly))))))
+    (with_known k (without_fid c.args.fid k.fids) (r_error (refusal_words ReadOnly))))))
     c.self.view_is
     (removed tag known out c.args.fid c.remove.new.self
     (sym c.contains.ensures ∙ c.if-not-contains.false) c.remove.ensures))

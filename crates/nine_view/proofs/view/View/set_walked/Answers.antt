@@ -1,12 +1,12 @@
 use Rattle.std.proofs.Common.{◌≡◌, ℕ, List, map, sym, ◌∙◌, ap, subst, arith}
 use Rattle.std.proofs.lemmas.List.{length-map}
 use Rattle.nine_wire.specs.Messages.{r_walk}
-use Rattle.nine_wire.specs.Views.{qid_of as wire_qid}
+use Rattle.nine_wire.specs.Views.{wire_qid}
 use Rattle.nine_view.specs.declared.fid.Fid.{Fid}
 use Rattle.nine_view.specs.Answers.{unopened}
 use Rattle.nine_view.specs.Handling.{Says}
-use Rattle.nine_view.specs.Kept.{IsKept}
-use Rattle.nine_view.specs.Known.{Known, limit, with_fid}
+use Rattle.nine_view.specs.Kept.{IsKeptView}
+use Rattle.nine_view.specs.Known.{ViewState, limit, with_fid}
 use Rattle.nine_view.proofs.Keeping.{kept_with}
 use Rattle.nine_view.proofs.Limits.{least_limit}
 use Rattle.nine_view.proofs.Sizes.{walk_len}
@@ -27,7 +27,7 @@ encode-requires-clause-room c =
 
 pub invariant_of-self-2 : goal.invariant_of-self-2
 invariant_of-self-2 c =
-    let known : Known = record {
+    let known : ViewState = record {
       top = c.self.inside.top;
       msize = c.self.inside.msize;
       fids = c.self.inside.fids;
@@ -36,14 +36,14 @@ invariant_of-self-2 c =
     c.in_ok-set.ensures.ok ∙ ap (λ (x : Fid). with_fid c.args.fid x known.fids) c.unopened.ensures in
     let told = c.requires.told in (
       c.self.invariant.0,
-      subst (λ (l : List (ℕ × Fid)). IsKept (record known { fids = l })) (sym set)
+      subst (λ (l : List (ℕ × Fid)). IsKeptView (record known { fids = l })) (sym set)
           (kept_with known c.args.fid (unopened c.args.at) c.self.invariant.1
           (record { node = told.node; above = told.above; files = tt })),
     )
 
 pub returns-clause-says : goal.returns-clause-says
 returns-clause-says c =
-    let known : Known = record {
+    let known : ViewState = record {
       top = c.self.inside.top;
       msize = c.self.inside.msize;
       fids = c.self.inside.fids;
@@ -53,7 +53,7 @@ returns-clause-says c =
     let few = c.requires.few in
     let whole = walk_len c.args.tag (map wire_qid c.args.qids.now) in
     let written = c.encode.ensures.len in
-    subst (λ (k : Known). Says c.args.tag (limit k) c.encode.new.buf c.encode.result
+    subst (λ (k : ViewState). Says c.args.tag (limit k) c.encode.new.buf c.encode.result
     (r_walk (map wire_qid c.args.qids.now))) c.self.view_is
     (record {
       fits = (omega arith, c.requires.paths);

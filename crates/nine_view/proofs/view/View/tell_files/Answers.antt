@@ -2,12 +2,12 @@ use Rattle.std.proofs.Common.{◌≡◌, ◌+◌, ◌≤◌, ◌++◌, ℕ, List
 use Rattle.std.specs.List.{flat_map}
 use Rattle.std.proofs.lemmas.List.{take-append-le, take_all}
 use Rattle.std.proofs.lemmas.Result.{err_from_is_err_and}
-use Rattle.nine_wire.specs.Frames.{spelled}
+use Rattle.nine_wire.specs.Frames.{spelled_reply}
 use Rattle.nine_wire.specs.Messages.{r_read}
 use Rattle.nine_view.specs.Answers.{first_file}
 use Rattle.nine_view.specs.Files.{stat_in}
 use Rattle.nine_view.specs.Handling.{told_next}
-use Rattle.nine_view.specs.Known.{Known, limit}
+use Rattle.nine_view.specs.Known.{ViewState, limit}
 use Rattle.nine_view.proofs.Fitting.{fitting_within}
 use Rattle.nine_view.proofs.FolderRead.{folder_small, folder_told, kept_reading}
 use Rattle.nine_view.proofs.Keeping.{kept_fid}
@@ -40,7 +40,7 @@ encode-requires-clause-room c =
     ≡ length (flat_map stat_in (told_next put.reading put.files c.args.offset c.args.room)) =
     put.len_is in
     let most : limit c.args.self.now ≤ 65536 =
-    subst (λ (k : Known). limit k ≤ 65536) c.self.view_is (most_limit _ c.self.invariant.1) in
+    subst (λ (k : ViewState). limit k ≤ 65536) c.self.view_is (most_limit _ c.self.invariant.1) in
     let part = length-take c.in_ok-reading.len c.deref.result.now in
     omega (arith, c.requires.out, c.requires.room)
 
@@ -67,21 +67,21 @@ returns c = λ f r files at now kept.
     ∙ whole c.put_next.new.buf c.self.inside.stats.items c.self.inside.stats.len
     (c.put_next.auto.buf ∙ c.deref_mut.ensures.len))
     ∙ put.written in
-    let len : c.encode.result ≡ length (spelled c.args.tag (r_read bytes)) =
-    subst (λ (x : List ℕ). c.encode.result ≡ length (spelled c.args.tag (r_read x))) part
+    let len : c.encode.result ≡ length (spelled_reply c.args.tag (r_read bytes)) =
+    subst (λ (x : List ℕ). c.encode.result ≡ length (spelled_reply c.args.tag (r_read x))) part
     c.encode.ensures.len in
-    let known : Known =
+    let known : ViewState =
     record { top = c.self.inside.top; msize = c.self.inside.msize; fids = c.self.inside.fids } in
     let most = most_limit known c.self.invariant.1 in
     let room : c.args.room + 24 ≤ limit known =
-    subst (λ (k : Known). c.args.room + 24 ≤ limit k) (sym c.self.view_is) c.requires.room in
+    subst (λ (k : ViewState). c.args.room + 24 ≤ limit k) (sym c.self.view_is) c.requires.room in
     folder_told c.args.tag _ c.args.self.now c.self.view_is c.encode.new.buf c.args.fid
     c.args.offset c.args.room f r files at now kept c.set_reading.new.self c.put_next.new.buf
     c.in_ok-reading.reading c.in_ok-reading.len c.encode.result put c.set_reading.ensures
     (record {
       fits = omega arith;
       is = subst (λ (x : List ℕ). take c.encode.result c.encode.new.buf
-          ≡ spelled c.args.tag (r_read x)) part c.encode.ensures.written;
+          ≡ spelled_reply c.args.tag (r_read x)) part c.encode.ensures.written;
       len_is = len;
       short = omega arith;
     })

@@ -1,7 +1,7 @@
 use Rattle.std.proofs.Common.{Ok, map, refl, sym, ◌∙◌, subst, arith}
 use Rattle.std.proofs.lemmas.List.{length-map}
-use Rattle.nine_wire.specs.Views.{qid_of as wire_qid}
-use Rattle.nine_view.specs.Known.{Known, limit}
+use Rattle.nine_wire.specs.Views.{wire_qid}
+use Rattle.nine_view.specs.Known.{ViewState, limit}
 use Rattle.nine_view.specs.Walking.{EndsShort}
 use Rattle.nine_view.proofs.Limits.{least_limit}
 use Rattle.nine_view.proofs.Sizes.{walk_len}
@@ -30,7 +30,7 @@ encode-requires-clause-room c =
 
 pub returns : goal.returns
 returns c =
-    let known : Known = record {
+    let known : ViewState = record {
       top = c.self.inside.top;
       msize = c.self.inside.msize;
       fids = c.self.inside.fids;
@@ -40,7 +40,7 @@ returns c =
     let few = c.requires.few in
     let whole = walk_len c.args.tag (map wire_qid c.args.qids.now) in
     let written = c.encode.ensures.len in
-    subst (λ (k : Known). EndsShort c.args.tag (limit k) c.encode.new.buf (Ok c.encode.result)
+    subst (λ (k : ViewState). EndsShort c.args.tag (limit k) c.encode.new.buf (Ok c.encode.result)
     (map wire_qid c.args.qids.now) c.args.why) c.self.view_is (
       some_qids c.args.qids.now (sym c.is_empty.ensures ∙ c.if-is_empty.false),
       record {

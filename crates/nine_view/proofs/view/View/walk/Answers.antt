@@ -1,13 +1,13 @@
 use Rattle.std.proofs.Common.{◌≡◌, ℕ, Result, Ok, Err, List, [], map, sym, ◌∙◌, subst}
 use Rattle.std.specs.Prelude.{IfOk}
 use Rattle.std.proofs.lemmas.Result.{err_from_is_err_and}
-use Rattle.vac_read.specs.Reading.{Reads}
+use Rattle.vac_read.specs.Reading.{ReadsArchive}
 use Rattle.nine_wire.specs.declared.stat.Qid as wire
 use Rattle.nine_wire.specs.Messages.{r_walk}
-use Rattle.nine_wire.specs.Views.{qid_of as wire_qid}
-use Rattle.nine_view.specs.declared.failure.Denied.TheVariants.{Failed}
+use Rattle.nine_wire.specs.Views.{wire_qid}
+use Rattle.nine_view.specs.declared.error.AnswerError.TheVariants.{Failed}
 use Rattle.nine_view.specs.declared.place.Place.{Place}
-use Rattle.nine_view.specs.declared.refusal.Refusal.{Refusal}
+use Rattle.nine_view.specs.declared.request_error.RequestError.{RequestError}
 use Rattle.nine_view.specs.declared.walking.Walked.{Walked}
 use Rattle.nine_view.specs.Answers.{Answer, to_names}
 use Rattle.nine_view.specs.Handling.{Handles, Says}
@@ -66,10 +66,10 @@ returns-in-Ok g c =
     let begun = c.in_ok-from.ensures.may words (sym c.len.ensures) in
     let some = some_names words (sym c.is_empty.ensures ∙ c.if-is_empty.false) in
     let w : Walked = c.in_ok-walked.walked in
-    let reads : Reads g.B.Blocks.does g.B.Blocks.holds g.B.Scorer.score_of c.args.blocks.now
+    let reads : ReadsArchive g.B.Blocks.does g.B.Blocks.holds g.B.Scorer.score_of c.args.blocks.now
     c.walk_names.new.blocks (Ok w)
     (λ blocks. Walks blocks (Ok from) words (a_walk (map wire_qid w.qids.items) (Ok c.in-Ok.at))) =
-    subst (λ (e : Result Place Refusal). Reads g.B.Blocks.does g.B.Blocks.holds g.B.Scorer.score_of
+    subst (λ (e : Result Place RequestError). ReadsArchive g.B.Blocks.does g.B.Blocks.holds g.B.Scorer.score_of
     c.args.blocks.now c.walk_names.new.blocks (Ok w)
     (λ blocks. Walks blocks (Ok from) words (a_walk (map wire_qid w.qids.items) e))) c.in-Ok.is
     c.in_ok-walked.ensures.reads in
@@ -93,10 +93,10 @@ returns g c =
     let begun = c.in_ok-from.ensures.may words (sym c.len.ensures) in
     let some = some_names words (sym c.is_empty.ensures ∙ c.if-is_empty.false) in
     let w : Walked = c.in_ok-walked.walked in
-    let reads : Reads g.B.Blocks.does g.B.Blocks.holds g.B.Scorer.score_of c.args.blocks.now
+    let reads : ReadsArchive g.B.Blocks.does g.B.Blocks.holds g.B.Scorer.score_of c.args.blocks.now
     c.walk_names.new.blocks (Ok w)
     (λ blocks. Walks blocks (Ok from) words (a_walk (map wire_qid w.qids.items) (Err c.in-Err.why))) =
-    subst (λ (e : Result Place Refusal). Reads g.B.Blocks.does g.B.Blocks.holds g.B.Scorer.score_of
+    subst (λ (e : Result Place RequestError). ReadsArchive g.B.Blocks.does g.B.Blocks.holds g.B.Scorer.score_of
     c.args.blocks.now c.walk_names.new.blocks (Ok w)
     (λ blocks. Walks blocks (Ok from) words (a_walk (map wire_qid w.qids.items) e))) c.in-Err.is
     c.in_ok-walked.ensures.reads in

@@ -1,8 +1,8 @@
 -- what was done with the store at its place
 use Rattle.std.proofs.Common.{inr, refl, subst}
 use Rattle.run_base.specs.Change.{dialer_change, files_change, folders_change, parts_change, sink_change}
-use Rattle.run_base.specs.Failure.{no_cause, with_dialer, with_files, with_folders, with_parts, with_sink}
-use Rattle.run_base.specs.Places.{Names}
+use Rattle.run_base.specs.Errors.{no_cause, with_dialer, with_files, with_folders, with_parts, with_sink}
+use Rattle.run_base.specs.Places.{NamesPlace}
 use Rattle.run_base.specs.declared.place.Place.TheVariants.{Server}
 use Rattle.run_base.proofs.Causes.{widened}
 use Rattle.run_archives.proofs.commands.vac_at.vac_at.Goals as goal
@@ -10,7 +10,7 @@ use Rattle.run_archives.proofs.commands.vac_at.vac_at.Goals as goal
 pub returns-in-Ok-Server-clause-does : goal.returns-in-Ok-Server-clause-does
 returns-in-Ok-Server-clause-does g c =
     let done = c.vac_served.ensures.does in
-    let named = subst (Names c.args.store.now) c.in-Ok-Server.field-0-is
+    let named = subst (NamesPlace c.args.store.now) c.in-Ok-Server.field-0-is
     c.in-Ok-Server.ensures.named in
     (done.0, inr (Server c.in-Ok-Server.address, named, (done.1, refl, refl)), done.2)
 

@@ -76,5 +76,5 @@ returns-in-Err-clause-none g c =
           (folder.faults c.send_watched-sent.result.1) away.found away.lent away.others done.back
           done.others x.stays x.asks away.fresh x.cause away.cause done.faults
           (g.met.G.Folders.faults_fit c.folder.new.self),
-      c.refusal_for.ensures,
+      c.send_failure.ensures,
     )

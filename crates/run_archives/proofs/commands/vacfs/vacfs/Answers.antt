@@ -1,6 +1,6 @@
 -- the word, and the store that the other one names
 use Rattle.std.proofs.Common.{◌≡◌, inl, inr, refl, subst, rules, Err}
-use Rattle.run_base.specs.Places.{Names}
+use Rattle.run_base.specs.Places.{NamesPlace}
 use Rattle.run_base.specs.declared.place.Place.TheVariants.{Memory, Server, Conf}
 use Rattle.run_archives.proofs.ViewCauses.{view_caused}
 use Rattle.run_archives.proofs.commands.vacfs.vacfs.Goals as goal
@@ -22,7 +22,7 @@ returns-in-Memory-clause-does g c = inr (
   c.in_ok-score.ensures.good,
   inr (
     Memory,
-    subst (Names c.args.store.now) c.in-Memory.is c.in_ok-place_of.ensures.named,
+    subst (NamesPlace c.args.store.now) c.in-Memory.is c.in_ok-place_of.ensures.named,
     record {
       why = c.no_archive.ensures;
       idle = (refl, record { unopened = refl; unused = refl; undialled = refl; unwritten = refl });
@@ -36,7 +36,7 @@ returns-in-Server-clause-does g c = inr (
   c.in_ok-score.ensures.good,
   inr (
     Server c.in-Server.address,
-    subst (Names c.args.store.now) c.in-Server.is c.in_ok-place_of.ensures.named,
+    subst (NamesPlace c.args.store.now) c.in-Server.is c.in_ok-place_of.ensures.named,
     (c.view_served.ensures, refl, refl),
   ),
 )
@@ -45,7 +45,7 @@ pub returns-in-Conf-clause-does : goal.returns-in-Conf-clause-does
 returns-in-Conf-clause-does g c = inr (
   c.in_ok-score.score.0,
   c.in_ok-score.ensures.good,
-  inr (Conf, subst (Names c.args.store.now) c.in-Conf.is c.in_ok-place_of.ensures.named, (c.view_kept.ensures, refl)),
+  inr (Conf, subst (NamesPlace c.args.store.now) c.in-Conf.is c.in_ok-place_of.ensures.named, (c.view_kept.ensures, refl)),
 )
 
 pub returns-in-Server-clause-cause : goal.returns-in-Server-clause-cause

@@ -1,6 +1,6 @@
 -- the words, and the store that the first of them names
 use Rattle.std.proofs.Common.{◌≡◌, inl, inr, refl, subst, rules, Err}
-use Rattle.run_base.specs.Places.{Names}
+use Rattle.run_base.specs.Places.{NamesPlace}
 use Rattle.run_base.specs.declared.place.Place.TheVariants.{Memory, Server, Conf}
 use Rattle.run_sessions.proofs.BlockCauses.{read_cause}
 use Rattle.run_sessions.proofs.commands.read.read.Goals as goal
@@ -32,7 +32,7 @@ returns-in-Memory-clause-does g c = inr (
   c.in_ok-score.score.0,
   c.in_ok-kind.kind,
   record { score_is = c.in_ok-score.ensures.good; type_is = c.in_ok-kind.ensures.good },
-  inr (Memory, subst (Names c.args.store.now) c.in-Memory.is c.in_ok-place_of.ensures.named, (c.print_made.ensures, refl, refl, refl)),
+  inr (Memory, subst (NamesPlace c.args.store.now) c.in-Memory.is c.in_ok-place_of.ensures.named, (c.print_made.ensures, refl, refl, refl)),
 )
 
 pub returns-in-Server-clause-does : goal.returns-in-Server-clause-does
@@ -42,7 +42,7 @@ returns-in-Server-clause-does g c = inr (
   record { score_is = c.in_ok-score.ensures.good; type_is = c.in_ok-kind.ensures.good },
   inr (
     Server c.in-Server.address,
-    subst (Names c.args.store.now) c.in-Server.is c.in_ok-place_of.ensures.named,
+    subst (NamesPlace c.args.store.now) c.in-Server.is c.in_ok-place_of.ensures.named,
     (c.print_served.ensures, refl, refl),
   ),
 )
@@ -52,7 +52,7 @@ returns-in-Conf-clause-does g c = inr (
   c.in_ok-score.score.0,
   c.in_ok-kind.kind,
   record { score_is = c.in_ok-score.ensures.good; type_is = c.in_ok-kind.ensures.good },
-  inr (Conf, subst (Names c.args.store.now) c.in-Conf.is c.in_ok-place_of.ensures.named, (c.print_kept.ensures, refl)),
+  inr (Conf, subst (NamesPlace c.args.store.now) c.in-Conf.is c.in_ok-place_of.ensures.named, (c.print_kept.ensures, refl)),
 )
 
 pub returns-in-Memory-clause-cause : goal.returns-in-Memory-clause-cause

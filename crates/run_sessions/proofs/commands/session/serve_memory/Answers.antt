@@ -1,6 +1,6 @@
 -- the store that was made is sound for the empty history, and no call of its disks fails
 use Rattle.std.proofs.Common.{[], refl, ap}
-use Rattle.vt_answer.specs.Links.{since}
+use Rattle.vt_handler.specs.Links.{since}
 use Rattle.run_base.proofs.InMemory.{never_fails}
 use Rattle.run_sessions.proofs.MemorySessions.{serves_none, session_in}
 use Rattle.run_sessions.proofs.commands.session.serve_memory.Goals as goal

@@ -1,6 +1,6 @@
 -- a session is a run of events, which keeps how many devices there are
 use Rattle.std.proofs.Common.{◌∙◌}
-use Rattle.vt_answer.specs.Links.{since}
+use Rattle.vt_handler.specs.Links.{since}
 use Rattle.run_sessions.proofs.commands.session_conf.serve_opened.Goals as goal
 
 pub close_store-requires : goal.close_store-requires

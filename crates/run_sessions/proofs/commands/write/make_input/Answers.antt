@@ -1,7 +1,7 @@
 -- the block that came in, and what the store in memory answered
 use Rattle.std.proofs.Common.{◌≡◌, inl, inr, refl, rules, subst, ℕ, List, Ok, Err}
 use Rattle.vt_base.specs.Protocol.{write}
-use Rattle.run_base.specs.Blocks.{AnswersInMemory}
+use Rattle.run_base.specs.Blocks.{AnswersOfEmptyStore}
 use Rattle.run_sessions.proofs.commands.write.make_input.Goals as goal
 
 pub returns-in-Ok : goal.returns-in-Ok
@@ -23,7 +23,7 @@ returns g c = inr (record {
   takes = c.in_ok-block.ensures.taken;
   does = record {
     result = Err c.in-Err.why;
-    answers = subst (λ (bytes : List ℕ). AnswersInMemory g.S.Scorer.score_of
+    answers = subst (λ (bytes : List ℕ). AnswersOfEmptyStore g.S.Scorer.score_of
         (write c.args.kind bytes) (Err c.in-Err.why)) c.as_slice.ensures c.in-Err.ensures.answers;
     fails = c.in-Err.ensures.fails;
     told = (rw c.refusal_for.ensures refl, refl);

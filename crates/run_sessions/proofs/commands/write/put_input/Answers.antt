@@ -1,7 +1,7 @@
 -- the block that came in, and what was asked of the server
 use Rattle.std.proofs.Common.{◌≡◌, inl, inr, refl, rules, subst, ℕ, List, Ok, Err}
 use Rattle.std.specs.Prelude.{IsTrue}
-use Rattle.vt_remote.specs.Remote.{AsksServer, PutsBlock}
+use Rattle.vt_remote.specs.Remote.{AsksServer, PutsAndSyncs}
 use Rattle.run_sessions.proofs.commands.write.put_input.Goals as goal
 
 pub write_remote-requires : goal.write_remote-requires
@@ -32,7 +32,7 @@ returns g c =
       does = record {
         result = Err c.in-Err.bad;
         asks = subst (λ (bytes : List ℕ). AsksServer link score
-            (PutsBlock link score c.args.kind bytes) (IsTrue dialer.tells) c.args.address.now
+            (PutsAndSyncs link score c.args.kind bytes) (IsTrue dialer.tells) c.args.address.now
             (dialer.dialled old) (dialer.dialled new) (dialer.faults old) (dialer.faults new)
             (Err c.in-Err.bad)) c.as_slice.ensures c.in-Err.ensures.asks;
         told = (refl, refl);

@@ -1,6 +1,6 @@
 -- the word, and the store that the first of them names
 use Rattle.std.proofs.Common.{inr, refl, subst}
-use Rattle.run_base.specs.Places.{Names}
+use Rattle.run_base.specs.Places.{NamesPlace}
 use Rattle.run_base.specs.declared.place.Place.TheVariants.{Memory, Server, Conf}
 use Rattle.run_sessions.proofs.BlockCauses.{write_cause}
 use Rattle.run_sessions.proofs.commands.write.write.Goals as goal
@@ -9,7 +9,7 @@ pub returns-in-Memory-clause-does : goal.returns-in-Memory-clause-does
 returns-in-Memory-clause-does g c = inr (
   c.in_ok-kind.kind,
   c.in_ok-kind.ensures.good,
-  inr (Memory, subst (Names c.args.store.now) c.in-Memory.is c.in_ok-place_of.ensures.named, (c.make_input.ensures, refl, refl, refl)),
+  inr (Memory, subst (NamesPlace c.args.store.now) c.in-Memory.is c.in_ok-place_of.ensures.named, (c.make_input.ensures, refl, refl, refl)),
 )
 
 pub returns-in-Server-clause-does : goal.returns-in-Server-clause-does
@@ -18,7 +18,7 @@ returns-in-Server-clause-does g c = inr (
   c.in_ok-kind.ensures.good,
   inr (
     Server c.in-Server.address,
-    subst (Names c.args.store.now) c.in-Server.is c.in_ok-place_of.ensures.named,
+    subst (NamesPlace c.args.store.now) c.in-Server.is c.in_ok-place_of.ensures.named,
     (c.put_input.ensures, refl, refl),
   ),
 )
@@ -27,7 +27,7 @@ pub returns-in-Conf-clause-does : goal.returns-in-Conf-clause-does
 returns-in-Conf-clause-does g c = inr (
   c.in_ok-kind.kind,
   c.in_ok-kind.ensures.good,
-  inr (Conf, subst (Names c.args.store.now) c.in-Conf.is c.in_ok-place_of.ensures.named, (c.keep_input.ensures, refl)),
+  inr (Conf, subst (NamesPlace c.args.store.now) c.in-Conf.is c.in_ok-place_of.ensures.named, (c.keep_input.ensures, refl)),
 )
 
 pub returns-in-Memory-clause-cause : goal.returns-in-Memory-clause-cause

@@ -1,6 +1,6 @@
 -- what became of the index is told
 use Rattle.std.proofs.Common.{refl, Ok, Err}
-use Rattle.vt_upkeep.specs.declared.bad.UpkeepBad.TheVariants.{Unopened, Ended}
+use Rattle.vt_maintain.specs.declared.error.MaintainError.TheVariants.{Unopened, Ended}
 use Rattle.run_stores.proofs.commands.buildindex.rebuild_conf.Goals as goal
 
 pub returns-in-Ok : goal.returns-in-Ok
@@ -28,5 +28,5 @@ returns-in-Err-Ended g c =
       result = Err (Ended c.in-Err-Ended.bad);
       uses = ensures.uses;
       differs = ensures.differs;
-      told = ((c.failure_of.result, refl, c.failure_of.ensures), refl);
+      told = ((c.rebuild_failure.result, refl, c.rebuild_failure.ensures), refl);
     }

@@ -1,7 +1,7 @@
 use Rattle.std.proofs.Common.{Ok, Err, refl, inl, inr}
 use Rattle.std.proofs.lemmas.Result.{err_from_is_err_and}
-use Rattle.vt_tree.specs.declared.err.TreeErr.TheVariants as trees
-use Rattle.vac_read.specs.declared.err.VacBad.TheVariants.{Tree, NoMemory}
+use Rattle.vt_tree.specs.declared.error.TreeErr.TheVariants as trees
+use Rattle.vac_read.specs.declared.error.VacBad.TheVariants.{Tree, NoMemory}
 use Rattle.vac_read.proofs.Opening.{archive_is, no_archive, no_entries_refuse, no_root_refuses, top_is, two_blocks}
 use Rattle.vac_read.proofs.Readings.{block_told, reads_as, reads_then}
 use Rattle.vac_read.proofs.archive.Archive.at.Goals as goal

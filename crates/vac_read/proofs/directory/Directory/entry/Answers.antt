@@ -1,6 +1,6 @@
 use Rattle.std.proofs.Common.{Ok, Err, List, ℕ, take, drop, refl, ◌∙◌, ap, inl, arith}
 use Rattle.std.proofs.lemmas.Result.{err_from_is_err_and}
-use Rattle.vac_read.specs.declared.err.VacBad.TheVariants.{Meta}
+use Rattle.vac_read.specs.declared.error.VacBad.TheVariants.{Meta}
 use Rattle.vac_read.proofs.Leaves.{bytes_refuse_nothing, told_entry, unread_entry}
 use Rattle.vac_read.proofs.Readings.{reads_nothing, reads_as}
 use Rattle.vac_read.proofs.directory.Directory.entry.Goals as goal

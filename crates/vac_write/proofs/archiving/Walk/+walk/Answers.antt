@@ -2,21 +2,21 @@ use Rattle.std.proofs.Common.{◌≡◌, ℕ, ◌+◌, ◌/◌, ◌<◌, ◌≤�
 use Rattle.std.specs.Vec.Iter.{into_iter_items}
 use Rattle.std.proofs.lemmas.List.{nil_from_length}
 use Rattle.std.proofs.lemmas.Result.{err_from_is_err_and, IfOk-weaker, on_ok_weaker, IfErr-weaker}
-use Rattle.vt_folder.specs.declared.item.Item.{Item}
-use Rattle.vt_folder.specs.declared.item.ItemKind.{ItemKind}
-use Rattle.vt_folder.specs.Items.{none, listing_of}
-use Rattle.vt_tree.specs.Entries.{spelled as entry_bytes}
+use Rattle.vt_out.specs.declared.folder_item.Item.{Item}
+use Rattle.vt_out.specs.declared.folder_item.ItemKind.{ItemKind}
+use Rattle.vt_out.specs.FolderItems.{none, listing_of}
+use Rattle.vt_tree.specs.Entries.{tree_entry_bytes}
 use Rattle.vac_meta.specs.declared.record.RecordKind.TheVariants.{Folder}
-use Rattle.vac_meta.specs.Records.{all_spelled, spelled as record_bytes}
+use Rattle.vac_meta.specs.Records.{all_spelled, record_bytes}
 use Rattle.vac_model.specs.declared.TheConstants.{MIN_BLOCK_SIZE, MAX_BLOCK_SIZE, MAX_NESTING}
 use Rattle.vac_model.specs.Archives.{records_of}
 use Rattle.vac_model.specs.Kept.{kept, numbered}
 use Rattle.vac_write.specs.declared.archiving.Walk.{Walk}
-use Rattle.vac_write.specs.declared.err.VacErr.{VacErr}
-use Rattle.vac_write.specs.declared.err.VacErr.TheVariants.{NoMemory}
-use Rattle.vac_write.specs.Listing.{AreListed, IsNotListed, FitsItem, IfKept}
+use Rattle.vac_write.specs.declared.error.VacErr.{VacErr}
+use Rattle.vac_write.specs.declared.error.VacErr.TheVariants.{NoMemory}
+use Rattle.vac_write.specs.Listing.{AreListed, IsNotListed, FitsArchivedItem, IfKept}
 use Rattle.vac_write.specs.Puts.{GivesUpBlocks, IsOfStore}
-use Rattle.vac_write.specs.Walking.{streams_blocks, AreItems, WritesStreams, ArchivesItems, GivesUpItem, GivesUpItems}
+use Rattle.vac_write.specs.Walking.{streams_blocks, AreItemsAt, WritesStreams, ArchivesItems, GivesUpItem, GivesUpItems}
 use Rattle.vac_write.proofs.Causes.{err_both, of_store_counts, short_of_memory}
 use Rattle.vac_write.proofs.Fits.{fits_item, short_streams}
 use Rattle.vac_write.proofs.Followed.{followed, listing_followed}
@@ -134,9 +134,9 @@ archive_folder-returns-clause-archived g t c =
     c.in_ok-qid.ensures.path c.in_ok-qid.ensures.left.0 next inside e a new from
     c.add_entry-2.new.self c.in_ok-inside.ensures.allowed.0 c.in_ok-inside.ensures.allowed.1
     record_is.time refl path refl refl c.in_ok-qid.ensures.left.1
-    (written ∙ ap (λ (l : List ℕ). l ++ entry_bytes e.metadata)
+    (written ∙ ap (λ (l : List ℕ). l ++ tree_entry_bytes e.metadata)
     (c.in_ok-add_entry.ensures.written
-    ∙ ap (λ (l : List ℕ). l ++ entry_bytes e.entries) record_is.entries))
+    ∙ ap (λ (l : List ℕ). l ++ tree_entry_bytes e.entries) record_is.entries))
     (c.add_entry-2.ensures.metadata ∙ c.in_ok-add_entry.ensures.metadata ∙ record_is.written
     ∙ ap (λ (q : ℕ). from.metadata.items ++ record_bytes
     (record_for item Folder (length from.entries.items / 40) q)) c.in_ok-qid.ensures.qid.0))
@@ -175,7 +175,7 @@ archive_folder-returns-clause-cause g t c =
 
 pub archive_item-archive_file-requires-clause-fits : goal.archive_item-archive_file-requires-clause-fits
 archive_item-archive_file-requires-clause-fits g t c =
-    subst (λ (k : ItemKind). IfKept k (FitsItem c.args.item)) c.in-File.is c.requires.fits
+    subst (λ (k : ItemKind). IfKept k (FitsArchivedItem c.args.item)) c.in-File.is c.requires.fits
 
 pub archive_item-returns-in-Other-clause-archived : goal.archive_item-returns-in-Other-clause-archived
 archive_item-returns-in-Other-clause-archived g t c =
@@ -240,7 +240,7 @@ archive_items-loop-item-preserved g t c =
     c.in-Some.ensures.steps.0 in
     let are = are_as g.F.Folder.tells (g.F.Folder.holds c.loop-item.folder) held old.path.items
     one.part so.stays (subst (λ (p : List (List ℕ)).
-    AreItems g.F.Folder.tells (g.F.Folder.holds c.loop-item.folder) p one.part)
+    AreItemsAt g.F.Folder.tells (g.F.Folder.holds c.loop-item.folder) p one.part)
     so.archived.path one.are) in record {
       items = so.items;
       listed = so.listed;
@@ -356,7 +356,7 @@ archive_items-archive_item-requires g t c =
     omega (arith, so.archived.bsize, c.requires.most) in
     let deep : length c.loop-item.self.path.items ≤ MAX_NESTING =
     omega (arith, same, c.requires.deep) in
-    let fits : IfKept item.kind (FitsItem item) =
+    let fits : IfKept item.kind (FitsArchivedItem item) =
     fits_item g.F.Folder.tells held old.path.items so.items (listing_of so.done) item tail so.listed
     (so.left ∙ ap (λ (l : List Item). listing_of so.done ++ l) step) in
     let few : length c.loop-item.streams.entries.items / 40 < 2 ^ 32 =

@@ -1,10 +1,10 @@
 use Rattle.std.proofs.Common.{◌≡◌, ◌+◌, ◌-◌, ◌*◌, IsTrue, List, [], ◌++◌, length}
 use Rattle.std.specs.Vec.Iter.{into_iter_items, into_iter_len}
-use Rattle.vt_folder.specs.declared.item.Facts.{Facts}
-use Rattle.vt_folder.specs.declared.item.Item.{Item}
-use Rattle.vt_folder.specs.Items.{Items, listing_of}
+use Rattle.vt_out.specs.declared.folder_item.Facts.{Facts}
+use Rattle.vt_out.specs.declared.folder_item.Item.{Item}
+use Rattle.vt_out.specs.FolderItems.{Items, listing_of}
 use Rattle.vac_write.specs.Listing.{AreListed}
-use Rattle.vac_write.specs.Walking.{AreItems, ArchivesPart}
+use Rattle.vac_write.specs.Walking.{AreItemsAt, ArchivesPart}
 use Rattle.vac_write.proofs.archiving.Walk.+walk.Given as goal
 
 abbrev pub decreases-archive_items : goal.decreases-archive_items
@@ -24,7 +24,7 @@ invariant-archive_items-loop-item g l = record {
   done : Items Facts;
   left : items ≡ listing_of done ++ into_iter_items l.item-iterator;
   len : into_iter_len l.item-iterator ≡ length (into_iter_items l.item-iterator);
-  are : AreItems g.F.Folder.tells (g.F.Folder.holds l.fn.folder) l.fn.self.path.items done;
+  are : AreItemsAt g.F.Folder.tells (g.F.Folder.holds l.fn.folder) l.fn.self.path.items done;
   archived : ArchivesPart g.B.Blocks.does g.B.Scorer.score_of l.fn.blocks l.blocks l.fn.self
       l.self l.initial.streams l.streams done;
   no_entries : l.initial.streams.entries.items ≡ [];

@@ -1,13 +1,13 @@
 use Rattle.std.proofs.Common.{◌≡◌, ℕ, ◌/◌, vec_len, List, [], ◌∷◌, ◌++◌, length, refl, sym, ◌∙◌, ap, subst, arith}
 use Rattle.std.proofs.lemmas.Result.{err_from_is_err_and, on_ok_weaker, IfErr-weaker}
-use Rattle.vt_tree.specs.Entries.{spelled as entry_bytes}
+use Rattle.vt_tree.specs.Entries.{tree_entry_bytes}
 use Rattle.vt_tree.specs.Writing.{WritesStream}
 use Rattle.vac_meta.specs.declared.record.RecordKind.TheVariants.{File}
-use Rattle.vac_meta.specs.Records.{spelled as record_bytes}
+use Rattle.vac_meta.specs.Records.{record_bytes}
 use Rattle.vac_model.specs.Archives.{file_shape}
 use Rattle.vac_write.specs.declared.archiving.Walk.{Walk}
-use Rattle.vac_write.specs.declared.err.VacErr.{VacErr}
-use Rattle.vac_write.specs.declared.err.VacErr.TheVariants.{NoMemory}
+use Rattle.vac_write.specs.declared.error.VacErr.{VacErr}
+use Rattle.vac_write.specs.declared.error.VacErr.TheVariants.{NoMemory}
 use Rattle.vac_write.specs.Files.{IsWholeFile, GivesUpTree}
 use Rattle.vac_write.specs.Walking.{GivesUpItem}
 use Rattle.vac_write.proofs.Causes.{short_of_memory}
@@ -90,7 +90,7 @@ returns-clause-archived g c =
     c.add_entry.new.self entry wrote c.in_ok-entry.ensures.entry record_is.time
     (omega (arith, c.in_ok-qid.ensures.qid.0, c.in_ok-qid.ensures.qid.1)) path
     c.in_ok-qid.ensures.left.0 c.in_ok-qid.ensures.left.1
-    (written ∙ ap (λ (l : List ℕ). l ++ entry_bytes entry) record_is.entries)
+    (written ∙ ap (λ (l : List ℕ). l ++ tree_entry_bytes entry) record_is.entries)
     (c.add_entry.ensures.metadata ∙ record_is.written
     ∙ ap (λ (q : ℕ). from.metadata.items ++ record_bytes
     (record_for item File (length from.entries.items / 40) q)) c.in_ok-qid.ensures.qid.0))

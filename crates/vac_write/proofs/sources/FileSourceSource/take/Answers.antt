@@ -2,7 +2,7 @@ use Rattle.std.proofs.Common.{◌≡◌, ◌≤◌, ◌+◌, ℕ, inl, inr, List
 use Rattle.std.proofs.lemmas.Bool.{cases_lt}
 use Rattle.std.proofs.lemmas.Grind.{common_steps}
 use Rattle.std.proofs.lemmas.List.{drop_all}
-use Rattle.vac_write.specs.Sources.{file_of, file_is, or_none}
+use Rattle.vac_write.specs.Sources.{bytes_at_path, file_is, or_none}
 use Rattle.vac_write.proofs.Pieces.{moved, came, rest_of}
 use Rattle.vac_write.proofs.sources.FileSourceSource.take.Goals as goal
 
@@ -11,9 +11,9 @@ returns-clause-moved g c told =
     let self = c.args.self.now in
     let path = self.path.now in
     let m = c.in_ok-n.ensures.moved told in
-    let file : file_of path (g.F.Folder.holds self.folder.now) ≡ m.0 = ap or_none m.1 in
-    let after : file_of path (g.F.Folder.holds c.read.new.self) ≡ m.0 =
-    ap (file_of path) (c.in_ok-n.ensures.stays told) ∙ file in
+    let file : bytes_at_path path (g.F.Folder.holds self.folder.now) ≡ m.0 = ap or_none m.1 in
+    let after : bytes_at_path path (g.F.Folder.holds c.read.new.self) ≡ m.0 =
+    ap (bytes_at_path path) (c.in_ok-n.ensures.stays told) ∙ file in
     let n = c.in_ok-n.n in
     let behind = drop c.min-room.result c.args.buf.now in
     ap (drop self.at) file
@@ -26,9 +26,9 @@ returns-clause-came g c told =
     let self = c.args.self.now in
     let path = self.path.now in
     let m = c.in_ok-n.ensures.moved told in
-    let file : file_of path (g.F.Folder.holds self.folder.now) ≡ m.0 = ap or_none m.1 in
-    let after : file_of path (g.F.Folder.holds c.read.new.self) ≡ m.0 =
-    ap (file_of path) (c.in_ok-n.ensures.stays told) ∙ file in
+    let file : bytes_at_path path (g.F.Folder.holds self.folder.now) ≡ m.0 = ap or_none m.1 in
+    let after : bytes_at_path path (g.F.Folder.holds c.read.new.self) ≡ m.0 =
+    ap (bytes_at_path path) (c.in_ok-n.ensures.stays told) ∙ file in
     let n = c.in_ok-n.n in
     let behind = drop c.min-room.result c.args.buf.now in
     ap (take (self.at + n)) after
@@ -41,7 +41,7 @@ returns-clause-end g c told none room =
     let self = c.args.self.now in
     let path = self.path.now in
     let m = c.in_ok-n.ensures.moved told in
-    let file : file_of path (g.F.Folder.holds self.folder.now) ≡ m.0 = ap or_none m.1 in
+    let file : bytes_at_path path (g.F.Folder.holds self.folder.now) ≡ m.0 = ap or_none m.1 in
     let few = (file_is path (g.F.Folder.holds self.folder.now)
     (g.met.F.Folder.holds_bytes self.folder.now)).few in
     let over : length m.0 ≤ self.at = elim (cases_lt 0 c.min-room.result) [

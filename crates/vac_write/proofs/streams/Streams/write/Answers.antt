@@ -1,6 +1,6 @@
 use Rattle.std.proofs.Common.{ℕ, List, ap, subst, ◌∙◌}
 use Rattle.std.proofs.lemmas.Result.{err_from_is_err_and}
-use Rattle.vt_tree.specs.Streams.{stream_of, entry_of}
+use Rattle.vt_tree.specs.Streams.{stream_of, entry_of_stream}
 use Rattle.vac_model.specs.Archives.{file_shape, directory_shape}
 use Rattle.vac_write.specs.Puts.{PutsBlocks, GivesUpBlocks}
 use Rattle.vac_write.proofs.Puts.{puts_join, gives_front, gives_later}
@@ -49,10 +49,10 @@ returns-clause-written g c =
     c.deref-2.ensures.value c.in_ok-metadata.ensures.written in
     record {
       entries = c.in_ok-entries.ensures.entry.0
-          ∙ ap (λ (l : List ℕ). entry_of score_of (directory_shape bsize) l)
+          ∙ ap (λ (l : List ℕ). entry_of_stream score_of (directory_shape bsize) l)
           c.deref.ensures.value;
       metadata = c.in_ok-metadata.ensures.entry.0
-          ∙ ap (λ (l : List ℕ). entry_of score_of (file_shape bsize) l) c.deref-2.ensures.value;
+          ∙ ap (λ (l : List ℕ). entry_of_stream score_of (file_shape bsize) l) c.deref-2.ensures.value;
       put = puts_join g.B.Blocks.does c.args.blocks.now c.write_bytes.new.blocks
           c.write_bytes-2.new.blocks
           (stream_of score_of (directory_shape bsize) c.args.self.now.entries.items).blocks

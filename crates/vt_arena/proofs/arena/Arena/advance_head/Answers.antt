@@ -1,5 +1,5 @@
 use Rattle.std.proofs.Common.{◌≡◌, true, Ok, Err, ◌∙◌, ap, arith}
-use Rattle.vt_disk.specs.declared.call.CallErr.{CallErr}
+use Rattle.vt_disk.specs.declared.call.CallError.{CallError}
 use Rattle.vt_twin.specs.declared.step.Step.TheVariants.{More, Done}
 use Rattle.vt_twin.specs.Twin.{TwinState, without_spare}
 use Rattle.vt_twin.proofs.Advances.{is_the_fault}
@@ -20,7 +20,7 @@ invariant_of-self-in-Err g c = failed_whole c.self.inside c.advance.new.self (c.
 
 pub returns-in-Ok-More-clause-sound : goal.returns-in-Ok-More-clause-sound
 returns-in-Ok-More-clause-sound g c score_of old told sound =
-    head_step {E = CallErr} score_of _ c.args.region old _ _ _ _ c.requires.region.len.0 c.advance.ensures.within.images (c.advance.ensures.within.bytes told)
+    head_step {E = CallError} score_of _ c.args.region old _ _ _ _ c.requires.region.len.0 c.advance.ensures.within.images (c.advance.ensures.within.bytes told)
     (rw (← c.self.view_is) at sound) (rw (← c.self.view_is) at c.requires.begun) c.advance.new.self c.advance.ensures.len (Ok More) _
     (ap (λ (t : TwinState). record (state_of c.self.inside) { twin = t }) (rw c.in-Ok-More.field-0-is at (c.in-Ok-More.ensures.steps c.requires.runs.1)))
     (rw c.in-Ok-More.field-0-is at (c.in-Ok-More.ensures.steps c.requires.runs.1)) (rw c.in-Ok-More.field-0-is at c.in-Ok-More.ensures.done)
@@ -28,7 +28,7 @@ returns-in-Ok-More-clause-sound g c score_of old told sound =
 
 pub returns-in-Err-clause-sound : goal.returns-in-Err-clause-sound
 returns-in-Err-clause-sound g c score_of old told sound =
-    head_step {E = CallErr} score_of _ c.args.region old _ _ _ _ c.requires.region.len.0 c.advance.ensures.within.images (c.advance.ensures.within.bytes told)
+    head_step {E = CallError} score_of _ c.args.region old _ _ _ _ c.requires.region.len.0 c.advance.ensures.within.images (c.advance.ensures.within.bytes told)
     (rw (← c.self.view_is) at sound) (rw (← c.self.view_is) at c.requires.begun) c.advance.new.self c.advance.ensures.len (Err c.in-Err.err) _
     (ap (λ (t : TwinState). record (state_of c.self.inside) { twin = t; failed = true }) (c.in-Err.ensures.steps c.requires.runs.1))
     (c.in-Err.ensures.steps c.requires.runs.1) tt tt (λ frame. c.in-Err.ensures.sound frame told)
@@ -38,7 +38,7 @@ returns-in-Ok-Done-clause-sound g c score_of old told sound =
     let steps = rw c.in-Ok-Done.field-0-is at (c.in-Ok-Done.ensures.steps c.requires.runs.1) in
     let idle = c.idle.ensures.same ∙ ap (λ (t : TwinState). without_spare t) steps in
     rw (← c.self.view_is)
-    (head_step {E = CallErr} score_of _ c.args.region old _ _ _ _ c.requires.region.len.0 c.advance.ensures.within.images (c.advance.ensures.within.bytes told)
+    (head_step {E = CallError} score_of _ c.args.region old _ _ _ _ c.requires.region.len.0 c.advance.ensures.within.images (c.advance.ensures.within.bytes told)
     (rw (← c.self.view_is) at sound) (rw (← c.self.view_is) at c.requires.begun) c.advance.new.self c.advance.ensures.len (Ok Done) _
     (λ i. record (state_of c.self.inside) { twin = idle i; head = c.self.inside.next; staged = c.clear.ensures.items i; written = 0 })
     (rw c.in-Ok-Done.field-0-is at (c.in-Ok-Done.ensures.steps c.requires.runs.1)) (rw c.in-Ok-Done.field-0-is at c.in-Ok-Done.ensures.done)

@@ -2,7 +2,7 @@ use Rattle.std.proofs.Common.{◌≡◌, ◌+◌, ◌-◌, ◌*◌, ◌≤◌, �
 use Rattle.vt_disk.specs.Disk.{part}
 use Rattle.vt_check.specs.declared.clumps.Cut.{Cut}
 use Rattle.vt_check.specs.Following.{CutsFirst, IsFrontOf, entries_in}
-use Rattle.vt_check.specs.Reading.{IsNext}
+use Rattle.vt_check.specs.Reading.{AreNextCuts}
 use Rattle.vt_check.proofs.Checks.{reads_then, stands_same}
 use Rattle.vt_check.proofs.Fronts.{is_next}
 use Rattle.vt_check.proofs.Lists.{on_ok}
@@ -35,7 +35,7 @@ returns-clause-next g c = λ r disk tells at.
     let First : List ℕ → Type 0 = λ w. (all : List ℕ) → IsFrontOf more w all → CutsFirst w all cuts in
     let Entered : List ℕ → Type 0 = λ es. map (λ (cut : Cut). cut.entry) cuts ++ entries_in (count - length cuts) es ≡ entries_in count es in
     on_ok c.cut_all.result (First c.deref.result.now) (Entered c.deref-2.result.now)
-    (IsNext r.region file c.args.head.now.clumps k used window cuts) c.cut_all.ensures.first c.cut_all.ensures.entries
+    (AreNextCuts r.region file c.args.head.now.clumps k used window cuts) c.cut_all.ensures.first c.cut_all.ensures.entries
     (λ first entered. is_next r.region file c.args.head.now.clumps k used window entries more len count cuts
     (omega (arith, its, c.requires.begun)) (c.in_ok-read.ensures.read r disk tells at) c.in_ok-read.ensures.len
     (omega (arith, its, c.requires.begun, c.min.ensures, c.min-bytes.ensures)) (ap (λ (n : ℕ). nat_lt len (n - 24576 - used)) its)

@@ -1,6 +1,6 @@
 use Rattle.std.proofs.Common.{Ok, sym, ◌∙◌, ap, subst}
 use Rattle.vt_base.specs.Faults.{one_more}
-use Rattle.vt_client.specs.Clients.{Asks, ClientState, taking_in}
+use Rattle.vt_client.specs.Clients.{AsksRequest, ClientState, taking_in}
 use Rattle.vt_client.proofs.Storing.{gave, kept, refused, refused_counts, refused_sent}
 use Rattle.vt_client.proofs.blocks.ClientBlocks.put.Goals as goal
 
@@ -18,7 +18,7 @@ returns-in-Ok-clause-done g c =
       refused = old.refused;
       sent = old.sent;
     } in
-    let asks = subst (λ (s : ClientState g.row.L.Denot). Asks link score_of w c.args.self.now s
+    let asks = subst (λ (s : ClientState g.row.L.Denot). AsksRequest link score_of w c.args.self.now s
     (Ok c.in-Ok.score)) (sym c.self.view_is) c.in-Ok.ensures.asks in
     let stays = kept link score_of w c.args.self.now now (Ok c.in-Ok.score) asks in
     record {

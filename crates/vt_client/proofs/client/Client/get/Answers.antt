@@ -1,5 +1,5 @@
 use Rattle.std.proofs.Common.{◌≡◌, ℕ, ◌+◌, ◌%◌, List, length, drop, subst, ◌∙◌}
-use Rattle.vt_client.specs.Clients.{Asks, ClientState, block_of}
+use Rattle.vt_client.specs.Clients.{AsksRequest, ClientState, wanted_block}
 use Rattle.vt_client.proofs.Asking.{Asked, asked_by_buffer, asked_in_vain, asks_so}
 use Rattle.vt_client.proofs.client.Client.get.Goals as goal
 use Rattle.vt_client.proofs.client.Client.get.Goals.{in-Ok, in-Err}
@@ -18,7 +18,7 @@ returns-clause-asks g c =
       sent = old.sent;
     } in
     let answer = c.match-exchange.answer in
-    let sent = block_of c.args.score.now.0 c.wire.result in
+    let sent = wanted_block c.args.score.now.0 c.wire.result in
     let asked : Asked g.L.Link score_of old.tag sent old.link new.link answer =
     elim c.match-exchange.branch [
       | in-Ok w ↦ asked_by_buffer g.L.Link score_of old.tag sent old.link new.link new.buf
@@ -31,11 +31,11 @@ returns-clause-asks g c =
           answer w.answer-is w.in-Err.ensures.exchanged w.in-Err.ensures.about
           w.in-Err.ensures.sides
     ] in
-    let wanted = block_of c.args.score.now.0 c.args.kind in
-    subst (λ (s : ClientState g.row.L.Denot). Asks g.L.Link score_of wanted s
+    let wanted = wanted_block c.args.score.now.0 c.args.kind in
+    subst (λ (s : ClientState g.row.L.Denot). AsksRequest g.L.Link score_of wanted s
     (record was { link = new.link; tag = (old.tag + 1) % 256; spent = c.ends-self-inside.result })
     answer) c.self.view_is
     (asks_so g.L.Link score_of wanted was new.link c.ends-self-inside.result answer
     c.if-self.false c.ends-self-inside.ensures
-    (subst (λ (k : ℕ). Asked g.L.Link score_of old.tag (block_of c.args.score.now.0 k) old.link
+    (subst (λ (k : ℕ). Asked g.L.Link score_of old.tag (wanted_block c.args.score.now.0 k) old.link
     new.link answer) c.wire.ensures.number asked))

@@ -2,7 +2,7 @@ use Rattle.std.proofs.Common.{Err, refl, inr, subst, take}
 use Rattle.vt_wire.specs.Messages.{asked}
 use Rattle.vt_base.specs.Protocol.{t_goodbye}
 use Rattle.vt_client.specs.Clients.{ClientState, SaysGoodbye}
-use Rattle.vt_client.specs.declared.err.ClientErr.TheVariants.{WriteFault}
+use Rattle.vt_client.specs.declared.error.ClientErr.TheVariants.{WriteFault}
 use Rattle.vt_client.proofs.Moving.{Moves-part}
 use Rattle.vt_client.proofs.client.Client.goodbye.Goals as goal
 

@@ -1,5 +1,5 @@
 use Rattle.std.proofs.Common.{◌≡◌, ℕ, ◌+◌, ◌%◌, List, length, drop, subst, ◌∙◌}
-use Rattle.vt_client.specs.Clients.{Asks, ClientState, taking_in}
+use Rattle.vt_client.specs.Clients.{AsksRequest, ClientState, taking_in}
 use Rattle.vt_client.proofs.Asking.{Asked, asked_by_buffer, asked_in_vain, asks_so}
 use Rattle.vt_client.proofs.client.Client.put.Goals as goal
 use Rattle.vt_client.proofs.client.Client.put.Goals.{in-Ok, in-Err}
@@ -33,7 +33,7 @@ returns-clause-asks g c =
           w.in-Err.ensures.sides
     ] in
     let wanted = taking_in score_of c.args.kind c.args.bytes.now in
-    subst (λ (s : ClientState g.row.L.Denot). Asks g.L.Link score_of wanted s
+    subst (λ (s : ClientState g.row.L.Denot). AsksRequest g.L.Link score_of wanted s
     (record was { link = new.link; tag = (old.tag + 1) % 256; spent = c.ends-self-inside.result })
     answer) c.self.view_is
     (asks_so g.L.Link score_of wanted was new.link c.ends-self-inside.result answer

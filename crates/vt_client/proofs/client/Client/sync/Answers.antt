@@ -1,5 +1,5 @@
 use Rattle.std.proofs.Common.{◌≡◌, ℕ, ◌+◌, ◌%◌, List, length, drop, subst, ◌∙◌}
-use Rattle.vt_client.specs.Clients.{Asks, ClientState, committing}
+use Rattle.vt_client.specs.Clients.{AsksRequest, ClientState, committing}
 use Rattle.vt_client.proofs.Asking.{Asked, asked_by_buffer, asked_in_vain, asks_so}
 use Rattle.vt_client.proofs.client.Client.sync.Goals as goal
 use Rattle.vt_client.proofs.client.Client.sync.Goals.{in-Ok, in-Err}
@@ -31,7 +31,7 @@ returns g c =
           answer w.answer-is w.in-Err.ensures.exchanged w.in-Err.ensures.about
           w.in-Err.ensures.sides
     ] in
-    subst (λ (s : ClientState g.row.L.Denot). Asks g.L.Link score_of committing s
+    subst (λ (s : ClientState g.row.L.Denot). AsksRequest g.L.Link score_of committing s
     (record was { link = new.link; tag = (old.tag + 1) % 256; spent = c.ends-self-inside.result })
     answer) c.self.view_is
     (asks_so g.L.Link score_of committing was new.link c.ends-self-inside.result answer

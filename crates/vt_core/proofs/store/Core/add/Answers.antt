@@ -6,7 +6,7 @@ use Rattle.vt_base.specs.declared.key.Key.{Key}
 use Rattle.vt_base.specs.declared.score.Score.{Score as ScoreOf}
 use Rattle.vt_base.specs.declared.why.Why.TheVariants.{NoMemory}
 use Rattle.vt_base.specs.Protocol.{write}
-use Rattle.vt_bloom.specs.Bits.{Marks}
+use Rattle.vt_bloom.specs.Bits.{MarksScore}
 use Rattle.vt_clump.specs.declared.packed.Packed.{Packed}
 use Rattle.vt_clump.specs.Clumps.{IsPacked, stored_of}
 use Rattle.vt_icache.specs.Index.{dirty_info}
@@ -114,7 +114,7 @@ invariant_of-self g c =
     let below : c.args.shard < length k.shards = subst (λ (m : CoreState g.row.D.Denot). c.args.shard < length m.shards) (sym c.self.view_is) c.requires.within in
     let at : slice_get k.shards c.args.shard ≡ Some s = there_is k.shards c.args.shard s s below (sym c.index_mut.ensures.value) in (
       adding_whole g.S.Scorer.score_of g.D.Disk k c.args.shard s at packed (parts_of c.add_block.new.log c.add_block.new.shard) c.add_block.ensures.adds c.mark_bits.new.self
-          (subst (λ (x : ScoreOf). Marks k.bits x.0 c.mark_bits.new.self) (sym c.in-Ok.ensures.score) c.mark_bits.ensures)
+          (subst (λ (x : ScoreOf). MarksScore k.bits x.0 c.mark_bits.new.self) (sym c.in-Ok.ensures.score) c.mark_bits.ensures)
           c.marked_scores_stay.ensures.stay c.marked_scores_stay.ensures.marked c.self.invariant.0,
       room_stays k.shards c.args.shard c.add_block.new.shard c.self.inside.room c.self.invariant.1,
     )
@@ -176,7 +176,7 @@ returns-clause-sound g c = λ h block tells sound added said.
     (c.refusals_add_nothing.ensures.operation score (setup_of c.args.self.now) h (write key.kind c.args.block.now) block added) in
     let scored : key.score.0 ≡ score block.block.bytes = c.requires.scored ∙ ap score bytes in
     adding_sound score g.D.Disk k c.args.shard s at packed after c.add_block.ensures.adds c.mark_bits.new.self
-    (subst (λ (x : ScoreOf). Marks k.bits x.0 c.mark_bits.new.self) (sym c.in-Ok.ensures.score) c.mark_bits.ensures)
+    (subst (λ (x : ScoreOf). MarksScore k.bits x.0 c.mark_bits.new.self) (sym c.in-Ok.ensures.score) c.mark_bits.ensures)
     c.marked_scores_stay.ensures.stay c.marked_scores_stay.ensures.marked c.self.invariant.0 c.sections_have_ranges.ensures c.others_are_added.ensures h block here
     (subst (λ (x : List ℕ). HasScore s x) scored (c.requires.has s (subst (λ (m : CoreState g.row.D.Denot). slice_get m.shards c.args.shard ≡ Some s) c.self.view_is at)))
     (ap (λ (x : ScoreOf). x.0) c.in-Ok.ensures.score ∙ scored) parts

@@ -3,7 +3,7 @@ use Rattle.std.specs.Prelude.{sum}
 use Rattle.std.proofs.lemmas.List.{length-map}
 use Rattle.vt_base.specs.declared.mount.MountBad.{MountBad}
 use Rattle.vt_base.specs.declared.mount.MountField.TheVariants.{Arenas}
-use Rattle.vt_log.specs.Faults.{RefusesMount}
+use Rattle.vt_log.specs.Faults.{RefusesLogMount}
 use Rattle.vt_log.specs.Log.{disks_of}
 use Rattle.vt_log.specs.Logs.{arena_count}
 use Rattle.vt_part.specs.Layout.{AreDistinct, layout_of}
@@ -11,8 +11,8 @@ use Rattle.vt_part.specs.Parts.{disk_of, table_of, tables_of}
 use Rattle.vt_part.specs.Table.{Table}
 use Rattle.vt_part.specs.declared.layout.ArenaRegion.{ArenaRegion}
 use Rattle.vt_part.specs.declared.part.Part.{Part}
-use Rattle.vt_told.specs.Told.{of_log}
-use Rattle.vt_told.proofs.Partitions.{length_laid}
+use Rattle.vt_mount_errors.specs.MountErrors.{of_log}
+use Rattle.vt_mount_errors.proofs.Partitions.{length_laid}
 use Rattle.vt_recover.specs.declared.devices.Devices.{Devices}
 use Rattle.vt_core.specs.Mounting.{devices_in, tables_in}
 use Rattle.vt_core.specs.Opening.{IsMountOf}
@@ -169,7 +169,7 @@ returns-in-Err-mount-clause-found g c =
     let told : of_log (layout_of tables) c.in-Err-mount.bad ≡ c.of_log-bad.result =
     sym (c.of_log-bad.ensures ∙ ap (λ (t : List Table). of_log (layout_of t) c.in-Err-mount.bad) (ap tables_of c.deref-in-Err-mount.ensures.value ∙ e.handed_back)) in
     let it = log_mount g.S.Scorer.score_of g.D.Disk tables (disks_of d.parts.items) d.sections.items d.filter c.args.sizes c.args.sessions (disks_of c.in-Err-mount.parts.items) c.in-Err-mount.bad back refl e.handed_back
-    e.answer.0 e.answer.1 (subst (λ (n : List (List ℕ)). RefusesMount n (layout_of tables) e.answer.0 c.in-Err-mount.bad) (names_same d.parts.items) e.answer.2) e.disks e.cause
+    e.answer.0 e.answer.1 (subst (λ (n : List (List ℕ)). RefusesLogMount n (layout_of tables) e.answer.0 c.in-Err-mount.bad) (names_same d.parts.items) e.answer.2) e.disks e.cause
     (λ h base tells distinct is. e.found h base tells (subst AreDistinct (sym (names_same d.parts.items)) distinct) is) in
     let same : IsMountOf g.S.Scorer.score_of g.D.Disk tables (devices_in d) c.args.sizes c.args.sessions (Err (c.of_log-bad.result, back)) =
     subst (λ (b : MountBad). IsMountOf g.S.Scorer.score_of g.D.Disk tables (devices_in d) c.args.sizes c.args.sessions (Err (b, back))) told it in
@@ -184,7 +184,7 @@ returns-in-Err-mount-clause-standing g c =
     let told : of_log (layout_of tables) c.in-Err-mount.bad ≡ c.of_log-bad.result =
     sym (c.of_log-bad.ensures ∙ ap (λ (t : List Table). of_log (layout_of t) c.in-Err-mount.bad) (ap tables_of c.deref-in-Err-mount.ensures.value ∙ e.handed_back)) in
     let it = log_mount g.S.Scorer.score_of g.D.Disk tables (disks_of d.parts.items) d.sections.items d.filter c.args.sizes c.args.sessions (disks_of c.in-Err-mount.parts.items) c.in-Err-mount.bad back refl e.handed_back
-    e.answer.0 e.answer.1 (subst (λ (n : List (List ℕ)). RefusesMount n (layout_of tables) e.answer.0 c.in-Err-mount.bad) (names_same d.parts.items) e.answer.2) e.disks e.cause
+    e.answer.0 e.answer.1 (subst (λ (n : List (List ℕ)). RefusesLogMount n (layout_of tables) e.answer.0 c.in-Err-mount.bad) (names_same d.parts.items) e.answer.2) e.disks e.cause
     (λ h base tells distinct is. e.found h base tells (subst AreDistinct (sym (names_same d.parts.items)) distinct) is) in
     let same : IsMountOf g.S.Scorer.score_of g.D.Disk tables (devices_in d) c.args.sizes c.args.sessions (Err (c.of_log-bad.result, back)) =
     subst (λ (b : MountBad). IsMountOf g.S.Scorer.score_of g.D.Disk tables (devices_in d) c.args.sizes c.args.sessions (Err (b, back))) told it in
@@ -199,7 +199,7 @@ returns-in-Err-mount-clause-refused g c =
     let told : of_log (layout_of tables) c.in-Err-mount.bad ≡ c.of_log-bad.result =
     sym (c.of_log-bad.ensures ∙ ap (λ (t : List Table). of_log (layout_of t) c.in-Err-mount.bad) (ap tables_of c.deref-in-Err-mount.ensures.value ∙ e.handed_back)) in
     let it = log_mount g.S.Scorer.score_of g.D.Disk tables (disks_of d.parts.items) d.sections.items d.filter c.args.sizes c.args.sessions (disks_of c.in-Err-mount.parts.items) c.in-Err-mount.bad back refl e.handed_back
-    e.answer.0 e.answer.1 (subst (λ (n : List (List ℕ)). RefusesMount n (layout_of tables) e.answer.0 c.in-Err-mount.bad) (names_same d.parts.items) e.answer.2) e.disks e.cause
+    e.answer.0 e.answer.1 (subst (λ (n : List (List ℕ)). RefusesLogMount n (layout_of tables) e.answer.0 c.in-Err-mount.bad) (names_same d.parts.items) e.answer.2) e.disks e.cause
     (λ h base tells distinct is. e.found h base tells (subst AreDistinct (sym (names_same d.parts.items)) distinct) is) in
     let same : IsMountOf g.S.Scorer.score_of g.D.Disk tables (devices_in d) c.args.sizes c.args.sessions (Err (c.of_log-bad.result, back)) =
     subst (λ (b : MountBad). IsMountOf g.S.Scorer.score_of g.D.Disk tables (devices_in d) c.args.sizes c.args.sessions (Err (b, back))) told it in

@@ -5,7 +5,7 @@ use Rattle.vt_base.specs.Kind.{is_kind}
 use Rattle.vt_base.specs.declared.key.Key.{Key}
 use Rattle.vt_base.specs.declared.place.Entry.{Entry}
 use Rattle.vt_base.specs.declared.score.Score.{Score}
-use Rattle.vt_icache.specs.Index.{IndexState, IsKept, entry_in}
+use Rattle.vt_icache.specs.Index.{IndexState, IsCached, cached_entry}
 use Rattle.vt_icache.proofs.Found.{kept_kind, kind_bounds, found_is_kept, kept_is_found}
 use Rattle.vt_icache.proofs.cache.IndexCache.find_score.Goals as goal
 use Rattle.vt_icache.proofs.cache.IndexCache.find_score.Goals.{in-Some+else-is_some, in_default}
@@ -19,11 +19,11 @@ one_key entry score kind n scores kinds is =
 
 pub loop-number-init : goal.loop-number-init
 loop-number-init c = λ entry kept small scores.
-    let it = kind_bounds entry.key.kind (kept_kind _ c.self.invariant entry (subst (λ (s : IndexState). IsKept s entry) (sym c.self.view_is) kept)) in
+    let it = kind_bounds entry.key.kind (kept_kind _ c.self.invariant entry (subst (λ (s : IndexState). IsCached s entry) (sym c.self.view_is) kept)) in
     omega (arith, it.0, small)
 
-found_at : (key : Key) (s : IndexState) (o : Option Entry) → o ≡ entry_in key s → IfSome o (λ entry. entry.key ≡ key)
-    → IfSome o (λ entry. IsKept s entry × (entry.key.score.0 ≡ key.score.0))
+found_at : (key : Key) (s : IndexState) (o : Option Entry) → o ≡ cached_entry key s → IfSome o (λ entry. entry.key ≡ key)
+    → IfSome o (λ entry. IsCached s entry × (entry.key.score.0 ≡ key.score.0))
 found_at key s None is own = tt
 found_at key s (Some entry) is own = (found_is_kept key s entry (sym is), ap (λ (k : Key). k.score.0) own)
 
@@ -38,7 +38,7 @@ none_of (Some entry) is = absurd (true≢false is)
 
 pub loop-number-preserved : goal.loop-number-preserved
 loop-number-preserved c = λ entry kept small scores.
-    let kind = kept_kind _ c.self.invariant entry (subst (λ (s : IndexState). IsKept s entry) (sym c.self.view_is) kept) in
+    let kind = kept_kind _ c.self.invariant entry (subst (λ (s : IndexState). IsCached s entry) (sym c.self.view_is) kept) in
     ⊎_elim
     (λ (lt : entry.key.kind < c.loop-number.number). c.loop-number.invariant entry kept lt scores)
     (λ (ge : c.loop-number.number ≤ entry.key.kind).
@@ -57,5 +57,5 @@ loop-number-preserved c = λ entry kept small scores.
 
 pub returns-clause-none : goal.returns-clause-none
 returns-clause-none c = λ entry kept scores.
-    let it = kind_bounds entry.key.kind (kept_kind _ c.self.invariant entry (subst (λ (s : IndexState). IsKept s entry) (sym c.self.view_is) kept)) in
+    let it = kind_bounds entry.key.kind (kept_kind _ c.self.invariant entry (subst (λ (s : IndexState). IsCached s entry) (sym c.self.view_is) kept)) in
     c.loop-number.invariant entry kept (omega (arith, it.1)) scores

@@ -11,7 +11,7 @@ use Rattle.vt_base.specs.Kind.{IsKind}
 use Rattle.vt_base.specs.declared.key.Key.{Key}
 use Rattle.vt_base.specs.declared.place.Entry.{Entry}
 use Rattle.vt_base.specs.declared.place.Info.{Info}
-use Rattle.vt_icache.specs.Index.{IndexState, Settles, entry_of, with_clean}
+use Rattle.vt_icache.specs.Index.{IndexState, SettlesEntry, entry_of, with_clean}
 use Rattle.vt_icache.specs.Keeping.{clean_entries}
 use Rattle.vt_icache.specs.View.{state_of}
 use Rattle.vt_icache.proofs.Pairs.{AreKeyed, values, values_take, values_put, found, equal_keys, keyed_take, all_permuted, all_put, pair_at, none_before, slice_get_front}
@@ -148,7 +148,7 @@ returns-clause-settled c = λ info yes found_is.
     ⊎ (c.put.new.self ≡ c.self.inside.clean) =
     subst (λ (e : Entry). (c.put.new.self ≡ lru_cache (put_entries same_key c.self.inside.clean c.in-Some.info.key e) c.self.inside.clean.cap)
     ⊎ (c.put.new.self ≡ c.self.inside.clean)) c.entry_of.ensures put in
-    let it : Settles c.in-Some.info (state_of c.self.inside) (state_after c) = record {
+    let it : SettlesEntry c.in-Some.info (state_of c.self.inside) (state_after c) = record {
       dirty = subst (λ (l : List Info). IsPermutation l (c.in-Some.info ∷ take (n - 1) (values key new))) (values_take key n es)
           (subst (λ (l : List Info). IsPermutation (values key (take n es)) (c.in-Some.info ∷ l)) (values_take key (n - 1) new) infos);
       gone = gone;
@@ -157,5 +157,5 @@ returns-clause-settled c = λ info yes found_is.
       clean_room = cap_same c.self.inside.clean c.put.new.self c.in-Some.info.key c.entry_of.result put;
     } in
     let is : c.in-Some.info ≡ info = same_info _ c.in-Some.info info c.in-Some.ensures.found found_is in
-    subst (λ (x : Info). (x.number < c.args.below) × Settles x c.args.self.now (state_after c)) is
-    (c.if-info-below.false, subst (λ (s : IndexState). Settles c.in-Some.info s (state_after c)) c.self.view_is it)
+    subst (λ (x : Info). (x.number < c.args.below) × SettlesEntry x c.args.self.now (state_after c)) is
+    (c.if-info-below.false, subst (λ (s : IndexState). SettlesEntry c.in-Some.info s (state_after c)) c.self.view_is it)

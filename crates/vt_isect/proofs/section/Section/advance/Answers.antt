@@ -1,6 +1,6 @@
 use Rattle.std.proofs.Common.{Err, refl, sym, ap, ◌∙◌, subst}
 use Rattle.std.proofs.lemmas.Result.{IfErr-weaker}
-use Rattle.vt_isect.specs.declared.bad.ShardErr.TheVariants.{Stopped}
+use Rattle.vt_isect.specs.declared.error.ShardErr.TheVariants.{Stopped}
 use Rattle.vt_isect.specs.Section.{PutsEntries}
 use Rattle.vt_isect.specs.View.{state_of}
 use Rattle.vt_isect.proofs.Follows.{keeps_quiet}

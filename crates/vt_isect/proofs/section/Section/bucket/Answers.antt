@@ -1,11 +1,11 @@
 use Rattle.std.proofs.Common.{◌≡◌, ◌+◌, ◌*◌, ◌-◌, Result, Ok, Err, IsTrue, ap, ◌∙◌, subst}
 use Rattle.std.specs.Prelude.{IfErr, IsOkAnd}
 use Rattle.std.proofs.lemmas.Result.{IfOk-weaker, IfErr-weaker}
-use Rattle.vt_bucket.specs.Buckets.{entries_of}
+use Rattle.vt_bucket.specs.Buckets.{bucket_entries}
 use Rattle.vt_bucket.proofs.Frames.{one_frame}
 use Rattle.vt_disk.specs.declared.region.Region.{Region}
 use Rattle.vt_disk.specs.Disk.{part}
-use Rattle.vt_isect.specs.Layout.{IsPlaceOf}
+use Rattle.vt_isect.specs.Layout.{IsBucketPlace}
 use Rattle.vt_isect.specs.Section.{SectionState}
 use Rattle.vt_isect.specs.Sound.{IsReadFrom}
 use Rattle.vt_isect.proofs.NamesDamage.{faulty_differs}
@@ -16,14 +16,14 @@ use Rattle.vt_isect.proofs.Remembers.{remembers_same}
 use Rattle.vt_isect.proofs.section.Section.bucket.Goals as goal
 
 -- the frame that was read
-frame_from : (g : _) (c : goal.After-decode_bucket g) → IsTrue g.D.Disk.tells → (region : Region) → IsPlaceOf (c.args.number - c.args.self.now.head.first) region
+frame_from : (g : _) (c : goal.After-decode_bucket g) → IsTrue g.D.Disk.tells → (region : Region) → IsBucketPlace (c.args.number - c.args.self.now.head.first) region
     → IsReadFrom c.args.self.now c.args.number region (g.D.Disk.bytes c.args.self.now.disk) c.read_at.new.buf
 frame_from g c told region place =
     let now = c.args.self.now in
     let bytes : g.D.Disk.bytes c.self-2.inside.disk ≡ g.D.Disk.bytes now.disk =
     ap (λ (t : SectionState g.row.D.Denot). g.D.Disk.bytes t.disk) c.self-2.view_is ∙ c.current_number.ensures.reads.bytes in
-    let here : IsPlaceOf (c.args.number - now.head.first) c.bucket_place-place.result =
-    subst (λ (t : SectionState g.row.D.Denot). IsPlaceOf (c.args.number - t.head.first) c.bucket_place-place.result) c.self.view_is c.bucket_place-place.ensures.place in
+    let here : IsBucketPlace (c.args.number - now.head.first) c.bucket_place-place.result =
+    subst (λ (t : SectionState g.row.D.Denot). IsBucketPlace (c.args.number - t.head.first) c.bucket_place-place.result) c.self.view_is c.bucket_place-place.ensures.place in
     reads_from now c.args.number c.in_ok-current.current c.bucket_place-place.result region _ c.read_at.new.buf here place
     (c.in_ok-read_at.ensures.read told ∙ (λ i. part (c.bucket_place-place.result.start + 8192 * c.from.ensures i) 8192 (bytes i)))
     c.in_ok-current.ensures.changing (λ still. c.in_ok-current.ensures.named told still region place)
@@ -35,7 +35,7 @@ not_refused (Err e) P Q is = absurd is
 pub returns-clause-found : goal.returns-clause-found
 returns-clause-found g c known entries =
     IfOk-weaker c.decode_bucket.result _ _
-    (λ b is told sound known_is. (one_frame c.args.number c.args.number (entries_of b) entries c.read_at.new.buf is
+    (λ b is told sound known_is. (one_frame c.args.number c.args.number (bucket_entries b) entries c.read_at.new.buf is
     (reads_known c.args.self.now known c.args.number entries _ c.read_at.new.buf _ sound (g.met.D.Disk.read_is_image _ told) c.requires known_is (frame_from g c told))).1)
     c.decode_bucket.ensures.found
 

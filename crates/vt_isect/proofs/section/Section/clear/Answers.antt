@@ -1,7 +1,7 @@
 use Rattle.std.proofs.Common.{◌≡◌, ◌+◌, ◌*◌, ℕ, List, [], Some, None, sym, ◌∙◌, ap, subst, arith}
 use Rattle.vt_disk.proofs.Calls.{on_err, writes_wider}
 use Rattle.vt_isect.specs.Agreement.{KnownAgrees}
-use Rattle.vt_isect.specs.Filling.{Fills, Reads, StopsClearing, with_buckets}
+use Rattle.vt_isect.specs.Filling.{FillsBucket, ReadsKnown, StopsClearing, with_buckets}
 use Rattle.vt_isect.specs.Section.{SectionState}
 use Rattle.vt_isect.specs.Sound.{IsSoundSection}
 use Rattle.vt_isect.specs.View.{state_of}
@@ -40,7 +40,7 @@ returns-in_err-sync-clause-stops g c =
       done = c.args.count;
       few = omega arith;
       whole = λ told low. absurd (omega (arith, low));
-      cleared = λ told n region within place. subst (λ (file : List ℕ). Fills n [] region (g.D.Disk.bytes t.disk) file) (sym synced.bytes)
+      cleared = λ told n region within place. subst (λ (file : List ℕ). FillsBucket n [] region (g.D.Disk.bytes t.disk) file) (sym synced.bytes)
           (c.in_ok-write_cleared.ensures.written told n region within place);
       writes = writes_wider g.D.Disk _ _ (more_buckets g.D.Disk t c.args.first c.args.count (c.args.count + 1) (omega arith)) (2 * c.args.count + 1) (2 * c.args.count + 2) (omega arith) _ _
           (synced_writes g.D.Disk t c.write_cleared.new.self c.sync.new.self c.args.first c.args.count c.write_cleared.ensures.writes synced);
@@ -52,7 +52,7 @@ returns-clause-written g c told n region within place =
     let t = c.args.self.now in
     let u = c.write_cleared.new.self in
     let d = c.sync.new.self in
-    subst (λ (file : List ℕ). Fills n [] region (g.D.Disk.bytes t.disk) file) (sym synced.bytes)
+    subst (λ (file : List ℕ). FillsBucket n [] region (g.D.Disk.bytes t.disk) file) (sym synced.bytes)
     (c.in_ok-write_cleared.ensures.written told n region within place)
 
 pub returns-in_err-sync-clause-others : goal.returns-in_err-sync-clause-others
@@ -95,7 +95,7 @@ returns-clause-read g c known told reads =
     let t = c.args.self.now in
     let u = c.write_cleared.new.self in
     let d = c.sync.new.self in
-    subst (λ (x : SectionState g.row.D.Denot). Reads g.D.Disk (record x { disk = d }) (with_buckets c.args.first c.args.count (Some []) known)) (sym c.self.view_is)
+    subst (λ (x : SectionState g.row.D.Denot). ReadsKnown g.D.Disk (record x { disk = d }) (with_buckets c.args.first c.args.count (Some []) known)) (sym c.self.view_is)
     (synced_reads t u d c.args.first c.args.count (g.D.Disk.bytes t.disk) (g.D.Disk.bytes u.disk) (g.D.Disk.bytes d) (g.D.Disk.images t.disk) (g.D.Disk.images u.disk) (g.D.Disk.images d)
     c.write_cleared.ensures.same c.requires.rest synced.bytes synced.images
     (with_buckets c.args.first c.args.count (Some []) known) (c.in_ok-write_cleared.ensures.read known told reads))

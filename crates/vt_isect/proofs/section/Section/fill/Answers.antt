@@ -1,10 +1,10 @@
 use Rattle.std.proofs.Common.{◌-◌, ◌<◌, ℕ, List, Some, None, replicate, sym, subst, arith}
 use Rattle.vt_disk.specs.declared.region.Region.{Region}
 use Rattle.vt_disk.proofs.Calls.{on_err, writes_wider}
-use Rattle.vt_bucket.specs.Buckets.{number_of, entries_of}
-use Rattle.vt_bucket.specs.Frame.{IsFrame, frame_of as bucket_frame}
+use Rattle.vt_bucket.specs.Buckets.{number_of_bucket, bucket_entries}
+use Rattle.vt_bucket.specs.Frame.{IsBucketFrame, bucket_frame}
 use Rattle.vt_twin.specs.Formatting.{EndsFormat}
-use Rattle.vt_isect.specs.Layout.{IsPlaceOf}
+use Rattle.vt_isect.specs.Layout.{IsBucketPlace}
 use Rattle.vt_isect.specs.View.{state_of}
 use Rattle.vt_isect.proofs.WithBucket.{others_sound}
 use Rattle.vt_isect.proofs.Fills.{reads_filled, agrees_filled, in_buckets}
@@ -19,12 +19,12 @@ returns-in_err-write_bucket-clause-others g c known told =
     let range = rw (← c.self.view_is) at c.requires.in_range in
     let place = rw c.number.ensures at c.bucket_place-place.ensures.place in
     rw (← c.self.view_is)
-    (others_sound _ _ (number_of c.args.bucket.now) c.bucket_place-place.result _ _ _ _ _ rest c.self.invariant.room range place
+    (others_sound _ _ (number_of_bucket c.args.bucket.now) c.bucket_place-place.result _ _ _ _ _ rest c.self.invariant.room range place
     (c.write_bucket.ensures.writes.bytes told) c.write_bucket.ensures.writes.images known)
 
 pub returns-in_err-write_bucket-clause-agrees : goal.returns-in_err-write_bucket-clause-agrees
 returns-in_err-write_bucket-clause-agrees g c score setup h known =
-    rw (← c.self.view_is) (agrees_filled score setup h _ _ (number_of c.args.bucket.now) (entries_of c.args.bucket.now) known)
+    rw (← c.self.view_is) (agrees_filled score setup h _ _ (number_of_bucket c.args.bucket.now) (bucket_entries c.args.bucket.now) known)
 
 pub returns-clause-others : goal.returns-clause-others
 returns-clause-others g c known told =
@@ -32,12 +32,12 @@ returns-clause-others g c known told =
     let range = rw (← c.self.view_is) at c.requires.in_range in
     let place = rw c.number.ensures at c.bucket_place-place.ensures.place in
     rw (← c.self.view_is)
-    (others_sound _ _ (number_of c.args.bucket.now) c.bucket_place-place.result _ _ _ _ _ rest c.self.invariant.room range place
+    (others_sound _ _ (number_of_bucket c.args.bucket.now) c.bucket_place-place.result _ _ _ _ _ rest c.self.invariant.room range place
     (c.write_bucket.ensures.writes.bytes told) c.write_bucket.ensures.writes.images known)
 
 pub returns-clause-agrees : goal.returns-clause-agrees
 returns-clause-agrees g c score setup h known =
-    rw (← c.self.view_is) (agrees_filled score setup h _ _ (number_of c.args.bucket.now) (entries_of c.args.bucket.now) known)
+    rw (← c.self.view_is) (agrees_filled score setup h _ _ (number_of_bucket c.args.bucket.now) (bucket_entries c.args.bucket.now) known)
 
 pub returns-clause-read : goal.returns-clause-read
 returns-clause-read g c known told =
@@ -46,16 +46,16 @@ returns-clause-read g c known told =
     let s = c.self.inside in
     let t = state_of s in
     rw (← c.self.view_is)
-    (reads_filled t c.write_bucket.new.disk (number_of c.args.bucket.now) c.bucket_place-place.result (entries_of c.args.bucket.now) known _ _ range place
+    (reads_filled t c.write_bucket.new.disk (number_of_bucket c.args.bucket.now) c.bucket_place-place.result (bucket_entries c.args.bucket.now) known _ _ range place
     (c.write_bucket.ensures.writes.bytes told)
-    (subst (IsFrame (number_of c.args.bucket.now) (entries_of c.args.bucket.now)) (sym (c.in_ok-write_bucket.ensures.current told)) c.encode.ensures.spelled))
+    (subst (IsBucketFrame (number_of_bucket c.args.bucket.now) (bucket_entries c.args.bucket.now)) (sym (c.in_ok-write_bucket.ensures.current told)) c.encode.ensures.spelled))
 
 pub returns-in_err-write_bucket-clause-writes : goal.returns-in_err-write_bucket-clause-writes
 returns-in_err-write_bucket-clause-writes g c =
     let range = rw (← c.self.view_is) at c.requires.in_range in
     let place = rw c.number.ensures at c.bucket_place-place.ensures.place in
     rw (← c.self.view_is)
-    (writes_wider g.D.Disk _ _ (in_buckets _ (number_of c.args.bucket.now) 1 (number_of c.args.bucket.now) c.bucket_place-place.result place range.0 (omega arith, omega arith))
+    (writes_wider g.D.Disk _ _ (in_buckets _ (number_of_bucket c.args.bucket.now) 1 (number_of_bucket c.args.bucket.now) c.bucket_place-place.result place range.0 (omega arith, omega arith))
     2 2 (omega arith) _ _ c.write_bucket.ensures.writes)
 
 pub returns-clause-writes : goal.returns-clause-writes
@@ -63,20 +63,20 @@ returns-clause-writes g c =
     let range = rw (← c.self.view_is) at c.requires.in_range in
     let place = rw c.number.ensures at c.bucket_place-place.ensures.place in
     rw (← c.self.view_is)
-    (writes_wider g.D.Disk _ _ (in_buckets _ (number_of c.args.bucket.now) 1 (number_of c.args.bucket.now) c.bucket_place-place.result place range.0 (omega arith, omega arith))
+    (writes_wider g.D.Disk _ _ (in_buckets _ (number_of_bucket c.args.bucket.now) 1 (number_of_bucket c.args.bucket.now) c.bucket_place-place.result place range.0 (omega arith, omega arith))
     2 2 (omega arith) _ _ c.write_bucket.ensures.writes)
 
 pub returns-in_err-write_bucket-clause-stops : goal.returns-in_err-write_bucket-clause-stops
 returns-in_err-write_bucket-clause-stops g c =
     let t = state_of c.self.inside in
-    let n : ℕ = number_of c.args.bucket.now in
+    let n : ℕ = number_of_bucket c.args.bucket.now in
     let place = rw c.number.ensures at c.bucket_place-place.ensures.place in
     let ends = c.in_err-write_bucket.ensures.stops in
-    rw (← c.self.view_is) (on_err {P = (region : Region) → IsPlaceOf (n - t.head.first) region → (made : ℕ) × (made < 2)
-    × EndsFormat g.D.Disk region (bucket_frame n (entries_of c.args.bucket.now)) made t.disk c.write_bucket.new.disk} _ (λ region here. (
+    rw (← c.self.view_is) (on_err {P = (region : Region) → IsBucketPlace (n - t.head.first) region → (made : ℕ) × (made < 2)
+    × EndsFormat g.D.Disk region (bucket_frame n (bucket_entries c.args.bucket.now)) made t.disk c.write_bucket.new.disk} _ (λ region here. (
       ends.0,
       ends.1,
-      subst (λ (r : Region). EndsFormat g.D.Disk r (bucket_frame n (entries_of c.args.bucket.now)) ends.0 t.disk c.write_bucket.new.disk)
+      subst (λ (r : Region). EndsFormat g.D.Disk r (bucket_frame n (bucket_entries c.args.bucket.now)) ends.0 t.disk c.write_bucket.new.disk)
           (one_place (n - t.head.first) c.bucket_place-place.result region place here)
           (subst (λ (f : List ℕ). EndsFormat g.D.Disk c.bucket_place-place.result f ends.0 t.disk c.write_bucket.new.disk) c.encode.ensures.bytes ends.2),
     )))

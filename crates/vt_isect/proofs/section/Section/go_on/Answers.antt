@@ -1,7 +1,7 @@
 use Rattle.std.proofs.Common.{◌≡◌, ◌-◌, List, [], length, inl, inr, refl, ap, subst, arith}
 use Rattle.std.specs.List.{Contains}
 use Rattle.vt_isect.specs.declared.groups.Member.{Member}
-use Rattle.vt_isect.specs.Entries.{items_of}
+use Rattle.vt_isect.specs.Entries.{listed_entries}
 use Rattle.vt_isect.specs.Layout.{InRange}
 use Rattle.vt_isect.specs.Section.{PutsEntries}
 use Rattle.vt_isect.specs.View.{state_of}
@@ -44,7 +44,7 @@ invariant_of-self g c =
       order = (omega arith, omega (arith, next.0), next.1.within);
       ordered = ordered;
       in_range = ranged;
-      own = λ entry has. absurd (none_written c.args.from (items_of s.entries) entry has);
+      own = λ entry has. absurd (none_written c.args.from (listed_entries s.entries) entry has);
       behind = λ entry has way. no_member way.0 way.1.1;
       apart = λ i j d low within. absurd (omega (arith, within, many));
       members = λ m has. absurd (no_member m has);

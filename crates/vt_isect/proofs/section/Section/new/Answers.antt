@@ -3,12 +3,12 @@ use Rattle.std.proofs.lemmas.List.{length-replicate}
 use Rattle.vt_disk.specs.declared.call.CallCount.{CallCount}
 use Rattle.vt_twin.specs.Twin.{TwinState}
 use Rattle.vt_isect.specs.declared.groups.Member.{Member}
-use Rattle.vt_isect.specs.Section.{mounted}
+use Rattle.vt_isect.specs.Section.{mounted_section}
 use Rattle.vt_isect.proofs.Remembers.{remembers_none}
 use Rattle.vt_isect.proofs.section.Section.new.Goals as goal
 
 pub returns : goal.returns
-returns g c = λ i. record (mounted c.args.disk c.args.buckets c.args.opened.name c.args.opened.head c.args.opened.twin.current) {
+returns g c = λ i. record (mounted_section c.args.disk c.args.buckets c.args.opened.name c.args.opened.head c.args.opened.twin.current) {
   frame = c.requires.frame i;
   group = c.requires.group.0 i;
   head_twin = c.requires.twin i;

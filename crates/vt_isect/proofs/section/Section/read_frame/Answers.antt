@@ -8,7 +8,7 @@ use Rattle.vt_isect.specs.declared.phase.Phase.TheVariants.{ReadFrame, WriteFram
 use Rattle.vt_isect.specs.Merging.{IsMerged, IsDamage}
 use Rattle.vt_isect.specs.Section.{HasBucket, PutsEntries, entering}
 use Rattle.vt_isect.specs.View.{state_of}
-use Rattle.vt_isect.specs.Writeback.{GetsFrame, IsRead}
+use Rattle.vt_isect.specs.Writeback.{GetsFrame, NextCallReads}
 use Rattle.vt_isect.proofs.Keeps.{read_made}
 use Rattle.vt_isect.proofs.Members.{well_called, well_moves}
 use Rattle.vt_isect.proofs.Places.{one_place}
@@ -77,7 +77,7 @@ returns-in-Ok-clause-step g c =
     let goes = rw (← c.self.view_is) at c.requires.goes in
     let got : GetsFrame g.D.Disk c.args.selector t (record t { frame = made c.read_merged-merged.new.frame s.frame.items s.frame.len }) = rw (← c.self.view_is) at (returns-in-Ok-clause-merged g c) in
     rw (c.count.ensures, ← c.self.view_is)
-    (read_goes g.D.Disk t (subst IsRead (sym phase) tt) goes c.read_merged-merged.new.disk c.in-Ok.ensures.reads c.in-Ok.ensures.calls (ReadFrame c.args.selector) (WriteFrame (c.args.selector % 2)) (made c.read_merged-merged.new.frame c.self.inside.frame.items c.self.inside.frame.len) phase tt (λ j. refl)
+    (read_goes g.D.Disk t (subst NextCallReads (sym phase) tt) goes c.read_merged-merged.new.disk c.in-Ok.ensures.reads c.in-Ok.ensures.calls (ReadFrame c.args.selector) (WriteFrame (c.args.selector % 2)) (made c.read_merged-merged.new.frame c.self.inside.frame.items c.self.inside.frame.len) phase tt (λ j. refl)
     (refl, record { written = refl; framed = refl; begun = refl; bucket = refl; group = refl }) c.in-Ok.ensures.faults
     (λ told k e. absurd (cc))
     (λ told known sound k e. (
@@ -92,5 +92,5 @@ returns-in-Err-clause-step g c =
     let phase = rw (← c.self.view_is) at c.requires.phase in
     let goes = rw (← c.self.view_is) at c.requires.goes in
     rw (c.end.ensures, c.count.ensures, ← c.self.view_is)
-    (read_ends g.D.Disk (state_of s) (subst IsRead (sym phase) tt) goes c.read_merged-merged.new.disk c.in-Err.ensures.reads c.in-Err.ensures.calls c.in-Err.bad (made c.read_merged-merged.new.frame c.self.inside.frame.items c.self.inside.frame.len) c.in-Err.ensures.faults
+    (read_ends g.D.Disk (state_of s) (subst NextCallReads (sym phase) tt) goes c.read_merged-merged.new.disk c.in-Err.ensures.reads c.in-Err.ensures.calls c.in-Err.bad (made c.read_merged-merged.new.frame c.self.inside.frame.items c.self.inside.frame.len) c.in-Err.ensures.faults
     (λ no. (c.args.selector, phase)) (λ n e. c.in-Err.ensures.stopped n (ap (λ b. Err b) e)))

@@ -1,9 +1,9 @@
 use Rattle.std.proofs.Common.{◌-◌, refl, sym, subst}
-use Rattle.vt_isect.specs.declared.bad.ShardErr.TheVariants.{Fault}
+use Rattle.vt_isect.specs.declared.error.ShardErr.TheVariants.{Fault}
 use Rattle.vt_isect.specs.declared.phase.Phase.TheVariants.{ReadSelector, ReadFrame}
 use Rattle.vt_isect.specs.Section.{HasBucket, PutsEntries}
 use Rattle.vt_isect.specs.View.{state_of}
-use Rattle.vt_isect.specs.Writeback.{IsRead}
+use Rattle.vt_isect.specs.Writeback.{NextCallReads}
 use Rattle.vt_isect.proofs.Follows.{selector_read}
 use Rattle.vt_isect.proofs.Members.{well_called, well_moves}
 use Rattle.vt_isect.proofs.ReadCalls.{read_ends, read_goes}
@@ -34,7 +34,7 @@ returns-in-Ok g c =
     let phase = rw (← c.self.view_is) at c.requires.phase in
     let goes = rw (← c.self.view_is) at c.requires.goes in
     rw (c.count.ensures, ← c.self.view_is)
-    (read_goes g.D.Disk (state_of s) (subst IsRead (sym phase) tt) goes c.read.new.disk c.in-Ok.ensures.reads c.in-Ok.ensures.calls ReadSelector (ReadFrame c.in-Ok.number) s.frame.items phase tt (λ j. refl)
+    (read_goes g.D.Disk (state_of s) (subst NextCallReads (sym phase) tt) goes c.read.new.disk c.in-Ok.ensures.reads c.in-Ok.ensures.calls ReadSelector (ReadFrame c.in-Ok.number) s.frame.items phase tt (λ j. refl)
     ((c.in-Ok.number, refl), record { written = refl; framed = refl; begun = refl; bucket = refl; group = refl }) c.in-Ok.ensures.cause
     (λ told k e region place. selector_read c.in-Ok.number k (s.bucket - s.head.first) _ c.bucket_place.result region c.bucket_place.ensures.place place c.in-Ok.ensures.bound (c.in-Ok.ensures.named told) e)
     (λ told known sound k e. absurd (cc)))
@@ -45,4 +45,4 @@ returns-in-Err g c =
     let phase = rw (← c.self.view_is) at c.requires.phase in
     let goes = rw (← c.self.view_is) at c.requires.goes in
     rw (c.end.ensures, c.count.ensures, ← c.self.view_is)
-    (read_ends g.D.Disk (state_of s) (subst IsRead (sym phase) tt) goes c.read.new.disk c.in-Err.ensures.reads c.in-Err.ensures.calls Fault s.frame.items c.in-Err.ensures.cause (λ no. absurd (no refl)) (λ n e. cc))
+    (read_ends g.D.Disk (state_of s) (subst NextCallReads (sym phase) tt) goes c.read.new.disk c.in-Err.ensures.reads c.in-Err.ensures.calls Fault s.frame.items c.in-Err.ensures.cause (λ no. absurd (no refl)) (λ n e. cc))

@@ -1,10 +1,10 @@
 use Rattle.std.proofs.Common.{◌≡◌, ◌+◌, ◌-◌, ◌*◌, ◌≤◌, ℕ, [], Some, sym, ap, subst, arith}
-use Rattle.vt_bucket.specs.Buckets.{number_of}
-use Rattle.vt_bucket.specs.Frame.{frame_of as bucket_frame}
+use Rattle.vt_bucket.specs.Buckets.{number_of_bucket}
+use Rattle.vt_bucket.specs.Frame.{bucket_frame}
 use Rattle.vt_disk.specs.Calls.{WritesAt}
 use Rattle.vt_disk.proofs.Calls.{on_err, writes_wider}
-use Rattle.vt_isect.specs.Filling.{InBuckets, IsAmong, Reads, StopsClearing, with_buckets}
-use Rattle.vt_isect.specs.Layout.{IsPlaceOf}
+use Rattle.vt_isect.specs.Filling.{InBuckets, IsAmong, ReadsKnown, StopsClearing, with_buckets}
+use Rattle.vt_isect.specs.Layout.{IsBucketPlace}
 use Rattle.vt_isect.proofs.Fills.{blank_len, cleared_none, cleared_more, more_buckets, next_writes, next_written, stopped_others, stops_whole}
 use Rattle.vt_isect.proofs.section.Section.write_cleared.Goals as goal
 
@@ -19,12 +19,12 @@ loop-i-preserved g c =
     let it = c.loop-i.invariant in
     let head : u.head ≡ t.head = ap (λ x. x.head) it.same in
     let n : ℕ = c.args.first + c.loop-i.i in
-    let number : number_of c.new.result ≡ n = c.new.ensures.number in
-    let at : n - t.head.first ≡ number_of c.new.result - u.head.first = λ j. sym number j - (sym head j).first in
+    let number : number_of_bucket c.new.result ≡ n = c.new.ensures.number in
+    let at : n - t.head.first ≡ number_of_bucket c.new.result - u.head.first = λ j. sym number j - (sym head j).first in
     cleared_more g.D.Disk t c.args.first u v c.loop-i.i c.requires.in_range.0 it
     (subst (λ (k : ℕ). WritesAt g.D.Disk (InBuckets k 1) 2 u.disk v.disk) (sym at) c.fill.ensures.writes)
     c.fill.ensures.same
-    (λ told region place. rw (number, c.new.ensures.entries) at (c.in_ok-fill.ensures.written told region (subst (λ (k : ℕ). IsPlaceOf k region) at place)))
+    (λ told region place. rw (number, c.new.ensures.entries) at (c.in_ok-fill.ensures.written told region (subst (λ (k : ℕ). IsBucketPlace k region) at place)))
     (λ known told reads. rw (number, c.new.ensures.entries) at (c.in_ok-fill.ensures.read known told reads))
     (λ known told sound. rw number at (c.fill.ensures.others known told sound))
     c.in_ok-fill.ensures.calls c.in_ok-fill.ensures.faults
@@ -35,7 +35,7 @@ stopped g c =
     let t = c.args.self.now in
     let u = c.loop-i.self in
     let head : u.head ≡ t.head = ap (λ x. x.head) c.loop-i.invariant.same in
-    let at : c.args.first + c.loop-i.i - t.head.first ≡ number_of c.new.result - u.head.first = λ j. sym c.new.ensures.number j - (sym head j).first in
+    let at : c.args.first + c.loop-i.i - t.head.first ≡ number_of_bucket c.new.result - u.head.first = λ j. sym c.new.ensures.number j - (sym head j).first in
     subst (λ (k : ℕ). WritesAt g.D.Disk (InBuckets k 1) 2 u.disk c.fill.new.self.disk) (sym at) c.fill.ensures.writes
 
 pub returns-in_err-fill-clause-stops : goal.returns-in_err-fill-clause-stops
@@ -44,14 +44,14 @@ returns-in_err-fill-clause-stops g c =
     let u = c.loop-i.self in
     let n : ℕ = c.args.first + c.loop-i.i in
     let head : u.head ≡ t.head = ap (λ x. x.head) c.loop-i.invariant.same in
-    let at : n - t.head.first ≡ number_of c.new.result - u.head.first = λ j. sym c.new.ensures.number j - (sym head j).first in
+    let at : n - t.head.first ≡ number_of_bucket c.new.result - u.head.first = λ j. sym c.new.ensures.number j - (sym head j).first in
     on_err {P = StopsClearing g.D.Disk c.args.first c.args.count t c.fill.new.self} c.from_residual.result (record {
       done = c.loop-i.i;
       few = omega (arith, c.loop-i-test.true);
       cleared = next_written g.D.Disk t c.args.first c.loop-i.self c.fill.new.self c.loop-i.i c.requires.in_range.0 c.loop-i.invariant (stopped g c);
       writes = next_writes g.D.Disk t c.args.first c.loop-i.self c.fill.new.self c.loop-i.i c.requires.in_range.0 c.loop-i.invariant (stopped g c);
       whole = λ told low region place.
-          let ends = rw (c.new.ensures.number, c.new.ensures.entries) at (c.in_err-fill.ensures.stops region (subst (λ (k : ℕ). IsPlaceOf k region) at place)) in
+          let ends = rw (c.new.ensures.number, c.new.ensures.entries) at (c.in_err-fill.ensures.stops region (subst (λ (k : ℕ). IsBucketPlace k region) at place)) in
           stops_whole g.D.Disk t u c.fill.new.self c.args.first c.loop-i.i region (bucket_frame n []) ends.0 c.requires.in_range.0 place (blank_len n) ends.1 c.loop-i.invariant ends.2 told;
     })
 
@@ -74,7 +74,7 @@ passed i count low high = omega arith
 
 pub returns-clause-read : goal.returns-clause-read
 returns-clause-read g c known told reads =
-    subst (λ (k : ℕ). Reads g.D.Disk c.loop-i.self (with_buckets c.args.first k (Some []) known))
+    subst (λ (k : ℕ). ReadsKnown g.D.Disk c.loop-i.self (with_buckets c.args.first k (Some []) known))
     (passed c.loop-i.i c.args.count c.loop-i.auto.i-end c.loop-i-test.false) (c.loop-i.invariant.read known told reads)
 
 pub returns-clause-written : goal.returns-clause-written

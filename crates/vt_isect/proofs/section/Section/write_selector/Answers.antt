@@ -5,7 +5,7 @@ use Rattle.std.proofs.lemmas.Option.{slice_get-get_or}
 use Rattle.vt_base.specs.declared.why.Failed.{Failed}
 use Rattle.vt_isect.specs.declared.groups.Member.{Member}
 use Rattle.vt_isect.specs.declared.phase.Phase.TheVariants.{WriteSelector}
-use Rattle.vt_isect.specs.Layout.{place_of, InRange}
+use Rattle.vt_isect.specs.Layout.{bucket_place, InRange}
 use Rattle.vt_isect.specs.Section.{SectionState, PutsEntries}
 use Rattle.vt_isect.specs.View.{state_of}
 use Rattle.vt_isect.proofs.Members.{Groups, well_called}
@@ -58,7 +58,7 @@ make-requires-clause-fits g c =
     let phase = rw (← c.self.view_is) at c.requires.phase in
     let it = its (state_of s) c.args.member m c.self.invariant.group phase c.index.ensures in
     let at = m.bucket - s.head.first in
-    let within = (place_room 8192 (g.D.Disk.size s.disk) s.buckets s.head m.bucket (place_of at) refl c.self.invariant.room it.1 (is_place at)).within in
+    let within = (place_room 8192 (g.D.Disk.size s.disk) s.buckets s.head m.bucket (bucket_place at) refl c.self.invariant.room it.1 (is_place at)).within in
     rw (c.selector_write.ensures, c.selector_naming-selector.ensures) (omega (arith, within, length-replicate {A = ℕ} 511 0))
 
 pub put-requires-clause-bucket : goal.put-requires-clause-bucket
@@ -78,7 +78,7 @@ invariant_of-self g c =
     let wrote = (rw (c.selector_write.ensures, c.selector_naming-selector.ensures) at c.make.ensures).writes in
     rw (wrote.size, c.forget.ensures)
     (well_called g.D.Disk (state_of s) (subst PutsEntries (sym phase) tt) goes c.self.invariant.frame_len
-    (selector_forgets g.D.Disk s.disk c.make.new.disk s.buckets s.frames at (place_of at) (is_place at) (1 - m.current) wrote c.self.invariant.remembers) c.self.invariant)
+    (selector_forgets g.D.Disk s.disk c.make.new.disk s.buckets s.frames at (bucket_place at) (is_place at) (1 - m.current) wrote c.self.invariant.remembers) c.self.invariant)
 
 pub invariant_of-self-2 : goal.invariant_of-self-2
 invariant_of-self-2 g c =
@@ -88,11 +88,11 @@ invariant_of-self-2 g c =
     let goes = rw (← c.self.view_is) at c.requires.goes in
     let it = its (state_of s) c.args.member m c.self.invariant.group phase c.index.ensures in
     let at = m.bucket - s.head.first in
-    let within = (place_room 8192 (g.D.Disk.size s.disk) s.buckets s.head m.bucket (place_of at) refl c.self.invariant.room it.1 (is_place at)).within in
+    let within = (place_room 8192 (g.D.Disk.size s.disk) s.buckets s.head m.bucket (bucket_place at) refl c.self.invariant.room it.1 (is_place at)).within in
     let made = rw (c.selector_write.ensures, c.selector_naming-selector.ensures) at c.in_ok-make.ensures in
     rw (made.writes.size, c.put.ensures, c.forget.ensures, set_twice)
     (well_called g.D.Disk (state_of s) (subst PutsEntries (sym phase) tt) goes c.self.invariant.frame_len
-    (selector_learns g.D.Disk s.disk c.make.new.disk s.buckets s.frames at (place_of at) (is_place at) (1 - m.current) made.writes c.self.invariant.remembers (omega arith) made.written
+    (selector_learns g.D.Disk s.disk c.make.new.disk s.buckets s.frames at (bucket_place at) (is_place at) (1 - m.current) made.writes c.self.invariant.remembers (omega arith) made.written
     (λ told. omega (arith, within, (g.met.D.Disk.images_fit _ _ (g.met.D.Disk.read_is_image s.disk told)).0))) c.self.invariant)
 
 pub returns-in_err-make : goal.returns-in_err-make

@@ -1,5 +1,5 @@
 use Rattle.std.proofs.Common.{Some, Ok, Err, refl, sym, subst}
-use Rattle.vt_tree.specs.Calls.{put, Counts, counted}
+use Rattle.vt_tree.specs.Calls.{put, Counts, with_refusal}
 use Rattle.vt_local.specs.Local.{LocalState, DoesLocal}
 use Rattle.vt_local.proofs.Doing.{took, not_taken}
 use Rattle.vt_local.proofs.local.LocalBlocks.put.Goals as goal
@@ -37,7 +37,7 @@ returns-in-Err-clause-done g c =
     record { store = c.write.new.store; counts = counts; refused = c.self.inside.refused } in
     let after : LocalState g.row.T.Denot = record {
       store = c.write.new.store;
-      counts = counted (Some c.refuse.result) counts;
+      counts = with_refusal (Some c.refuse.result) counts;
       refused = Some c.in-Err.why;
     } in
     subst (λ (x : LocalState g.row.T.Denot). DoesLocal g.T.Store x (put (record {

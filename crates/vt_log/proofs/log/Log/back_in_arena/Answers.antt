@@ -4,13 +4,13 @@ use Rattle.std.specs.Prelude.{slice_get}
 use Rattle.std.proofs.lemmas.Result.{err_from_is_err_and}
 use Rattle.vt_base.specs.declared.place.Info.{Info}
 use Rattle.vt_part.specs.declared.layout.ArenaRegion.{ArenaRegion}
-use Rattle.vt_arena.specs.declared.bad.BackBad.{BackBad}
-use Rattle.vt_arena.specs.declared.bad.BackBad.TheVariants.{Fault}
+use Rattle.vt_arena.specs.declared.error.BackBad.{BackBad}
+use Rattle.vt_arena.specs.declared.error.BackBad.TheVariants.{Fault}
 use Rattle.vt_arena.specs.declared.directory.At.{At}
 use Rattle.vt_arena.specs.declared.head.Found.{Found}
-use Rattle.vt_arena.specs.Directory.{last_entry, Walks, IsAt as IsAtBlock}
-use Rattle.vt_log.specs.Back.{TailState, IsBehind, StepsBack, GivesEntry}
-use Rattle.vt_log.specs.Sound.{IsAt}
+use Rattle.vt_arena.specs.Directory.{last_entry, WalksEntry, IsAtBlock}
+use Rattle.vt_log.specs.Back.{TailState, IsTailBehind, StepsBack, GivesEntry}
+use Rattle.vt_log.specs.Sound.{IsArenaAt}
 use Rattle.vt_log.proofs.Places.{slice_get_there}
 use Rattle.vt_log.proofs.StepsBack.{tail_inside, at_last, arena_steps, gives_bad, gives_info}
 use Rattle.vt_log.proofs.log.Log.back_in_arena.Goals as goal
@@ -38,7 +38,7 @@ returns-in_err-info-clause-blocks g c h n tells sound behind =
     let fault = c.in_err-info.ensures.committed found.0 it.r it.device it.r.number
     last.content last.before last.behind last.stored tells
     (subst (λ (a : ℕ). slice_get c.args.self.now.heads a ≡ Some found.0) (sym arena) found.1)
-    (subst (λ (a : ℕ). IsAt c.args.self.now a it.r it.device) (sym arena) it.at)
+    (subst (λ (a : ℕ). IsArenaAt c.args.self.now a it.r it.device) (sym arena) it.at)
     it.content it.stand last.split last.head
     (subst (λ (a : At). IsAtBlock last.before last.stored a) (sym at) last.at) in
     let standing : At → TailState = λ a. record {
@@ -52,17 +52,17 @@ returns-in_err-info-clause-blocks g c h n tells sound behind =
     let handed = err_from_is_err_and c.from_residual.result c.from_residual.ensures.1 in
     subst (λ (result : Result (Option Info) BackBad). MatchResult result
     (StepsBack g.S.Scorer.score_of c.args.self.now h n new)
-    (λ bad. (bad ≡ Fault) × IsBehind c.args.self.now h n new))
+    (λ bad. (bad ≡ Fault) × IsTailBehind c.args.self.now h n new))
     (sym (handed.1 ∙ ap (λ (b : BackBad). Err b) handed.2))
-    (fault, subst (IsBehind c.args.self.now h n) (sym same) behind)
+    (fault, subst (IsTailBehind c.args.self.now h n) (sym same) behind)
 
 pub returns-in_err-info-clause-entry : goal.returns-in_err-info-clause-entry
 returns-in_err-info-clause-entry g c found q disk has there =
     let bad = c.in_err-info.field-0.0 in
     let walks = subst (λ (t : TailState). (found : Found) (r : ArenaRegion) (disk : _) → slice_get c.args.self.now.heads t.arena ≡ Some found
-    → IsAt c.args.self.now t.arena r disk → (entry : List ℕ)
+    → IsArenaAt c.args.self.now t.arena r disk → (entry : List ℕ)
     × (IsTrue g.D.Disk.tells → entry ≡ last_entry r.region t.at.index (g.D.Disk.bytes disk))
-    × Walks found.head.number found.head.used t.at entry (Err bad))
+    × WalksEntry found.head.number found.head.used t.at entry (Err bad))
     c.tail.view_is c.in_err-info.ensures.entry found q disk has there in
     let handed = err_from_is_err_and c.from_residual.result c.from_residual.ensures.1 in
     let t : TailState = c.args.tail.now in (
@@ -89,7 +89,7 @@ returns-clause-blocks g c h n tells sound behind =
     let given = c.in_ok-info.ensures.committed found.0 it.r it.device it.r.number
     last.content last.before last.behind last.stored tells
     (subst (λ (a : ℕ). slice_get c.args.self.now.heads a ≡ Some found.0) (sym arena) found.1)
-    (subst (λ (a : ℕ). IsAt c.args.self.now a it.r it.device) (sym arena) it.at)
+    (subst (λ (a : ℕ). IsArenaAt c.args.self.now a it.r it.device) (sym arena) it.at)
     it.content it.stand last.split last.head
     (subst (λ (a : At). IsAtBlock last.before last.stored a) (sym at) last.at) in
     let left : c.tail.inside.left ≡ t.left = ap (λ (t : TailState). t.left) c.tail.view_is in
@@ -116,9 +116,9 @@ pub returns-clause-entry : goal.returns-clause-entry
 returns-clause-entry g c found q disk has there =
     let info = c.in_ok-info.info in
     let walks = subst (λ (t : TailState). (found : Found) (r : ArenaRegion) (disk : _) → slice_get c.args.self.now.heads t.arena ≡ Some found
-    → IsAt c.args.self.now t.arena r disk → (entry : List ℕ)
+    → IsArenaAt c.args.self.now t.arena r disk → (entry : List ℕ)
     × (IsTrue g.D.Disk.tells → entry ≡ last_entry r.region t.at.index (g.D.Disk.bytes disk))
-    × Walks found.head.number found.head.used t.at entry (Ok info))
+    × WalksEntry found.head.number found.head.used t.at entry (Ok info))
     c.tail.view_is c.in_ok-info.ensures.entry found q disk has there in
     let t : TailState = c.args.tail.now in
     let arena : c.tail.inside.arena ≡ t.arena = ap (λ (t : TailState). t.arena) c.tail.view_is in

@@ -1,7 +1,7 @@
 -- One disk is read.
 use Rattle.std.proofs.Common.{rules, true, List, refl, ap, subst, get_or}
 use Rattle.vt_part.specs.declared.layout.ArenaRegion.{ArenaRegion}
-use Rattle.vt_log.specs.Whole.{IsWhole}
+use Rattle.vt_log.specs.Whole.{IsWholeLog}
 use Rattle.vt_log.proofs.Disks.{tells_set}
 use Rattle.vt_log.proofs.Lists.{no_region}
 use Rattle.vt_log.proofs.OnlyReads.{lent}
@@ -15,7 +15,7 @@ invariant_of-self g c =
     _ c.args.self.now c.self.invariant c.self.view_is refl refl c.requires.arena
     (ap (λ (rs : List ArenaRegion). get_or rs c.args.arena no_region) c.as_slice.ensures)
     c.index_mut.ensures.value c.read_at.ensures.reads in
-    it.only.whole (subst (IsWhole g.D.Disk) c.self.view_is c.self.invariant)
+    it.only.whole (subst (IsWholeLog g.D.Disk) c.self.view_is c.self.invariant)
 
 pub returns : goal.returns
 returns g c =

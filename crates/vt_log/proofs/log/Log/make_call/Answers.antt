@@ -1,11 +1,11 @@
 -- One call of the disk is made, and each clause says what it leaves.
 use Rattle.std.proofs.Common.{◌+◌, List, Ok, Err, length, set, drop, refl, ◌∙◌, ap, arith}
-use Rattle.vt_disk.specs.declared.call.CallErr.{CallErr}
+use Rattle.vt_disk.specs.declared.call.CallError.{CallError}
 use Rattle.vt_clump.specs.declared.packed.Packed.{Packed}
 use Rattle.vt_part.specs.declared.layout.ArenaRegion.{ArenaRegion}
 use Rattle.vt_arena.specs.declared.head.ArenaHead.{ArenaHead}
-use Rattle.vt_log.specs.declared.bad.Progress.TheVariants.{Step, Durable}
-use Rattle.vt_log.specs.declared.bad.LogErr.TheVariants.{Fault}
+use Rattle.vt_log.specs.declared.error.Progress.TheVariants.{Step, Durable}
+use Rattle.vt_log.specs.declared.error.LogErr.TheVariants.{Fault}
 use Rattle.vt_log.specs.Committing.{MakesOneCall}
 use Rattle.vt_log.specs.View.{state_of}
 use Rattle.vt_log.proofs.EndsCommit.{next_there}
@@ -123,17 +123,17 @@ returns-then-not-sealed g c = done g c
 -- where it does, the next arena is there
 pub bounds-as_slice-at-in-Ok-Done : goal.bounds-as_slice-at-in-Ok-Done
 bounds-as_slice-at-in-Ok-Done g c =
-    let sealed = seals_too CallErr c.self.inside.arena c.advance.new.self _ (c.in-Ok-Done.ensures.steps (rw (← c.self.view_is) at c.requires.runs)) c.in-Ok-Done.field-0-is (cc) in
+    let sealed = seals_too CallError c.self.inside.arena c.advance.new.self _ (c.in-Ok-Done.ensures.steps (rw (← c.self.view_is) at c.requires.runs)) c.in-Ok-Done.field-0-is (cc) in
     omega (arith, next_there g.D.Disk (state_of c.self.inside) c.self.invariant sealed, ap (λ (rs : List ArenaRegion). length rs) c.as_slice-in-Ok-Done.ensures)
 
 pub index-requires : goal.index-requires
 index-requires g c =
-    let sealed = seals_too CallErr c.self.inside.arena c.advance.new.self _ (c.in-Ok-Done.ensures.steps (rw (← c.self.view_is) at c.requires.runs)) c.in-Ok-Done.field-0-is (cc) in
+    let sealed = seals_too CallError c.self.inside.arena c.advance.new.self _ (c.in-Ok-Done.ensures.steps (rw (← c.self.view_is) at c.requires.runs)) c.in-Ok-Done.field-0-is (cc) in
     omega (arith, next_there g.D.Disk (state_of c.self.inside) c.self.invariant sealed, c.self.invariant.many, c.self.inside.heads.ok.0)
 
 next_before : (g : _) (c : goal.After-move_to-arg-in-Ok-Done-1 g) → IsNextArena (state_of c.self.inside) (region_at c.as_slice-in-Ok-Done.result.now (c.self.inside.committing + 1)) c.index.result.now
 next_before g c =
-    let sealed = seals_too CallErr c.self.inside.arena c.advance.new.self _ (c.in-Ok-Done.ensures.steps (rw (← c.self.view_is) at c.requires.runs)) c.in-Ok-Done.field-0-is (cc) in
+    let sealed = seals_too CallError c.self.inside.arena c.advance.new.self _ (c.in-Ok-Done.ensures.steps (rw (← c.self.view_is) at c.requires.runs)) c.in-Ok-Done.field-0-is (cc) in
     next_arena_there g.D.Disk (state_of c.self.inside) c.as_slice-in-Ok-Done.result.now (region_at c.as_slice-in-Ok-Done.result.now (c.self.inside.committing + 1))
     (record c.index_mut-in-Ok-Done.result.now { head = c.head.result }) c.index.result.now c.self.invariant sealed c.as_slice-in-Ok-Done.ensures refl c.index.ensures
 
@@ -184,7 +184,7 @@ settles_turned g c = record {
 
 next_turned : (g : _) (c : goal.After-move_to g) → IsNextArena (state_of c.self.inside) (region_at c.as_slice-in-Ok-Done.result.now (c.self.inside.committing + 1)) c.index.result.now
 next_turned g c =
-    let sealed = seals_too CallErr c.self.inside.arena c.advance.new.self _ (c.in-Ok-Done.ensures.steps (rw (← c.self.view_is) at c.requires.runs)) c.in-Ok-Done.field-0-is (cc) in
+    let sealed = seals_too CallError c.self.inside.arena c.advance.new.self _ (c.in-Ok-Done.ensures.steps (rw (← c.self.view_is) at c.requires.runs)) c.in-Ok-Done.field-0-is (cc) in
     next_arena_there g.D.Disk (state_of c.self.inside) c.as_slice-in-Ok-Done.result.now (region_at c.as_slice-in-Ok-Done.result.now (c.self.inside.committing + 1))
     (record c.index_mut-in-Ok-Done.result.now { head = c.head.result }) c.index.result.now c.self.invariant sealed c.as_slice-in-Ok-Done.ensures refl c.index.ensures
 

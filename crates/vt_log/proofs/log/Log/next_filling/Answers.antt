@@ -1,18 +1,18 @@
 -- What fits is small, since a region is.
 use Rattle.std.proofs.Common.{◌≡◌, sym, ◌∙◌, subst, ap, refl}
 use Rattle.std.proofs.lemmas.Option.{slice_get_read}
-use Rattle.vt_log.specs.Whole.{IsWhole}
+use Rattle.vt_log.specs.Whole.{IsWholeLog}
 use Rattle.vt_log.specs.Log.{LogState}
 use Rattle.vt_log.proofs.Fill.{fits_small, next_none}
 use Rattle.vt_log.proofs.log.Log.next_filling.Goals as goal
 
 pub returns-then-fits-clause-small : goal.returns-then-fits-clause-small
 returns-then-fits-clause-small g c =
-    fits_small _ _ c.self.inside.filling c.args.n (subst (IsWhole _) c.self.view_is c.self.invariant) (sym c.fits.ensures ∙ c.if-fits.true)
+    fits_small _ _ c.self.inside.filling c.args.n (subst (IsWholeLog _) c.self.view_is c.self.invariant) (sym c.fits.ensures ∙ c.if-fits.true)
 
 pub returns-then-fits-2-clause-small : goal.returns-then-fits-2-clause-small
 returns-then-fits-2-clause-small g c =
-    fits_small _ _ c.of-next.result c.args.n (subst (IsWhole _) c.self.view_is c.self.invariant) (sym c.fits-2.ensures ∙ c.if-fits-2.true)
+    fits_small _ _ c.of-next.result c.args.n (subst (IsWholeLog _) c.self.view_is c.self.invariant) (sym c.fits-2.ensures ∙ c.if-fits-2.true)
 
 pub returns-else-fits-2-clause-next : goal.returns-else-fits-2-clause-next
 returns-else-fits-2-clause-next g c =

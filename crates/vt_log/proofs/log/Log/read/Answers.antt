@@ -5,13 +5,13 @@ use Rattle.std.proofs.lemmas.Option.{slice_get_within, same_Some}
 use Rattle.std.proofs.lemmas.Result.{err_from_is_err_and}
 use Rattle.vt_clump.specs.Clumps.{stored_of}
 use Rattle.vt_model.specs.History.{Accepted}
-use Rattle.vt_arena.specs.declared.bad.ReadBad.{ReadBad}
-use Rattle.vt_arena.specs.declared.bad.ReadBad.TheVariants.{Fault, NoMemory}
-use Rattle.vt_log.specs.Log.{LogState, setup_of}
-use Rattle.vt_log.specs.Logs.{accepted}
+use Rattle.vt_arena.specs.declared.error.ReadBad.{ReadBad}
+use Rattle.vt_arena.specs.declared.error.ReadBad.TheVariants.{Fault, NoMemory}
+use Rattle.vt_log.specs.Log.{LogState, setup_of_log}
+use Rattle.vt_log.specs.Logs.{accepted_in}
 use Rattle.vt_log.specs.Queue.{IsFirstAt, spot_of}
-use Rattle.vt_log.specs.Reading.{ReadsAs}
-use Rattle.vt_log.specs.Whole.{IsWhole}
+use Rattle.vt_log.specs.Reading.{ReadsBlockAs}
+use Rattle.vt_log.specs.Whole.{IsWholeLog}
 use Rattle.vt_log.proofs.AnswersRead.{nowhere_in, no_other, queued_gives, queued_block, unread, reads_block, reads_other, not_free, answers_queued, answers_nowhere, answers_there}
 use Rattle.vt_log.proofs.Differ.{answer_two}
 use Rattle.vt_log.proofs.StoredAt.{place_once, queued_as, stored_at}
@@ -26,10 +26,10 @@ returns-in-Some-clause-block g c h i e tells sound at placed kind score =
     let q = queued_as g.S.Scorer.score_of g.D.Disk
     c.args.self.now h sound c.in-Some.index p c.packed.ensures in
     let same : i ≡ c.args.self.now.durable + c.in-Some.index =
-    place_once (setup_of c.args.self.now) h i (c.args.self.now.durable + c.in-Some.index)
+    place_once (setup_of_log c.args.self.now) h i (c.args.self.now.durable + c.in-Some.index)
     (spot_of c.args.place) placed (sound.places c.in-Some.index c.args.place places.at) in
-    let block : e ≡ accepted q.arena (stored_of p) =
-    same_Some e (accepted q.arena (stored_of p)) (sym at ∙ ap (slice_get h) same ∙ q.block) in
+    let block : e ≡ accepted_in q.arena (stored_of p) =
+    same_Some e (accepted_in q.arena (stored_of p)) (sym at ∙ ap (slice_get h) same ∙ q.block) in
     let bytes : (stored_of p).block ≡ e.block.bytes =
     sym (ap (λ (x : Accepted). x.block.bytes) block) in
     queued_block c.args.key.now p e.block.bytes c.copy_queued.result
@@ -107,7 +107,7 @@ returns-in_err-clump-clause-answer g c =
     let it = c.in_err-clump.ensures.stored r disk at has in (
       it.0,
       it.1,
-      subst (ReadsAs g.S.Scorer.score_of c.args.key.now it.0) (sym is)
+      subst (ReadsBlockAs g.S.Scorer.score_of c.args.key.now it.0) (sym is)
           (unread g.S.Scorer.score_of c.args.key.now it.0 bad it.2),
     ))
 
@@ -117,7 +117,7 @@ returns-in_err-clump-clause-differ g c some =
     c.in_default.ensures.none in
     answer_two g.S.Scorer.score_of g.D.Disk c.args.self.now
     c.args.place c.args.key.now c.from_residual.result
-    (subst (IsWhole g.D.Disk) c.self.view_is c.self.invariant) nowhere
+    (subst (IsWholeLog g.D.Disk) c.self.view_is c.self.invariant) nowhere
     (omega (arith, c.if-place-arenas.false, c.arenas-arenas.ensures))
     (returns-in_err-clump-clause-answer g c)
 
@@ -153,7 +153,7 @@ returns-in_err-check_key-clause-answer g c =
     let it = c.in_ok-clump.ensures.stored r disk at has in (
       it.0,
       it.1,
-      subst (ReadsAs g.S.Scorer.score_of c.args.key.now it.0) (sym is)
+      subst (ReadsBlockAs g.S.Scorer.score_of c.args.key.now it.0) (sym is)
           (reads_other g.S.Scorer.score_of c.args.key.now it.0 c.in_ok-clump.clump bad it.2
           c.in_err-check_key.ensures.other),
     ))

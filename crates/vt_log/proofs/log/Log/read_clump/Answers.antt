@@ -1,12 +1,12 @@
 -- One disk is read.
 use Rattle.std.proofs.Common.{◌≡◌, List, ℕ, IsTrue, refl, sym, ◌∙◌, ap, subst, get_or, Err}
-use Rattle.vt_arena.specs.declared.bad.ReadBad.TheVariants.{Damaged}
-use Rattle.vt_arena.specs.Layout.{IsContent, HasBlocks}
-use Rattle.vt_arena.specs.Reading.{HasHeader, clump_at, is_fault, ReadsAs}
+use Rattle.vt_arena.specs.declared.error.ReadBad.TheVariants.{Damaged}
+use Rattle.vt_arena.specs.Layout.{IsArenaContent, HasBlocks}
+use Rattle.vt_arena.specs.Reading.{HasHeader, clump_at, is_clump_fault, ReadsClumpAs}
 use Rattle.vt_base.specs.declared.why.FieldValue.TheVariants.{Number}
 use Rattle.vt_model.specs.declared.TheConstants.{ARENA_HEAD_LEN}
 use Rattle.vt_part.specs.declared.layout.ArenaRegion.{ArenaRegion}
-use Rattle.vt_log.specs.Whole.{IsWhole}
+use Rattle.vt_log.specs.Whole.{IsWholeLog}
 use Rattle.vt_log.proofs.Disks.{tells_set}
 use Rattle.vt_log.proofs.Lists.{no_region}
 use Rattle.vt_log.proofs.OnlyReads.{lent, none_read, read_once, read_whole, unchanged}
@@ -21,7 +21,7 @@ invariant_of-self g c =
     c.read.new.disk _ c.args.self.now c.self.invariant c.self.view_is refl refl c.requires
     (ap (λ (rs : List ArenaRegion). get_or rs c.args.place.arena no_region) c.as_slice.ensures)
     c.index_mut.ensures.value c.read.ensures.reads in
-    it.only.whole (subst (IsWhole g.D.Disk) c.self.view_is c.self.invariant)
+    it.only.whole (subst (IsWholeLog g.D.Disk) c.self.view_is c.self.invariant)
 
 pub read-requires : goal.read-requires
 read-requires g c =
@@ -65,21 +65,21 @@ returns g c =
           subst (λ (x : ArenaRegion). (bytes : List ℕ)
           × (IsTrue g.D.Disk.tells
           → bytes ≡ clump_at x.region c.args.place.offset (g.D.Disk.bytes disk))
-          × ReadsAs g.S.Scorer.score_of bytes c.read.result)
+          × ReadsClumpAs g.S.Scorer.score_of bytes c.read.result)
           (it.r_one q at.arena)
           (subst (λ (d : _). (bytes : List ℕ)
           × (IsTrue g.D.Disk.tells → bytes ≡ clump_at r.region c.args.place.offset (g.D.Disk.bytes d))
-          × ReadsAs g.S.Scorer.score_of bytes c.read.result)
+          × ReadsClumpAs g.S.Scorer.score_of bytes c.read.result)
           (it.disk_one q disk at)
           (subst (λ (n : ℕ). (bytes : List ℕ)
           × (IsTrue g.D.Disk.tells
           → bytes ≡ clump_at r.region n (g.D.Disk.bytes c.index_mut.result.now.disk))
-          × ReadsAs g.S.Scorer.score_of bytes c.read.result) offset
+          × ReadsClumpAs g.S.Scorer.score_of bytes c.read.result) offset
           (c.read.ensures.answer (subst (λ (n : ℕ). HasHeader r.region.len n) (sym offset) here))));
       committed = λ q disk a before behind s tells at content blocks split is.
           let back : q ≡ r = sym (it.r_one q at.arena) in
           c.read.ensures.committed a before behind s tells
-          (subst (λ (x : ArenaRegion). IsContent g.S.Scorer.score_of x.region.len a) back content)
+          (subst (λ (x : ArenaRegion). IsArenaContent g.S.Scorer.score_of x.region.len a) back content)
           (subst (λ (x : ArenaRegion). HasBlocks x.region a.stored (g.D.Disk.bytes c.index_mut.result.now.disk)) back
           (subst (λ (d : _). HasBlocks q.region a.stored (g.D.Disk.bytes d)) (sym (it.disk_one q disk at)) blocks))
           split (offset ∙ is);
@@ -102,6 +102,6 @@ returns g c =
           (ap (λ (rs : List ArenaRegion). get_or rs c.args.place.arena no_region) c.as_slice.ensures)
           c.index_mut.ensures.value one).reads);
       spares = it.spares;
-      cause = tells_set g.D.Disk.faults is_fault c.args.self.now.disks _ r.part _ c.read.new.disk
+      cause = tells_set g.D.Disk.faults is_clump_fault c.args.self.now.disks _ r.part _ c.read.new.disk
           c.read.result it.only.was it.only.disks_are c.read.ensures.cause;
     }

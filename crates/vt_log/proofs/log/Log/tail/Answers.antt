@@ -1,7 +1,7 @@
 -- No arena is behind the last one.
 use Rattle.std.proofs.Common.{◌≡◌, ◌∙◌, ap, length, rules, subst}
 use Rattle.vt_log.specs.Log.{LogState, queued}
-use Rattle.vt_log.specs.Whole.{IsWhole}
+use Rattle.vt_log.specs.Whole.{IsWholeLog}
 use Rattle.vt_log.proofs.IsBehind.{tail_behind}
 use Rattle.vt_log.proofs.log.Log.tail.Goals as goal
 
@@ -13,4 +13,4 @@ returns-clause-behind g c h sound =
     rw (c.front.ensures.front, queue, arenas) (tail_behind _ _ c.args.self.now h sound)
 
 pub returns-clause-whole : goal.returns-clause-whole
-returns-clause-whole g c = subst (λ (l : LogState _). IsWhole g.D.Disk l) c.self.view_is c.self.invariant
+returns-clause-whole g c = subst (λ (l : LogState _). IsWholeLog g.D.Disk l) c.self.view_is c.self.invariant

@@ -1,5 +1,5 @@
 use Rattle.std.proofs.Common.{arith}
-use Rattle.vt_wire.specs.declared.rule.Rule.TheVariants.{UnknownMessage, BadMessage}
+use Rattle.vt_wire.specs.declared.protocol_cause.ProtocolCause.TheVariants.{UnknownMessage, BadMessage}
 use Rattle.vt_wire.proofs.RequestForms.{body_not_both}
 use Rattle.vt_session.specs.Heard.{unknown, misspelled}
 use Rattle.vt_session.specs.Parsed.{unheard}

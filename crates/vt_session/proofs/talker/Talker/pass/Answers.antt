@@ -4,9 +4,9 @@ use Rattle.vt_wire.proofs.Frames.{bytes-drop}
 use Rattle.vt_session.specs.declared.parsed.Next.{Next}
 use Rattle.vt_session.specs.Heard.{Unheard}
 use Rattle.vt_session.specs.Hearing.{going_on}
-use Rattle.vt_session.specs.Parsed.{IsFront}
+use Rattle.vt_session.specs.Parsed.{IsFrontFrame}
 use Rattle.vt_session.specs.Talker.{stage_of}
-use Rattle.vt_session.specs.Talking.{Stage, behind_line, Talking, IsNext, Passes}
+use Rattle.vt_session.specs.Talking.{Stage, behind_line, Talking, IsNextHeard, Passes}
 use Rattle.vt_session.proofs.Parsing.{front_enough}
 use Rattle.vt_session.proofs.Talking.{stage_heard, idle_passes, behind_passes, behind_holds}
 use Rattle.vt_session.proofs.talker.Talker.pass.Goals as goal
@@ -37,8 +37,8 @@ invariant_of-self c =
     } in
     let next = c.in-Some.next in
     let len = c.in-Some.len in
-    let x : IsFront left next len =
-    subst (λ b. IsFront (record left { bytes = b }) next len) c.as_slice.ensures.value
+    let x : IsFrontFrame left next len =
+    subst (λ b. IsFrontFrame (record left { bytes = b }) next len) c.as_slice.ensures.value
     c.in-Some.ensures.front in
     let enough = front_enough left next len x in record {
       counted = omega (
@@ -72,11 +72,11 @@ returns-clause-passes c =
     let next = c.in-Some.next in
     let len = c.in-Some.len in
     let phase = c.phase_behind-self-inside.result in
-    let x : IsFront left next len =
-    subst (λ b. IsFront (record left { bytes = b }) next len) c.as_slice.ensures.value
+    let x : IsFrontFrame left next len =
+    subst (λ b. IsFrontFrame (record left { bytes = b }) next len) c.as_slice.ensures.value
     c.in-Some.ensures.front in
     let P : Stage → Stage → Type 0 = λ old new.
-    (other : Next) → IsNext old other → Passes other old new in
+    (other : Next) → IsNextHeard old other → Passes other old new in
     subst (λ (t : Talking). P t.stage (stage_of phase (s.place + len) c.skip.new.self))
     c.self.view_is
     (subst (λ p. P (stage_of p s.place s.waiting)

@@ -6,7 +6,7 @@ use Rattle.std.proofs.lemmas.List.Elements.{All-contains}
 use Rattle.vt_base.specs.declared.place.Entry.{Entry}
 use Rattle.vt_base.specs.declared.place.Info.{Info}
 use Rattle.vt_icache.specs.Index.{IndexState, entries_below}
-use Rattle.vt_isect.specs.Agreement.{IsCovered}
+use Rattle.vt_isect.specs.Agreement.{IsMarkCovered}
 use Rattle.vt_isect.specs.Entries.{EntriesState}
 use Rattle.vt_isect.specs.Section.{SectionState, entries_of}
 use Rattle.vt_isect.specs.declared.head.Head.{Head}
@@ -99,7 +99,7 @@ returns-clause-sound g c = λ score setup h durable from told sound le which.
     (sym c.self.view_is) which in
     let agrees = c.begin_file.ensures.agrees score setup (take durable h) was.known was.agrees
     (λ entry it. below_durable score setup _ _ h durable from was c.args.below le entry (subst (λ (l : List Entry). Contains l entry) items it))
-    (λ live. subst (λ (l : List Entry). IsCovered score setup (take durable h) c.self.inside.section was.known (Contains l) c.args.mark) (sym items)
+    (λ live. subst (λ (l : List Entry). IsMarkCovered score setup (take durable h) c.self.inside.section was.known (Contains l) c.args.mark) (sym items)
     (either_covered score setup _ _ h durable from was c.args.below c.args.mark le mark)) in
     let head : c.begin_file.new.self.head ≡ c.self.inside.section.head = ap (λ (t : SectionState g.row.D.Denot). t.head) c.begin_file.ensures.same in
     let buckets : c.begin_file.new.self.buckets ≡ c.self.inside.section.buckets = ap (λ (t : SectionState g.row.D.Denot). t.buckets) c.begin_file.ensures.same in

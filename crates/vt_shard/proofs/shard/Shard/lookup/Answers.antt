@@ -3,7 +3,7 @@ use Rattle.std.specs.Prelude.{IsSome}
 use Rattle.std.proofs.lemmas.Bool.{false≢true}
 use Rattle.std.proofs.lemmas.Result.{err_from_is_err_and}
 use Rattle.vt_base.specs.declared.place.Entry.{Entry}
-use Rattle.vt_icache.specs.Index.{IndexState, entry_in, dirty_info, after_look_up}
+use Rattle.vt_icache.specs.Index.{IndexState, cached_entry, dirty_info, after_look_up}
 use Rattle.vt_icache.proofs.Found.{none_dirty}
 use Rattle.vt_shard.specs.Search.{IsFoundIn, IsOneOf}
 use Rattle.vt_shard.specs.Shard.{ShardState, ReadBucket, HasScore, bucket_at}
@@ -58,7 +58,7 @@ returns-in_err-read-clause-sound g c =
 not_kept : (g : _) (c : goal.After-find_in g) → c.find.result ≡ None
 not_kept g c = search rules
 
-none_kept : (g : _) (c : goal.After-find_in g) → entry_in c.args.key.now c.self.inside.index ≡ None
+none_kept : (g : _) (c : goal.After-find_in g) → cached_entry c.args.key.now c.self.inside.index ≡ None
 none_kept g c = sym c.find.ensures.found ∙ not_kept g c
 
 no_dirty : (g : _) (c : goal.After-find_in g) → dirty_info c.args.key.now c.read.new.self.index ≡ None

@@ -1,11 +1,11 @@
 use Rattle.std.proofs.Common.{◌≡◌, ◌≢◌, ◌⊎◌, inl, inr, ◌∙◌, Some, sym, ap, subst, refl, List, ◌==◌, true, true≢false}
 use Rattle.std.proofs.lemmas.Bool.Decides.{Decides-eqb}
 use Rattle.std.proofs.lemmas.Result.{err_from_is_err_and}
-use Rattle.vt_bucket.specs.Buckets.{number_of as bucket_number_of, entries_of as entries_in}
+use Rattle.vt_bucket.specs.Buckets.{number_of_bucket, bucket_entries}
 use Rattle.vt_isect.specs.Layout.{InRange}
 use Rattle.vt_isect.specs.Section.{SectionState}
-use Rattle.vt_isect.specs.declared.bad.ShardErr.{ShardErr}
-use Rattle.vt_isect.specs.declared.bad.ShardErr.TheVariants.{Fault, Damaged, Stopped}
+use Rattle.vt_isect.specs.declared.error.ShardErr.{ShardErr}
+use Rattle.vt_isect.specs.declared.error.ShardErr.TheVariants.{Fault, Damaged, Stopped}
 use Rattle.vt_isect.proofs.Fills.{synced_sound}
 use Rattle.vt_shard.specs.Shard.{ReadBucket, HasRead, read_bucket}
 use Rattle.vt_shard.specs.Sound.{IsSoundFrom}
@@ -71,7 +71,7 @@ returns-in_ok-bucket-clause-looks g c =
     let one : (c.args.number == c.args.number) ≡ true = (Decides-eqb c.args.number c.args.number).1 refl in
     let not = rw one at (rw same at c.ne.ensures) in
     true≢false (sym c.if-ne.true ∙ not) in
-    let read : ReadBucket = record { number = bucket_number_of c.in_ok-bucket.field-0; entries = entries_in c.in_ok-bucket.field-0 } in
+    let read : ReadBucket = record { number = number_of_bucket c.in_ok-bucket.field-0; entries = bucket_entries c.in_ok-bucket.field-0 } in
     rw (← c.self.view_is)
     (record {
       same = ap (λ (s : SectionState g.row.D.Denot). record (state_of c.self.inside) { section = s; bucket = Some read }) c.bucket.ensures.same;
@@ -97,7 +97,7 @@ returns-in_ok-bucket-clause-sound g c = record {
       (with_read score setup g.D.Disk _ h durable from was c.bucket.new.self.disk (read_bucket (Some c.in_ok-bucket.field-0))
       (synced_sound c.self.inside.section c.bucket.new.self.disk was.known _ _ _ _ c.bucket.ensures.reads.bytes c.bucket.ensures.reads.images was.section)
       (λ bucket is.
-      let same = one_bucket (record { number = bucket_number_of c.in_ok-bucket.field-0; entries = entries_in c.in_ok-bucket.field-0 }) bucket is in
+      let same = one_bucket (record { number = number_of_bucket c.in_ok-bucket.field-0; entries = bucket_entries c.in_ok-bucket.field-0 }) bucket is in
       subst (λ (b : ReadBucket). was.known b.number ≡ Some b.entries) same
       (ap was.known c.in_ok-bucket.ensures.number ∙ own.1 ∙ ap (λ (l : List _). Some l) (sym entries))));
   undamaged = λ score setup h durable from told sound. tt;

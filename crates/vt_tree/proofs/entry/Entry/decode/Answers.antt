@@ -1,6 +1,6 @@
 use Rattle.std.proofs.Common.{◌≡◌, ◌/◌, ◌%◌, None, sym, ◌∙◌, ap, subst, arith}
 use Rattle.vt_tree.specs.declared.entry.Entry.{Entry}
-use Rattle.vt_tree.specs.Entries.{IsEntry, SpellsEntry, entry_in, entry_fault, flags_in}
+use Rattle.vt_tree.specs.Entries.{IsTreeEntry, SpellsEntry, entry_in, entry_fault, flags_in}
 use Rattle.vt_tree.proofs.EntryBytes.{entry_spelled, entry_fits, entry_ranges, spelled_is_read, not_large, no_fault_said}
 use Rattle.vt_tree.proofs.entry.Entry.decode.Goals as goal
 
@@ -12,7 +12,7 @@ returns-clause-ok c =
     ap entry_fault (sym is) ∙ sym c.fault.ensures
     ∙ no_fault_said c.fault.result c.in_default.not-Some in
     let large : flags_in bytes / 64 % 2 ≡ 0 = not_large (flags_in bytes) c.if-flags-eq1.false in
-    subst (λ (e : Entry). IsEntry e × SpellsEntry e bytes) (sym is) (
+    subst (λ (e : Entry). IsTreeEntry e × SpellsEntry e bytes) (sym is) (
       record {
         fits = entry_fits bytes c.told-bytes (λ i. omega (arith, c.fits-bytes i));
         ranges = entry_ranges bytes c.told-bytes (λ i. omega (arith, c.fits-bytes i));

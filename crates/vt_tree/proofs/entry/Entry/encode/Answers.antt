@@ -1,7 +1,7 @@
 use Rattle.std.proofs.Common.{◌≡◌, ◌+◌, ◌*◌, ℕ, false, List, [], ◌∷◌, ◌++◌, take, length, refl, sym, ◌∙◌, ap, arith}
 use Rattle.std.proofs.lemmas.List.{take_all}
 use Rattle.byteorder.specs.Endian.{big_bytes}
-use Rattle.vt_tree.specs.Entries.{spelled, spelled_with, flags_of}
+use Rattle.vt_tree.specs.Entries.{tree_entry_bytes, spelled_with, flags_of}
 use Rattle.vt_tree.proofs.Written.{and_then, seven}
 use Rattle.vt_tree.proofs.entry.Entry.encode.Goals as goal
 
@@ -29,7 +29,7 @@ returns-clause-spells c =
     let between = and_then _ 5 _ _ _ _ zeros c.put-at.ensures.end c.put-at.ensures.written flags in
     let size = and_then _ 6 _ _ _ _ (big_bytes 6 e.size) c.put_u48-at.ensures.end
     c.put_u48-at.ensures.written between in
-    let is : c.put.new.buf ≡ spelled e =
+    let is : c.put.new.buf ≡ tree_entry_bytes e =
     sym (take_all c.put.result c.put.new.buf (omega arith))
     ∙ and_then _ (length e.score.0) _ _ _ _ e.score.0 c.put.ensures.end c.put.ensures.written size
     ∙ seven (big_bytes 4 e.generation) (big_bytes 2 e.psize) (big_bytes 2 e.dsize)

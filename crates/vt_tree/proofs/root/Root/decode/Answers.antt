@@ -1,7 +1,7 @@
 use Rattle.std.proofs.Common.{◌≡◌, drop, sym, ◌∙◌, subst, arith}
 use Rattle.std.proofs.lemmas.List.{take_rest}
 use Rattle.vt_tree.specs.declared.root.Root.{Root}
-use Rattle.vt_tree.specs.Roots.{IsRoot, spelled}
+use Rattle.vt_tree.specs.Roots.{IsRoot, root_bytes}
 use Rattle.vt_tree.proofs.RootBytes.{root_in, root_is, root_spelled, spelled_root_is_read}
 use Rattle.vt_tree.proofs.root.Root.decode.Goals as goal
 
@@ -23,7 +23,7 @@ returns-clause-ok c =
       block_size = sym c.u16_at-2.ensures i;
       prev = record { 0 = sym prev i };
     } in
-    subst (λ (r : Root). IsRoot r × (bytes ≡ spelled r)) same (
+    subst (λ (r : Root). IsRoot r × (bytes ≡ root_bytes r)) same (
       root_is bytes c.if-bytes-ne-ROOT_LEN.false (λ i. omega (arith, c.type_inv.bytes i)),
       root_spelled bytes c.if-bytes-ne-ROOT_LEN.false (λ i. omega (arith, c.type_inv.bytes i))
           (sym c.u16_at.ensures ∙ c.if-u16_at-ne2.false),

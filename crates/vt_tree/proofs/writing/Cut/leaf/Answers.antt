@@ -1,6 +1,6 @@
 use Rattle.std.proofs.Common.{ℕ, ◌<◌, List, length, take, Ok, Err, subst, arith}
 use Rattle.std.proofs.lemmas.Result.{err_from_is_err_and}
-use Rattle.vt_tree.specs.Growing.{Advances, PutsBlock, next_of, shape_of}
+use Rattle.vt_tree.specs.Growing.{TakesNextLeaf, PutsBlock, next_of, shape_of}
 use Rattle.vt_tree.specs.Streams.{leaf_block}
 use Rattle.vt_tree.specs.Writing.{IsTaken}
 use Rattle.vt_tree.proofs.Growth.{what_comes}
@@ -71,6 +71,6 @@ returns-clause-grown g c =
     (subst (λ (l : List ℕ). PutsBlock g.B.Blocks.does g.B.Scorer.score_of c.args.blocks.now
     c.put_leaf.new.blocks (leaf_block (shape_of cut) (take old.filled l))
     (Ok c.in_ok-score.score)) c.deref.ensures.value c.in_ok-score.ensures)
-    (subst (λ (n : ℕ). Advances n (next_of old) (next_of c.advance.new.self)
+    (subst (λ (n : ℕ). TakesNextLeaf n (next_of old) (next_of c.advance.new.self)
     (IsTaken g.R.Source.tells left (g.R.Source.left c.advance.new.source))) ready.room
     c.in_ok-advance.ensures.ok)

@@ -1,5 +1,5 @@
 use Rattle.std.proofs.Common.{◌≡◌, ◌-◌}
-use Rattle.vt_tree.specs.Growing.{IsReady, next_of, shape_of}
+use Rattle.vt_tree.specs.Growing.{IsReadyToWrite, next_of, shape_of}
 use Rattle.vt_tree.proofs.Whole.{Grown}
 use Rattle.vt_tree.proofs.writing.Cut.tree.Given as goal
 
@@ -9,7 +9,7 @@ invariant-loop-ahead g l = record {
   grown : Grown g.B.Blocks.does g.B.Scorer.score_of (shape_of l.self) g.R.Source.tells l.fn.blocks
       (next_of l.fn.ahead) l.blocks (next_of l.ahead) (g.R.Source.left l.fn.source)
       (g.R.Source.left l.source) l.depth l.score;
-  ready : IsReady g.B.Scorer.score_of l.self l.ahead g.R.Source.tells (g.R.Source.left l.source);
+  ready : IsReadyToWrite g.B.Scorer.score_of l.self l.ahead g.R.Source.tells (g.R.Source.left l.source);
   faults : g.R.Source.faults l.source ≡ g.R.Source.faults l.fn.source;
   kept : g.R.Source.kept l.source ≡ g.R.Source.kept l.fn.source;
 }

@@ -3,7 +3,7 @@ use mathlib.Core.List.{IsPrefix}
 use lib.ListN.{get_elem?}
 use Rattle.vt_turns.proofs.Lists.{inside}
 use Rattle.vt_turns_example.specs.declared.part.Part.TheVariants.{Log, Shard}
-use Rattle.vt_turns_example.specs.Blocks.{held}
+use Rattle.vt_turns_example.specs.Blocks.{held_value}
 use Rattle.vt_turns_example.proofs.Holding.{took_both, none_again}
 use Rattle.vt_turns_example.proofs.Answering.{number_held, number_none, wrote_held, wrote_nothing, wrote_new}
 use Rattle.vt_turns_example.proofs.store.Store.write.Goals as goal
@@ -95,7 +95,7 @@ returns-in-Some-clause-answered g c =
     let w = c.give_both.new.pass.me.0 in
     let same = c.give_both.ensures.same in
     wrote_held v w c.args.block found.0.value c.len-at.result c.compare-said.result (subst (λ h. IsPrefix v.seen h) (sym same.0) t.pre) (same.1 ∙ t.own)
-    (let long = ap length (t.log_is ∙ sym same.0) in omega arith) (ap (λ h. held h c.args.block.key) same.0 ∙ found.2) (c.compare-said.ensures found.0 there)
+    (let long = ap length (t.log_is ∙ sym same.0) in omega arith) (ap (λ h. held_value h c.args.block.key) same.0 ∙ found.2) (c.compare-said.ensures found.0 there)
 
 pub returns-in-None-clause-answered : goal.returns-in-None-clause-answered
 returns-in-None-clause-answered g c =

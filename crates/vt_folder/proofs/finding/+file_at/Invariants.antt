@@ -1,5 +1,0 @@
-use Rattle.std.proofs.Common.{length}
-use Rattle.vt_folder.proofs.finding.+file_at.Given as goal
-
-abbrev pub decreases-file_at : goal.decreases-file_at
-decreases-file_at l = length l.path.now

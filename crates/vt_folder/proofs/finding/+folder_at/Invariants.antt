@@ -1,5 +1,0 @@
-use Rattle.std.proofs.Common.{length}
-use Rattle.vt_folder.proofs.finding.+folder_at.Given as goal
-
-abbrev pub decreases-folder_at : goal.decreases-folder_at
-decreases-folder_at l = length l.path.now

@@ -1,5 +1,0 @@
-use Rattle.std.proofs.Common.{length}
-use Rattle.vt_folder.proofs.finding.+inside_of.Given as goal
-
-abbrev pub decreases-inside_of : goal.decreases-inside_of
-decreases-inside_of l = length l.items.now

@@ -1,9 +1,0 @@
--- What stands under a name.
-use Rattle.vt_folder.specs.declared.item.Facts.{Facts}
-use Rattle.vt_folder.specs.Items.{Items}
-
--- nothing, a folder that was handed out, or one that holds these items
-pub data Standing : Type 0 where
-  nothing : Standing
-  lent : Standing
-  there : (items : Items Facts) → Standing

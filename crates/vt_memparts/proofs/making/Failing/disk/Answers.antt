@@ -1,6 +1,0 @@
-use Rattle.vt_memparts.proofs.Standings.{made_zero}
-use Rattle.vt_memparts.proofs.making.Failing.disk.Goals as goal
-
-pub returns-clause-made : goal.returns-clause-made
-returns-clause-made g c =
-    made_zero _ c.failing.result c.args.len c.failing.ensures.length c.failing.ensures.length c.failing.ensures.zero c.failing.ensures.settled

@@ -1,0 +1,50 @@
+//! Why a partition is refused.
+
+use std::alloc::AllocFailed;
+use vt_base::Failed;
+
+/// A field of block 0 that is tested.
+#[derive(Clone, Copy, Debug, PartialEq, Eq)]
+pub enum Field {
+    Version,
+    ArenaSize,
+    Count,
+}
+
+/// Why a partition is refused. Lengths are of the whole disk, in bytes.
+#[derive(Clone, Copy, Debug, PartialEq, Eq)]
+pub enum PartBad {
+    /// A call of the disk failed, and its count of faults rose.
+    Fault,
+    TooSmall { len: u64, need: u64 },
+    /// The first four bytes aren't `VPRT`.
+    NotFormatted,
+    /// What was found in a field can't stand there. What was wanted is the one value that can or,
+    /// where there are several, the least.
+    Torn { field: Field, found: u64, want: u64 },
+    /// Two partitions of a list have one name. They are counted from 0.
+    DuplicateName { first: u32, second: u32 },
+    NoMemory,
+}
+
+impl From<Failed> for PartBad {
+    ghost use Rattle.std.specs.Prelude.{◌≡◌};
+    ghost use Rattle.vt_part.specs.declared.error.PartBad.{PartBad};
+
+    ghost from_gives = { λ _ bad. bad ≡ PartBad.Fault };
+
+    fn from(_failed: Failed) -> Self {
+        PartBad::Fault
+    }
+}
+
+impl<T: Drop> From<AllocFailed<T>> for PartBad {
+    ghost use Rattle.std.specs.Prelude.{◌≡◌};
+    ghost use Rattle.vt_part.specs.declared.error.PartBad.{PartBad};
+
+    ghost from_gives = { λ _ bad. bad ≡ PartBad.NoMemory };
+
+    fn from(_failed: AllocFailed<T>) -> Self {
+        PartBad::NoMemory
+    }
+}

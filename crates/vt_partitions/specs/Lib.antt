@@ -1,0 +1,2 @@
+pub mod NamedInMemory
+pub mod Parts

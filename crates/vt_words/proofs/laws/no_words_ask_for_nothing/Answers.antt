@@ -1,5 +1,0 @@
-use Rattle.vt_words.proofs.Asking.{no_words}
-use Rattle.vt_words.proofs.laws.no_words_ask_for_nothing.Goals as goal
-
-pub returns : goal.returns
-returns c asked asks = no_words asked asks

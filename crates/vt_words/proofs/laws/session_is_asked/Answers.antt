@@ -1,5 +1,0 @@
-use Rattle.vt_words.proofs.Asking.{session_taken, session_spoken}
-use Rattle.vt_words.proofs.laws.session_is_asked.Goals as goal
-
-pub returns : goal.returns
-returns c = (session_taken, session_spoken)
