@@ -29,11 +29,11 @@ FOLDER = os.path.join(TOP, "crates", PROGRAM)
 LOG = os.path.join(FOLDER, "out", "build.log")
 # What the check of the largest crate takes of the memory; most take half of that.
 MEMORY = 2 << 30
-# What is called of the script rt, with arguments as they are given here.
+# What is called of the script rt, with arguments as they are given here; `share_work` only where there is one.
 CALLS = [
-    ("share_work", [True]), ("rtlib.guarded", []), ("rtlib.lock", [[]]), ("rtlib.stop_on_links", [""]),
+    ("rtlib.guarded", []), ("rtlib.lock", [[]]), ("rtlib.stop_on_links", [""]),
     ("rtlib.files_of", [""]), ("rtlib.text_of", [""]), ("rtlib.Crate", ["", "", {}]), ("rtlib.Crate.below", [None]),
-    ("rtlib.Crate.is_built", [None]), ("rtlib.Crate.build_rlib", [None, [], False]),
+    ("rtlib.Crate.is_built", [None]), ("rtlib.Crate.build_rlib", [None, [], False]), ("rtlib.Crate.stamp", [None]),
 ]
 
 
@@ -59,6 +59,26 @@ def toolchain():
     except Exception:
         return None
     return rt
+
+
+def ask_once(rt):
+    """Has each call of `stamp`, the sum of what a crate and those below it are made of, read each crate once. The script
+    rt reads one along each way that leads to it, which takes minutes for those on top."""
+    read, call = rt.rtlib.Crate.stamp, threading.local()
+
+    def stamp(crate):
+        known = getattr(call, "known", None)
+        if known is None:
+            call.known = {}
+            try:
+                return stamp(crate)
+            finally:
+                call.known = None
+        if crate.name not in known:
+            known[crate.name] = read(crate)
+        return known[crate.name]
+
+    rt.rtlib.Crate.stamp = stamp
 
 
 def lines_of(rt, crate):
@@ -121,7 +141,8 @@ class Jobs:
 
 def prove_each(rt, log):
     """Whether each crate below the program is proved, as a job of its own."""
-    rt.share_work(True)
+    getattr(rt, "share_work", lambda _: None)(True)
+    ask_once(rt)
     # (what it starts ends with this process; the first call has to come from the main thread)
     rt.rtlib.guarded()
     program = rt.rtlib.Crate(FOLDER, TOP, {})

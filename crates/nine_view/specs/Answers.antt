@@ -48,18 +48,23 @@ pub data Answer : Type 0 where
 
 -- ---- outcomes
 
+-- it is replied so, and the view stays what it is
 abbrev pub stays : ViewState → RMessage → ViewOutcome
 stays known reply = record { reply = reply; known = known }
 
+-- it is refused for this reason, and the view stays what it is
 abbrev pub refuses : ViewState → RequestError → ViewOutcome
 refuses known why = stays known (r_error (refusal_words why))
 
+-- the same, as an answer that reads no block
 abbrev pub refused_answer : ViewState → RequestError → Answer
 refused_answer known why = settled (refuses known why)
 
+-- it is replied so, and the view has these fids
 abbrev pub with_known : ViewState → List (ℕ × Fid) → RMessage → ViewOutcome
 with_known known fids reply = stays (record known { fids = fids }) reply
 
+-- it is replied so, and this fid stands here
 abbrev pub sets_fid : ViewState → (fid : ℕ) → Fid → RMessage → ViewOutcome
 sets_fid known fid f reply = with_known known (with_fid fid f known.fids) reply
 
@@ -90,6 +95,7 @@ to_version known msize version =
 
 -- ---- attach(5)
 
+-- what an attach is answered (attach(5))
 abbrev pub to_attach : ViewState → (fid afid : ℕ) → Answer
 to_attach known fid afid =
     if not (afid == NO_FID) then refused_answer known NoAuthentication
@@ -105,6 +111,7 @@ abbrev pub to_names : (newfid : ℕ) → Place → (names : List (List ℕ)) →
 to_names newfid at [] = sets newfid (unopened at) (r_walk [])
 to_names newfid at (name ∷ names) = walks newfid at (name ∷ names)
 
+-- what a walk is answered (walk(5))
 abbrev pub to_walk : ViewState → (fid newfid : ℕ) → (names : List (List ℕ)) → Fid → Answer
 to_walk known fid newfid names f =
     let is_new = not (is_known newfid known.fids) in
@@ -129,6 +136,7 @@ iounit msize = msize - 24
 abbrev pub unread : Reading
 unread = record { next = 0; offset = 0 }
 
+-- what an open is answered (open(5))
 abbrev pub to_open : ViewState → (msize fid mode : ℕ) → Fid → ViewOutcome
 to_open known msize fid mode f =
     if is_some f.reading then refuses known FidIsOpen
@@ -179,6 +187,7 @@ to_stored known fid f reading offset room (stored.Folder entries metadata) =
     if not (offset == 0) && not (offset == reading.offset) then refused_answer known BadOffset
     else to_folder known fid f reading offset room f.files
 
+-- what a read is answered (read(5)): only a fid that is open is read
 abbrev pub to_read : ViewState → (fid offset room : ℕ) → Fid → Option Reading → Answer
 to_read known fid offset room f None = refused_answer known FidNotOpen
 to_read known fid offset room f (Some reading) =
@@ -186,6 +195,7 @@ to_read known fid offset room f (Some reading) =
 
 -- ---- stat(5)
 
+-- what a stat is answered (stat(5))
 abbrev pub to_stat : ViewState → (msize : ℕ) → Fid → ViewOutcome
 to_stat known msize f =
     let reply = r_stat (stat_of f.node) in
@@ -228,10 +238,12 @@ abbrev pub answer_first : ViewState → TMessage → Answer
 answer_first known (t_version wanted version) = settled (to_version known wanted version)
 answer_first known m = refused_answer known VersionExpected
 
+-- what a request is answered, before a message size is agreed and behind that
 abbrev pub answer_request : ViewState → Option ℕ → TMessage → Answer
 answer_request known None m = answer_first known m
 answer_request known (Some msize) m = answer_agreed known msize m
 
+-- what is answered to what came in, be it a request or not
 abbrev pub answer_to : ViewState → Asked → Answer
 answer_to known unknown = refused_answer known UnknownMessage
 answer_to known misspelled = refused_answer known BadMessage

@@ -6,6 +6,7 @@ use Rattle.vac_read.specs.declared.node.Stored.TheVariants as stored
 use Rattle.vac_read.specs.Nodes.{AreNodeEntries, FitsToldItem}
 use Rattle.nine_wire.specs.Messages.{Qid, Stat, stat_bytes}
 
+-- whether it is a folder
 abbrev pub is_folder : Stored → Bool
 is_folder (stored.File e) = false
 is_folder (stored.Folder entries metadata) = true
@@ -18,6 +19,7 @@ qid_of node = record { folder = is_folder node.stored; path = node.qid }
 abbrev pub folder_bit : Stored → ℕ
 folder_bit stored = if is_folder stored then 0x80000000 else 0
 
+-- what is told of an item (stat(5))
 abbrev pub stat_of : Node → Stat
 stat_of node = record {
   qid = qid_of node;

@@ -67,6 +67,7 @@ pub record Handles {S : Type 0} (does : S → Call → S → Type 0) (holds : S 
   pub whole : NeverFails answer → archive_failure result ≡ None
   pub failed_so : IfSome (archive_failure result) (λ bad. stays new reply ≡ fails old bad)
 
+-- an answer that reads no block was put out, and the view is as it says
 abbrev pub SettlesSo : (tag : ℕ) → (old new : ViewState) → (out : List ℕ) → Result ℕ AnswerError
     → Answer
     → Type 0
@@ -120,6 +121,7 @@ pub record SettlesFid (tag : ℕ) (old new : ViewState) (out : List ℕ) (result
       (λ bad. (bad ≡ NoMemory) × (new ≡ old))
   pub right : (map : BlockMap) → IsRightView map old → IsRightView map new
 
+-- the same for an answer that sets a fid, which takes memory
 abbrev pub SetsFid : (tag : ℕ) → (old new : ViewState) → (out : List ℕ) → Result ℕ AnswerError
     → Answer
     → Type 0

@@ -16,6 +16,7 @@ pub record IsMessageSize (msize : ℕ) : Type 0 where
   pub least : 256 ≤ msize
   pub most : msize ≤ 65536
 
+-- The invariant of a view: each fid's item and those above it fit a message.
 pub record IsKeptView (known : ViewState) : Type 0 where
   pub top : FitsMessage known.top
   pub msize : IfSome known.msize IsMessageSize

@@ -21,9 +21,11 @@ limit known = unwrap_or known.msize MAX_MESSAGE
 
 -- ---- fids
 
+-- where this fid stands, if it is in use
 abbrev pub fid_at : (fid : ℕ) → List (ℕ × Fid) → Option Fid
 fid_at fid fids = option_map (λ e. e.1) (find (λ e. e.0 == fid) fids)
 
+-- whether the fid is in use
 abbrev pub is_known : (fid : ℕ) → List (ℕ × Fid) → Bool
 is_known fid fids = is_some (fid_at fid fids)
 
@@ -32,6 +34,7 @@ abbrev pub with_fid : (fid : ℕ) → Fid → List (ℕ × Fid) → List (ℕ ×
 with_fid fid f [] = (fid, f) ∷ []
 with_fid fid f (e ∷ fids) = if e.0 == fid then (fid, f) ∷ fids else e ∷ with_fid fid f fids
 
+-- the fids without this one
 abbrev pub without_fid : (fid : ℕ) → List (ℕ × Fid) → List (ℕ × Fid)
 without_fid fid [] = []
 without_fid fid (e ∷ fids) = if e.0 == fid then fids else e ∷ without_fid fid fids
@@ -49,6 +52,7 @@ abbrev pub AreFiles : BlockMap → Node → Option (List Node) → Type 0
 AreFiles map node None = ⊤
 AreFiles map node (Some files) = Lists map node.stored files
 
+-- the fid stands for an item of the archive, with the folders above it and the files that it lists
 pub record IsRightFid (map : BlockMap) (top : Node) (f : Fid) : Type 0 where
   pub way : IsWay map top f.node f.above
   pub files : AreFiles map f.node f.files

@@ -3,6 +3,7 @@ use Rattle.std.specs.Prelude.{List, ℕ, codes}
 use Rattle.nine_view.specs.declared.request_error.RequestError.{RequestError}
 use Rattle.nine_view.specs.declared.request_error.RequestError.TheVariants.{UnknownMessage, BadMessage, VersionExpected, SmallSize, NoAuthentication, BadFid, FidInUse, TooManyFids, UnknownFid, ReadOnly, TooManyNames, FidIsOpen, NoDirectory, NoFile, FidNotOpen, BadOffset, SmallCount}
 
+-- the text of the error that tells why a request is refused
 abbrev pub refusal_words : RequestError → List ℕ
 refusal_words UnknownMessage = codes "unknown message"
 refusal_words BadMessage = codes "bad message"

@@ -28,6 +28,7 @@ pub record MessageTurn : Type 0 where
 abbrev pub came_in : List MessageTurn → List ℕ
 came_in turns = flat_map (λ turn. turn.message) turns
 
+-- all bytes that went out in these turns
 abbrev pub said_in : List MessageTurn → List ℕ
 said_in turns = flat_map (λ turn. turn.said) turns
 
@@ -99,6 +100,7 @@ abbrev pub ReadCause : Ended → (old new : ℕ) → Type 0
 ReadCause ReadFault old new = HasRisen old new
 ReadCause ended old new = new ≡ old
 
+-- the count of failed writes rose where a connection ended in a write fault, and only there
 abbrev pub WriteCause : Ended → (old new : ℕ) → Type 0
 WriteCause WriteFault old new = HasRisen old new
 WriteCause ended old new = new ≡ old
@@ -108,6 +110,7 @@ abbrev pub ReadsSo : {X : Type 0} → Result X Ended → (old new : ℕ) → Typ
 ReadsSo (Ok done) old new = new ≡ old
 ReadsSo (Err ended) old new = ReadCause ended old new
 
+-- the same of a call that may go on
 abbrev pub WritesSo : {X : Type 0} → Result X Ended → (old new : ℕ) → Type 0
 WritesSo (Ok done) old new = new ≡ old
 WritesSo (Err ended) old new = WriteCause ended old new
@@ -132,14 +135,17 @@ pub record ServesConnection {S : Type 0} (does : S → Call → S → Type 0) (h
 
 -- ---- one message
 
+-- all that came was taken, or it ended at this place of the input
 abbrev pub GoesOnOr : Result (Unit {0}) Ended → (limit place : ℕ) → (rest : List ℕ) → Type 0
 GoesOnOr (Ok done) limit place rest = rest ≡ []
 GoesOnOr (Err ended) limit place rest = EndsSo ended limit place rest
 
+-- all that was to be said went out, or what did is as its end says
 abbrev pub SaysAllOr : Result (Unit {0}) Ended → List MessageTurn → (output : List ℕ) → Type 0
 SaysAllOr (Ok done) turns output = output ≡ said_in turns
 SaysAllOr (Err ended) turns output = GoesOut ended turns output
 
+-- where it ended at the input's end, nothing of that is left
 abbrev pub IsAtEndOr : Result (Unit {0}) Ended → (left : List ℕ) → Type 0
 IsAtEndOr (Ok done) left = ⊤
 IsAtEndOr (Err ended) left = IsAtEnd ended left

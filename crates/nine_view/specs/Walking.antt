@@ -21,6 +21,7 @@ use Rattle.nine_view.specs.Handling.{Says}
 use Rattle.nine_view.specs.Known.{ViewState}
 use Rattle.nine_view.specs.Walks.{Walk, Walks, IsLost, StepsTo, dots}
 
+-- the item and those above it fit a message
 pub record IsToldPlace (at : Place) : Type 0 where
   pub node : FitsMessage at.node
   pub above : AllByRecursion FitsMessage at.above
@@ -52,14 +53,17 @@ abbrev pub StepIsLost : BlockMap → Place → (name : List ℕ) → VacBad → 
 StepIsLost map at name bad =
     (bytes_eq name dots ≡ false) × IsUnfound map at.node.stored name bad
 
+-- where one name leads from here, or why that can't be told
 abbrev pub TellsStep : Place → (name : List ℕ) → Result (Result Place RequestError) VacBad
     → BlockMap
     → Type 0
 TellsStep at name result map = AnswersOrTells result (StepsTo map at name) (StepIsLost map at name)
 
+-- a walk in memory, as contracts see it
 abbrev pub walk_of : Walked → Walk
 walk_of walked = record { qids = map wire_qid walked.qids.items; end = walked.end }
 
+-- where the names lead from here, or why that can't be told
 abbrev pub TellsWalk : Place → (names : List (List ℕ)) → Result Walked VacBad → BlockMap → Type 0
 TellsWalk from names result map =
     AnswersOrTells result (λ walked. Walks map (Ok from) names (walk_of walked))

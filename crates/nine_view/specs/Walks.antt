@@ -40,6 +40,7 @@ pub record Walk : Type 0 where
   pub qids : List Qid
   pub end : Result Place RequestError
 
+-- a walk that begins with this step
 abbrev pub further : Result Place RequestError → Walk → Walk
 further (Err why) rest = rest
 further (Ok at) rest = record { qids = qid_of at.node ∷ rest.qids; end = rest.end }

@@ -1,4 +1,4 @@
-//! Answering a message.
+//! Answering a message: a request's type says which of the files beside this one answers it.
 
 ghost use Rattle.std.specs.Prelude.{◌≡◌, ◌==◌, ◌≤◌, ℕ, List, IsSome, Some, None, length, take};
 ghost use Rattle.std.specs.List.{position_or_len};
@@ -61,7 +61,7 @@ impl View {
         }
     }
 
-    /// Answers a request.
+    /// Answers a request by its type, once a message size is agreed.
     fn answer_request<B: Blocks>(
         &mut self,
         alloc: Global,
@@ -337,7 +337,7 @@ fn said(tag: u16, limit: usize, answer: Result<usize, AnswerError>, out: &mut [u
     }
 }
 
-/// Writes a refusal.
+/// Writes an Rerror with the words of this refusal.
 fn refuse(tag: u16, why: RequestError, out: &mut [u8]) -> Answered
     requires { length out.old ≡ 65536 }
     ensures says { Says tag 256 out.new result.len (r_error (refusal_words why)) }

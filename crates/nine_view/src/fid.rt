@@ -1,4 +1,4 @@
-//! Fids.
+//! What stands behind a fid, the number by which a client names a file (intro(5)).
 
 ghost use Rattle.std.specs.Prelude.{◌≡◌, IfOk};
 

@@ -96,7 +96,8 @@ impl Fids {
         }
     }
 
-    /// Keeps the files of an open folder.
+    /// Keeps the files that an open folder lists, so that the next read of it goes on; it does
+    /// nothing where the fid isn't known.
     pub(crate) fn keep(&mut self, fid: u32, files: Nodes)
         ensures { IfSome (fid_at fid self.old) (λ f.
             self.new ≡ with_fid fid (record f { files = Some files }) self.old) }
@@ -107,14 +108,14 @@ impl Fids {
     }
 }
 
-/// The entry of a fid.
+/// The number and what stands behind it, if the fid is known.
 fn find_entry<'a>(entries: &'a [(u32, Fid)], fid: u32) -> Option<&'a (u32, Fid)>
     ensures { option_copied result ≡ find (λ e. e.0 == fid) entries.now }
 {
     entries.iter().find(|entry| entry.0 == fid)
 }
 
-/// Where the entry of a fid stands.
+/// Where in the list the fid stands, if it is known.
 fn place_of(entries: &[(u32, Fid)], fid: u32) -> Option<usize>
     ensures { result ≡ position (λ e. e.0 == fid) entries.now }
 {

@@ -1,4 +1,4 @@
-//! Where a fid stands.
+//! Where a fid stands: a file of the archive, with the folders above it.
 
 ghost use Rattle.std.specs.Prelude.{◌≡◌, ◌∷◌, IfOk};
 ghost use Rattle.nine_view.specs.Walks.{parent};
@@ -31,7 +31,7 @@ impl Place {
         }
     }
 
-    /// A file in this folder.
+    /// The place of a file of this folder, which then stands above it.
     pub fn into_file(self, node: Node) -> Result<Place, AllocError>
         ensures { IfOk result (λ at. (at.node ≡ node) × (at.above ≡ self.node ∷ self.above)) }
     {

@@ -132,7 +132,7 @@ fn turn<B: Blocks, L: Link>(
     }
 }
 
-/// Keeps the first failure.
+/// Keeps the failure of the first read of the archive that failed.
 fn keep_first(first: &mut Option<VacBad>, failure: Option<VacBad>)
     ensures { first.new ≡ option_or first.old failure }
 {
@@ -159,6 +159,7 @@ fn hear<L: Link>(
     ensures reads { ReadsSo result (L.read_faults link.old) (L.read_faults link.new) }
     ensures writes { L.write_faults link.new ≡ L.write_faults link.old }
 {
+    // (size[4] counts itself; behind it there are type[1] and tag[2] at least, so 7 bytes)
     fill(taken, false, &mut message[..4], link)?;
     let size = LittleEndian::read_u32(message) as usize;
     if size < 7 || size > limit {

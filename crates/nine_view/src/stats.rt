@@ -1,4 +1,4 @@
-//! What is told of files.
+//! What is told of files: qids, and stats (stat(5)).
 
 ghost use Rattle.std.specs.Prelude.{◌≡◌, ◌≤◌, length, take};
 ghost use Rattle.std.specs.List.{All, flat_map};

@@ -1,4 +1,4 @@
-//! What a view of an archive keeps.
+//! What a view of an archive keeps from one message to the next.
 
 ghost use Rattle.std.specs.Prelude.{◌≡◌, ◌≤◌, None, [], IfOk, unwrap_or};
 ghost use Rattle.nine_view.specs.Files.{FitsMessage};
@@ -14,7 +14,9 @@ use vac_read::{Archive, Node};
 /// is agreed, and the fids that it has set.
 #[derive(Drop)]
 pub struct View {
+    /// The archive's top folder.
     pub(crate) top: Node,
+    /// The most bytes of a message; none before one is agreed.
     pub(crate) msize: Option<u32>,
     pub(crate) fids: Fids,
     /// Room for what a folder tells of its files.

@@ -1,4 +1,4 @@
-//! The folders above a file.
+//! The folders above a file, by which a walk goes up again.
 
 ghost use Rattle.std.specs.Prelude.{◌≡◌, [], ◌∷◌, MatchOption, IfOk, OnErr};
 
@@ -23,7 +23,7 @@ impl Model for Way {
 }
 
 impl Way {
-    /// None, as above the top folder.
+    /// No folders, as above the top folder.
     pub fn new(alloc: Global) -> Self
         ensures { result ≡ [] }
     {
@@ -32,7 +32,7 @@ impl Way {
         }
     }
 
-    /// The same in memory of its own.
+    /// A copy, for another fid.
     pub fn copied(&self, alloc: Global) -> Result<Self, AllocError>
         ensures { IfOk result (λ way. way ≡ self.now) }
     {

@@ -59,6 +59,7 @@ string bytes = little_bytes 2 (length bytes) ++ bytes
 abbrev pub IsString : List ℕ → Type 0
 IsString bytes = length bytes < 2 ^ 16
 
+-- the type of a request's frame (intro(5))
 abbrev pub request_type : TMessage → ℕ
 request_type (t_version msize version) = 100
 request_type (t_auth afid uname aname) = 102
@@ -80,6 +81,7 @@ is_request_type t =
     t == 100 || t == 102 || t == 104 || t == 108 || t == 110 || t == 112 || t == 114
     || t == 116 || t == 118 || t == 120 || t == 122 || t == 124 || t == 126
 
+-- the bytes behind type and tag of a request
 abbrev pub parameters : TMessage → List ℕ
 parameters (t_version msize version) = little_bytes 4 msize ++ string version
 parameters (t_auth afid uname aname) = little_bytes 4 afid ++ (string uname ++ string aname)
@@ -145,6 +147,7 @@ stat_fields s =
 abbrev pub stat_bytes : Stat → List ℕ
 stat_bytes s = string (stat_fields s)
 
+-- the type of a reply's frame (intro(5))
 abbrev pub reply_type : RMessage → ℕ
 reply_type (r_version msize version) = 101
 reply_type (r_attach qid) = 105
@@ -156,6 +159,7 @@ reply_type (r_read bytes) = 117
 reply_type r_clunk = 121
 reply_type (r_stat stat) = 125
 
+-- the bytes behind type and tag of a reply
 abbrev pub reply_parameters : RMessage → List ℕ
 reply_parameters (r_version msize version) = little_bytes 4 msize ++ string version
 reply_parameters (r_attach qid) = qid_bytes qid

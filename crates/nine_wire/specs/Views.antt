@@ -8,6 +8,7 @@ use Rattle.nine_wire.specs.declared.stat.Qid as qids
 use Rattle.nine_wire.specs.declared.stat.Stat as stats
 use Rattle.nine_wire.specs.Messages.{TMessage, t_version, t_auth, t_attach, t_flush, t_walk, t_open, t_create, t_read, t_write, t_clunk, t_remove, t_stat, t_wstat, Qid, Stat, RMessage, r_version, r_attach, r_flush, r_walk, r_open, r_read, r_clunk, r_stat, r_error}
 
+-- the request that one in memory is
 abbrev pub message_of : Request → TMessage
 message_of (requests.Version msize version) = t_version msize version.now
 message_of (requests.Auth afid uname aname) = t_auth afid uname.now aname.now
@@ -23,9 +24,11 @@ message_of (requests.Remove fid) = t_remove fid
 message_of (requests.Stat fid) = t_stat fid
 message_of (requests.Wstat fid stat) = t_wstat fid stat.now
 
+-- the qid that one in memory is
 abbrev pub wire_qid : qids.Qid → Qid
 wire_qid q = record { folder = q.is_folder; path = q.path }
 
+-- the stat that one in memory is
 abbrev pub wire_stat : stats.Stat → Stat
 wire_stat s = record {
   qid = wire_qid s.qid;
@@ -37,6 +40,7 @@ wire_stat s = record {
   gid = s.gid.now;
 }
 
+-- the reply that one in memory is
 abbrev pub reply_of : Reply → RMessage
 reply_of (replies.Version msize version) = r_version msize version.now
 reply_of (replies.Attach qid) = r_attach (wire_qid qid)

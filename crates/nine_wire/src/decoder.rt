@@ -106,7 +106,7 @@ fn at_end<'a>(value: Request<'a>, rest: &[u8]) -> Option<Request<'a>>
     if rest.is_empty() { Some(value) } else { None }
 }
 
-/// A fid and nothing more.
+/// The parameters of a message that has a fid and nothing more.
 fn alone(parameters: &[u8]) -> Option<u32>
     ensures found { IfSome result (λ fid. parameters.now ≡ little_bytes 4 fid) }
     ensures none { IfNone result (length parameters.now ≢ 4) }

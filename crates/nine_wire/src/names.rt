@@ -11,6 +11,7 @@ use std::marker::Model;
 /// The names of a walk (walk(5)), which contracts see as a list.
 #[derive(Drop)]
 pub struct Names<'a> {
+    /// How many names the bytes still have.
     count: u16,
     bytes: &'a [u8],
 }
@@ -36,6 +37,7 @@ impl<'a> Names<'a> {
         self.count
     }
 
+    /// Whether no names are left.
     pub fn is_empty(&self) -> bool
         ensures { result ≡ (length self.now == 0) }
     {

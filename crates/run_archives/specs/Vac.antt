@@ -58,6 +58,7 @@ unfit_for (vac.BadName path) = BadName 0
 unfit_for (vac.TooDeep path) = TooDeep 0
 unfit_for vac.NoMemory = NoMemory
 
+-- what is told where a folder isn't archived into a configuration's store
 abbrev pub IsArchiveRefusal : (file : List ℕ) → Conf → ArchiveError → CommandError → Type 0
 IsArchiveRefusal file conf (bads.Unopened bad) failure = IsOpenRefusal file conf bad failure
 IsArchiveRefusal file conf (bads.Folder err) failure = failure ≡ unfit_for err

@@ -34,6 +34,7 @@ unread_block (blocks.WrongScore want found) refused = Damaged (Score want) (Scor
 unread_block (blocks.Damaged want found) refused = Damaged want found
 unread_block blocks.NoMemory refused = NoMemory
 
+-- what is told where a tree of the archive can't be read
 abbrev pub unread_tree : TreeErr → Option ClientErr → CommandError
 unread_tree (trees.Block err) refused = unread_block err refused
 unread_tree trees.SourceFault refused = BadArchive 0
@@ -42,6 +43,7 @@ unread_tree (trees.BadBlock depth len) refused = BadArchive 0
 unread_tree trees.TooLong refused = BadArchive 0
 unread_tree trees.NoMemory refused = NoMemory
 
+-- what is told where the archive can't be read
 abbrev pub unread_for : VacBad → Option ClientErr → CommandError
 unread_for (vac.Tree err) refused = unread_tree err refused
 unread_for (vac.Root field) refused = BadArchive 0
@@ -60,6 +62,7 @@ outcome_of_view_end ends.ReadFault taken = Err ReadFault
 outcome_of_view_end ends.WriteFault taken = Err WriteFault
 outcome_of_view_end ends.NoMemory taken = Err NoMemory
 
+-- the outcome by what could not be read, if that is so
 abbrev pub unread_in : Option VacBad → Option ClientErr → CommandOutcome
 unread_in None refused = Ok tt
 unread_in (Some bad) refused = Err (unread_for bad refused)

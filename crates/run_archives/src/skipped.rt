@@ -1,4 +1,5 @@
 //! What is left out of an archive.
+// Tests: crates/run_tests_archives/src/vac.rt.
 
 ghost use Rattle.std.specs.Prelude.{◌≡◌, ◌++◌, IsTrue, OnErr, OnOk};
 ghost use Rattle.vt_base.specs.Faults.{HasCause};

@@ -1,4 +1,5 @@
 //! What is told of an archive that was served to a client, or couldn't be read.
+// Tests: crates/run_tests_archives/src/vacfs.rt.
 
 ghost use Rattle.std.specs.Prelude.{◌≡◌};
 ghost use Rattle.run_archives.specs.Viewed.{fault_by, outcome_of_view, outcome_of_view_end, unread_block};
@@ -57,7 +58,7 @@ fn unread_for(bad: VacBad, refused: Option<ClientErr>) -> CommandError
     }
 }
 
-/// The same, of a stream in it.
+/// What is told where a stream in it can't be read.
 fn unread_tree(err: TreeErr, refused: Option<ClientErr>) -> CommandError
     ensures { result ≡ unread_tree err refused }
 {
@@ -69,7 +70,7 @@ fn unread_tree(err: TreeErr, refused: Option<ClientErr>) -> CommandError
     }
 }
 
-/// The same, of a block.
+/// What is told where a block of it can't be read.
 fn unread_block(err: BlockErr, refused: Option<ClientErr>) -> CommandError
     ensures { result ≡ unread_block err refused }
 {

@@ -26,7 +26,7 @@ pub struct Watched<F, K> {
 }
 
 impl<F: Folder, K: Sink + Drop> Watched<F, K> {
-    /// This folder, and this terminal.
+    /// Shows on this terminal, if there is one, what is read of this folder; nothing was read yet.
     pub fn new(folder: F, terminal: Option<K>) -> Self
         ensures { watched_folder result ≡ folder }
     {
@@ -73,6 +73,8 @@ impl<F: Folder, K: Sink + Drop> Watched<F, K> {
         }
     }
 
+    /// Shows how many files and bytes were read so far, with this behind it. A terminal that fails
+    /// is of no account.
     fn show(&mut self, end: &[&[u8]])
         ensures { watched_folder self.new ≡ watched_folder self.old }
     {

@@ -20,6 +20,7 @@ pub record StreamChange (Stream : Type 0) : Type 0 where
   pub faults : ℕ
   pub faults' : ℕ
 
+-- what a command did to the stream that is read
 abbrev pub source_change : {R : Type 0} → SourceOf R → (before after : R) → StreamChange R
 source_change source before after = record {
   before = before;
@@ -33,6 +34,7 @@ source_change source before after = record {
   faults' = source.faults after;
 }
 
+-- what a command did to a stream that is written
 abbrev pub sink_change : {K : Type 0} → SinkOf K → (before after : K) → StreamChange K
 sink_change sink before after = record {
   before = before;
@@ -56,6 +58,7 @@ pub record FilesChange (Files : Type 0) : Type 0 where
   pub faults : ℕ
   pub faults' : ℕ
 
+-- what a command did to the files
 abbrev pub files_change : {I : Type 0} → FilesOf I → (before after : I) → FilesChange I
 files_change files before after = record {
   before = before;
@@ -77,6 +80,7 @@ pub record PartsChange (Parts Disk : Type 0) : Type 0 where
   pub faults : ℕ
   pub faults' : ℕ
 
+-- what a command did to the partitions by name
 abbrev pub parts_change : {P D : Type 0} → PartsOf P D → (before after : P) → PartsChange P D
 parts_change parts before after = record {
   before = before;
@@ -101,6 +105,7 @@ pub record DialerChange (Dialer Link : Type 0) : Type 0 where
   pub read_faults : Link → ℕ
   pub write_faults : Link → ℕ
 
+-- what a command did to the dialer and to its links
 abbrev pub dialer_change : {N L : Type 0} → DialerOf N L → LinkOf L → (before after : N)
     → DialerChange N L
 dialer_change dialer link before after = record {
@@ -124,6 +129,7 @@ pub record FoldersChange : Type 0 where
   pub faults : ℕ
   pub faults' : ℕ
 
+-- what a command did to the folders by name
 abbrev pub folders_change : {G E : Type 0} → FoldersOf G E → (before after : G) → FoldersChange
 folders_change folders before after = record {
   tells = folders.tells;

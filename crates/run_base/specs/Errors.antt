@@ -19,6 +19,7 @@ use Rattle.run_base.specs.Fields.{field_name, value_text}
 use Rattle.vt_remote.specs.declared.remote.RemoteError.{RemoteError}
 use Rattle.vt_remote.specs.declared.remote.RemoteError.TheVariants as remote
 
+-- how a command ended: done, or why not
 abbrev pub CommandOutcome : Type 0
 CommandOutcome = Result (Unit {0}) CommandError
 
@@ -35,6 +36,7 @@ server_status (remote.Refused (errs.BadReply place)) = 11
 server_status (remote.Refused errs.NoVersion) = 11
 server_status (remote.Refused errs.Spent) = 11
 
+-- the status that the program ends with, as README.md lists them
 abbrev pub status_of : CommandOutcome → ℕ
 status_of (Ok done) = 0
 status_of (Err BadWords) = 1
@@ -69,6 +71,7 @@ status_of (Err (Server bad)) = server_status bad
 abbrev pub line : (pieces : List (List ℕ)) → List ℕ
 line pieces = codes "venti: " ++ (concat pieces ++ 10 ∷ [])
 
+-- the line for what a server or the way to it failed by
 abbrev pub server_error_line : RemoteError → List ℕ
 server_error_line remote.Undialled = line (codes "read fault" ∷ [])
 server_error_line (remote.Refused errs.ReadFault) = line (codes "read fault" ∷ [])
@@ -85,6 +88,7 @@ server_error_line (remote.Refused errs.NoVersion) =
     line (codes "refused: " ∷ codes "no version" ∷ [])
 server_error_line (remote.Refused errs.Spent) = line (codes "refused: " ∷ codes "client spent" ∷ [])
 
+-- the line on the fault sink for an outcome; none where all is done
 abbrev pub outcome_line : CommandOutcome → List ℕ
 outcome_line (Ok done) = []
 outcome_line (Err BadWords) = line (codes "bad command line" ∷ [])
@@ -181,18 +185,23 @@ no_cause = record {
 abbrev pub with_parts : {P D : Type 0} → DiskOf D → PartsChange P D → Causes → Causes
 with_parts disk parts causes = record causes { disks = HasDiskCause disk parts }
 
+-- a fault of reading is told only where the stream that is read counted one
 abbrev pub with_source : {R : Type 0} → StreamChange R → Causes → Causes
 with_source source causes = record causes { source = HasRisen source.faults source.faults' }
 
+-- a fault of reading is told only where the files counted one
 abbrev pub with_files : {I : Type 0} → FilesChange I → Causes → Causes
 with_files files causes = record causes { files = HasRisen files.faults files.faults' }
 
+-- a fault of reading is told only where the folders counted one
 abbrev pub with_folders : FoldersChange → Causes → Causes
 with_folders folders causes = record causes { folders = HasRisen folders.faults folders.faults' }
 
+-- a fault of writing is told only where the stream that is written counted one
 abbrev pub with_sink : {K : Type 0} → StreamChange K → Causes → Causes
 with_sink sink causes = record causes { sink = HasRisen sink.faults sink.faults' }
 
+-- a server's fault is told only where the dialer or a link of it counted one
 abbrev pub with_dialer : {N L : Type 0} → DialerChange N L → Causes → Causes
 with_dialer dialer causes = record causes { server = HasServerCause dialer }
 

@@ -6,6 +6,7 @@ use Rattle.vt_base.specs.declared.mount.MountField.TheVariants.{Version, Number,
 use Rattle.vt_base.specs.declared.why.FieldValue.{FieldValue}
 use Rattle.vt_base.specs.declared.why.FieldValue.TheVariants as value
 
+-- the name of a field in a line on the fault sink
 abbrev pub field_name : MountField → List ℕ
 field_name Version = codes "version"
 field_name Number = codes "number"

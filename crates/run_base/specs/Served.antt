@@ -33,14 +33,17 @@ failure_for (whys.Damaged site want found) = Damaged want found
 failure_for whys.NoMemory = NoMemory
 failure_for why = DiskFault
 
+-- the outcome by the failure in the session, if there was one
 abbrev pub failed_in : Option Why → CommandOutcome
 failed_in None = Ok tt
 failed_in (Some why) = Err (failure_for why)
 
+-- the outcome of ending the store's use
 abbrev pub closed_with : Result (Unit {0}) Why → CommandOutcome
 closed_with (Ok done) = Ok tt
 closed_with (Err why) = Err (failure_for why)
 
+-- the first of two outcomes that isn't done
 abbrev pub first_outcome : (first second : CommandOutcome) → CommandOutcome
 first_outcome (Ok done) second = second
 first_outcome (Err failure) second = Err failure

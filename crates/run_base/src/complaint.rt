@@ -193,6 +193,7 @@ struct Digits {
 }
 
 impl Digits {
+    /// Room for the longest value, which is a number of 128 bits or a score.
     fn new() -> Self {
         Digits {
             decimal: Buffer::new(),
@@ -217,6 +218,7 @@ pub fn hexadecimal<'a>(room: &'a mut [u8], bytes: &[u8]) -> &'a [u8]
     requires { length room.now ≡ 2 * length bytes.now }
     ensures { result.now ≡ encode_lower bytes.now }
 {
+    // (it fails only where the room isn't twice the bytes)
     let _ = hex::encode_to_slice(bytes, room);
     room
 }
@@ -259,6 +261,7 @@ fn complain<F: Sink>(sink: &mut F, pieces: &[&[u8]])
     ensures { Attempts (sink_change F.Sink sink.old sink.new)
         (line (map (λ piece. piece.now) pieces.now)) }
 {
+    // (where the fault sink fails there is nobody left to tell; the status stays)
     let _ = put_line(sink, pieces);
 }
 

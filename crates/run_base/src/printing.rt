@@ -1,4 +1,4 @@
-//! Texts in pieces, on their way out.
+//! Texts in pieces, on their way to a stream.
 
 ghost use Rattle.std.specs.Prelude.{◌≡◌, ◌++◌, IsTrue, map, OnOk, OnErr};
 ghost use Rattle.std.specs.List.{concat};

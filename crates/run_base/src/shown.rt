@@ -1,4 +1,4 @@
-//! What a long call tells on a terminal meanwhile.
+//! What a long call tells on a terminal while it runs.
 
 use crate::printing::put_pieces;
 use itoa::Buffer;
@@ -13,6 +13,7 @@ pub enum Unit {
 }
 
 impl Unit {
+    /// The word behind the numbers, with the space before it.
     fn text(self) -> &'static [u8] {
         match self {
             Unit::Arenas => b" arenas",
@@ -56,6 +57,7 @@ impl<K: Sink> Shown<K> {
         ]);
     }
 
+    /// Writes to the terminal, if there is one. A write that fails is of no account.
     fn put(&mut self, pieces: &[&[u8]]) {
         if let Some(terminal) = &mut self.terminal {
             let _ = put_pieces(terminal, pieces);

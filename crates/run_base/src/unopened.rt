@@ -92,7 +92,7 @@ pub fn refusal_among(
     })
 }
 
-/// The name of that file.
+/// The name by which the configuration has that file.
 fn name_of(alloc: Global, file: &Text, conf: &Conf, part: u32) -> Result<Text, AllocError>
     ensures { IfOk result (λ name. name ≡ name_at file.now (files_in_order conf.now) part) }
 {

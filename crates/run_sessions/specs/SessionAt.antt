@@ -7,6 +7,7 @@ use Rattle.run_sessions.specs.SessionConf.{DoesSessionConf}
 use Rattle.run_base.specs.Errors.{CommandOutcome}
 use Rattle.run_base.specs.Places.{in_memory}
 
+-- what `session` does, by its word: over a store in memory, or over a configuration's
 abbrev pub DoesSessionAt : {R K I P D : Type 0} → (List ℕ → List ℕ) → DiskOf D
     → (store : List ℕ) → CommandOutcome → StreamChange R → StreamChange K → FilesChange I
     → PartsChange P D → Type 0

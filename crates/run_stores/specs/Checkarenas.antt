@@ -26,9 +26,11 @@ use Rattle.run_base.specs.Formatting.{Prints}
 
 -- ---- what is printed
 
+-- the word for an arena's state
 abbrev pub state_text : (sealed : Bool) → List ℕ
 state_text sealed = if sealed then codes "sealed" else codes "unsealed"
 
+-- the word for what checking an arena found
 abbrev pub result_text : Option Damage → List ℕ
 result_text None = codes "ok"
 result_text (Some damage) = codes "damaged"

@@ -23,6 +23,7 @@ index_line name index =
     concat (codes "fmtindex " ∷ name ∷ codes ": " ∷ decimal index.buckets ∷ codes " buckets in "
     ∷ decimal index.sections ∷ codes " sections\n" ∷ [])
 
+-- what is told where the index isn't formatted
 abbrev pub IsIndexRefusal : (file : List ℕ) → Conf → IndexError → CommandError → Type 0
 IsIndexRefusal file conf (index_error.Fault part) failure = failure ≡ DiskFault
 IsIndexRefusal file conf (index_error.Refused bad) failure =

@@ -1,4 +1,5 @@
 //! Why the partition of a file is refused.
+// Tests: crates/run_tests_stores/src/formatting.rt.
 
 ghost use Rattle.run_base.specs.Formatting.{IsOfOneFile, IsRefusalOf};
 

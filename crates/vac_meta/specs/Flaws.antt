@@ -16,9 +16,11 @@ use Rattle.vac_meta.specs.Records.{AreRecords, all_spelled, last_name, is_barred
 abbrev pub string_len : List ℕ → ℕ
 string_len bytes = big_number 2 bytes
 
+-- the string in front, by the two bytes that count it
 abbrev pub string_in : List ℕ → List ℕ
 string_in bytes = take (string_len bytes) (drop 2 bytes)
 
+-- what stands behind the string in front
 abbrev pub behind_string : List ℕ → List ℕ
 behind_string bytes = drop (2 + string_len bytes) bytes
 
@@ -37,6 +39,8 @@ flaw_of_name_bytes last at bytes None =
     else if is_next last (string_in bytes) then None
     else Some (Bad at Order)
 
+-- what is wrong with a record's name, if anything is: it is cut off, of no length that a name has, has
+-- a byte that none has, or isn't above the name before it
 abbrev pub flaw_of_name : (last : Option (List ℕ)) → (at : ℕ) → List ℕ → Option MetaErr
 flaw_of_name last at bytes =
     if nat_lt (length bytes) 2 then cut at bytes
@@ -62,11 +66,13 @@ flaw_of_owner at bytes =
 
 -- ---- the first test that fails, from a field on
 
+-- what is wrong with a record from the user's name on
 abbrev pub flaw_from_uid : (at : ℕ) → List ℕ → Option MetaErr
 flaw_from_uid at bytes =
     option_or (flaw_of_owner at bytes)
     (flaw_of_owner (at + 2 + string_len bytes) (behind_string bytes))
 
+-- what is wrong with a record from its kind on: 21 bytes of numbers, and the names behind them
 abbrev pub flaw_from_kind : (at : ℕ) → List ℕ → Option MetaErr
 flaw_from_kind at bytes =
     option_or (flaw_of_numbers at bytes) (flaw_from_uid (at + 21) (drop 21 bytes))

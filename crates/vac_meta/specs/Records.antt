@@ -17,6 +17,7 @@ use Rattle.vac_meta.specs.declared.record.RecordKind.TheVariants.{File, Folder}
 abbrev pub string : List ℕ → List ℕ
 string bytes = big_bytes 2 (length bytes) ++ bytes
 
+-- the byte that tells file or folder
 abbrev pub kind_byte : RecordKind → ℕ
 kind_byte File = 0
 kind_byte Folder = 1
@@ -30,6 +31,7 @@ number_fields r = kind_byte r.kind ∷ (big_bytes 4 r.entry ++ (big_bytes 4 r.mo
 abbrev pub record_bytes : Record → List ℕ
 record_bytes r = string r.name ++ (number_fields r ++ (string r.uid ++ string r.gid))
 
+-- the bytes of records, one behind the other
 abbrev pub all_spelled : List Record → List ℕ
 all_spelled records = flat_map record_bytes records
 

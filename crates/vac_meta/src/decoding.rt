@@ -48,13 +48,14 @@ const _: () = prove!(NUMBERS_LEN == 21);
 #[derive(Clone, Copy)]
 struct Found<'a> {
     name: &'a [u8],
+    /// Kind, entry, mode, mtime and qid, as they stand there.
     numbers: &'a [u8; 21],
     uid: &'a [u8],
     gid: &'a [u8],
 }
 
 impl<'a> Found<'a> {
-    /// The record in memory of its own.
+    /// The record with copies of its fields, which outlive the metadata.
     fn kept(&self, alloc: Global) -> Result<Record, AllocError>
         requires { length self.now.numbers.now ≡ 21 }
         ensures { IfOk result (λ kept. kept ≡ found_record self.now) }
@@ -67,6 +68,7 @@ impl<'a> Found<'a> {
             } else {
                 RecordKind::Folder
             },
+            // (the places of the numbers: docs/FORMATS.md, Metadata of archived folders)
             entry: u32_at(numbers, 1),
             mode: u32_at(numbers, 5),
             mtime: u32_at(numbers, 9),
@@ -92,6 +94,7 @@ fn record_in_front<'a>(
     ensures flaw { IfErr result (λ e. first_flaw (option_copied last.entry) at bytes.now ≡ Some e) }
 {
     let (name, rest) = name_in_front(bytes, at, last)?;
+    // (a name and an owner have two bytes of length in front)
     let at = at + 2 + name.len();
     let (numbers, rest) = numbers_in_front(rest, at)?;
     let at = at + NUMBERS_LEN;

@@ -59,6 +59,7 @@ impl Records {
         self.records
     }
 
+    /// Lends the records, in order.
     pub fn as_slice(&self) -> &[Record]
         ensures { result.now ≡ self.now }
     {

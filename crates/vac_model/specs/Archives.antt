@@ -22,6 +22,8 @@ use Rattle.vac_model.specs.Kept.{Numbered, archived}
 abbrev pub file_shape : (bsize : ℕ) → Shape
 file_shape bsize = record { psize = bsize / 20 * 20; dsize = bsize; is_dir = false }
 
+-- the tree of a folder's entries: whole pointers of 20 bytes in a pointer block, whole entries of
+-- 40 in a leaf
 abbrev pub directory_shape : (bsize : ℕ) → Shape
 directory_shape bsize =
     record { psize = bsize / 20 * 20; dsize = bsize / 40 * 40; is_dir = true }
@@ -48,6 +50,7 @@ records_of n (file about bytes others) = item_record about File n ∷ records_of
 records_of n (folder about inside others) = item_record about Folder n ∷ records_of (n + 2) others
 records_of n (other about others) = records_of n others
 
+-- the bytes that keep names and facts of a folder's items
 abbrev pub metadata : Items Numbered → List ℕ
 metadata items = all_spelled (records_of 0 items)
 

@@ -37,6 +37,7 @@ in_order (other about others) = placed about.name (other about) (in_order others
 abbrev pub cut_mode : Facts → Facts
 cut_mode about = record about { mode = bit_and about.mode 511 }
 
+-- what an archive keeps of items: files and folders, and nothing else
 abbrev pub kept : Items Facts → Items Facts
 kept none = none
 kept (file about bytes others) = file (cut_mode about) bytes (kept others)

@@ -44,6 +44,7 @@ first_bad_item last (other about others) =
     if is_bad_behind last about.name then Some about.name else first_bad_item (Some about.name)
     others
 
+-- why a folder with this bad name, or with so many bytes of metadata, isn't archived
 abbrev pub unfit_name : (path : List ℕ) → Option (List ℕ) → (len : ℕ) → Option Unfit
 unfit_name path (Some name) len = Some (bad_name (path_to path name))
 unfit_name path None len = if nat_lt MAX_METADATA len then Some too_long else None
@@ -67,6 +68,7 @@ unfit_inside depth path (folder about inside others) =
     (unfit_inside depth path others)
 unfit_inside depth path (other about others) = unfit_inside depth path others
 
+-- the first reason, in the order of the walk, why a folder isn't archived
 abbrev pub unfit_in_order : Items Facts → Option Unfit
 unfit_in_order items = option_or (unfit_listing [] items) (unfit_inside 0 [] items)
 

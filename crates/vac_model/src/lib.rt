@@ -8,6 +8,7 @@ pub mod laws;
 /// The least and the greatest block size of an archive.
 pub const MIN_BLOCK_SIZE: u16 = 512;
 
+/// 52 KiB.
 pub const MAX_BLOCK_SIZE: u16 = 53_248;
 
 /// The most bytes of a file, 1 TiB.

@@ -140,6 +140,7 @@ IsUnfound map (stored.Folder entries metadata) name bad =
 
 -- ---- roots
 
+-- the field of a root that is wrong, as it is told of an archive
 abbrev pub field_of : RootError → RootField
 field_of fields.Length = Length
 field_of fields.Version = Version

@@ -88,6 +88,7 @@ TellsNodes stream records result map =
 
 -- ---- records
 
+-- the records of the folder, or that the blocks don't have them and why
 abbrev pub TellsRecords : (entries metadata : Entry) → Result (List Record) VacBad → BlockMap
     → Type 0
 TellsRecords entries metadata result map =

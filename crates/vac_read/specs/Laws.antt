@@ -91,10 +91,12 @@ abbrev pub NoneIsRefused : Type 0
 NoneIsRefused = (map : BlockMap) (score : List ℕ) (items : Items Numbered) (bad : VacBad)
     → IsTreeOf map score items → IsNoArchive map score bad → IsOfStore bad
 
+-- in the archive of items no folder is malformed: only the store can have failed
 abbrev pub NoneIsBroken : Type 0
 NoneIsBroken = (map : BlockMap) (s : Stored) (items : Items Numbered) (bad : VacBad)
     → AreNodeEntries s → StandsAs map s items → IsBroken map s bad → IsOfStore bad
 
+-- in the archive of items each name can be looked for: only the store can have failed
 abbrev pub NoneIsUnfound : Type 0
 NoneIsUnfound = (map : BlockMap) (s : Stored) (items : Items Numbered) (name : List ℕ)
     (bad : VacBad) → AreNodeEntries s → StandsAs map s items → IsUnfound map s name bad

@@ -20,6 +20,7 @@ use Rattle.vac_read.specs.declared.node.Stored.TheVariants as stored
 
 -- ---- one item
 
+-- the kind of an item, by its record
 abbrev pub kind_of : RecordKind → ItemKind
 kind_of File = kinds.File
 kind_of Folder = kinds.Folder
@@ -39,6 +40,7 @@ pub record FitsToldItem (item : Item) : Type 0 where
 abbrev pub IsDirectory : Entry → Type 0
 IsDirectory e = IsTreeEntry e × (e.is_dir ≡ true)
 
+-- the entry is of a tree, and one of a file
 abbrev pub IsFileEntry : Entry → Type 0
 IsFileEntry e = IsTreeEntry e × (e.is_dir ≡ false)
 
@@ -69,6 +71,7 @@ pub record IsNode (map : BlockMap) (stream : Entry) (r : Record) (node : Node) :
 
 -- ---- the items of a folder
 
+-- the items that records and the stream of entries tell of
 abbrev pub AreNodes : BlockMap → (stream : Entry) → List Record → List Node → Type 0
 AreNodes map stream [] [] = ⊤
 AreNodes map stream (r ∷ records) (node ∷ nodes) =
@@ -126,6 +129,7 @@ top_item = record {
   gid = codes "vac";
 }
 
+-- the two entries of the block that a root names: a directory's, and its metadata's
 abbrev pub AreTop : BlockMap → (score : List ℕ) → Stored → Type 0
 AreTop map score (stored.File e) = ⊥
 AreTop map score (stored.Folder entries metadata) =

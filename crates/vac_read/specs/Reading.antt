@@ -30,6 +30,7 @@ refusal_of (Root field) = None
 refusal_of (Meta at) = None
 refusal_of NoMemory = None
 
+-- why the store of blocks refused a block, if that is what failed
 abbrev pub refused_by : {X : Type 0} → Result X VacBad → Option BlockErr
 refused_by (Ok x) = None
 refused_by (Err bad) = refusal_of bad
@@ -73,6 +74,7 @@ IsLost map node (name ∷ names) bad =
     IsUnfound map node.stored name bad
     ⊎ ((next : Node) × FindsNode map node.stored name (Some next) × IsLost map next names bad)
 
+-- what the names lead to, one behind the other from this item; or why that can't be told
 abbrev pub WalksTo : Node → (names : List (List ℕ)) → Result (Option Node) VacBad → BlockMap
     → Type 0
 WalksTo node names result map =
@@ -124,6 +126,7 @@ IsNoArchive map score bad =
     × (IsAbsentBlock map top 2 bad
     ⊎ ((bytes : List ℕ) × (map top 2 ≡ Some bytes) × AreNoEntries bytes bad)))
 
+-- the archive that this score is the root of, or why there is none
 abbrev pub OpensArchive : (score : List ℕ) → Result Archive VacBad → BlockMap → Type 0
 OpensArchive score result map =
     AnswersOrTells result (λ a. IsTop map score a.top) (IsNoArchive map score)

@@ -20,6 +20,7 @@ pub(crate) struct Directory {
     stream: Entry,
     /// Where the leaf begins, and what of it is there.
     start: u64,
+    /// None of it, where no leaf was read yet.
     leaf: Bytes,
 }
 

@@ -43,7 +43,7 @@ pub struct Node {
 impl Node {
     ghost use Rattle.std.specs.Prelude.{◌≡◌, IfOk};
 
-    /// The same in memory of its own.
+    /// A copy that outlives the folder's list.
     pub fn copied(&self, alloc: Global) -> Result<Self, AllocError>
         ensures { IfOk result (λ node. node ≡ self.now) }
     {

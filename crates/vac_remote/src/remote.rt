@@ -1,4 +1,4 @@
-//! Archiving at a server.
+//! Archiving a folder at a server, over one link, which ends with a goodbye.
 
 ghost use Rattle.std.specs.Prelude.{◌≡◌, ◌≤◌, IsTrue};
 ghost use Rattle.vt_base.specs.Faults.{CountsFault};

@@ -13,7 +13,7 @@ use Rattle.vt_requests.specs.Driven.{DrivenState}
 use Rattle.vt_local.specs.Local.{DoesLocal, HoldsLocal}
 use Rattle.vt_use.specs.LocalJobs.{exchanges_of, new_local}
 use Rattle.vt_use.specs.Stores.{Exchange, MakesRun, at_time, store_on}
-use Rattle.vt_use.specs.Uses.{Asks}
+use Rattle.vt_use.specs.Uses.{AsksAndEnds}
 use Rattle.vt_use.proofs.Calls.{asked_so}
 use Rattle.vt_use.proofs.Uses.{there, use_keeps, use_runs}
 use Rattle.vac_write.specs.declared.archived.Archived.{Archived}
@@ -29,7 +29,7 @@ module _ {D : Type 0} (score : List ℕ → List ℕ) (disk : DiskOf D) (now bsi
   abbrev Made : List Call → Type 0
   Made calls = Makes (DoesLocal (store_on score disk)) (new_local (at_time now old)) calls it.kept
 
-  pub asks_of : (calls : List Call) (made : Made calls) → Asks score disk now true
+  pub asks_of : (calls : List Call) (made : Made calls) → AsksAndEnds score disk now true
       (exchanges_of (store_on score disk) calls (new_local (at_time now old)) it.kept made) it.closed old
       it.kept.store.core new
   asks_of calls made =
@@ -57,7 +57,7 @@ module _ {D : Type 0} (score : List ℕ → List ℕ) (disk : DiskOf D) (now bsi
       let all = calls_of it.answer it.archives it.gives_up in
       exchanges_of (store_on score disk) all.0 (new_local (at_time now old)) it.kept all.1
 
-  pub asks : Asks score disk now true asked it.closed old it.kept.store.core new
+  pub asks : AsksAndEnds score disk now true asked it.closed old it.kept.store.core new
   unfolding asked
   asks =
       let all = calls_of it.answer it.archives it.gives_up in

@@ -50,6 +50,7 @@ came_to (Ok a) refused added (Ok done) = Ok (record { archived = a; added = adde
 came_to (Ok a) refused added (Err why) = Err (Refused why)
 came_to (Err err) refused added closed = Err (told err refused)
 
+-- whether it tells of a failed call of the folder
 abbrev pub is_folder_fault : ArchiveError → Bool
 is_folder_fault (Folder FolderFault) = Bool.true
 is_folder_fault bad = Bool.false

@@ -8,7 +8,7 @@ use Rattle.vac_read.specs.Laws.{HoldsBytes, ReadsAreBytes}
 use Rattle.nine_wire.specs.Messages.{r_read, t_read}
 use Rattle.nine_view.specs.declared.fid.Fid.{Fid}
 use Rattle.nine_view.specs.declared.fid.Reading.{Reading}
-use Rattle.nine_view.specs.Answers.{Answer, Exchange, ViewOutcome, answer_request, answer_to, iounit, request, to_read, to_stored}
+use Rattle.nine_view.specs.Answers.{Answer, Asked, ViewOutcome, answer_request, answer_to, iounit, request, to_read, to_stored}
 use Rattle.nine_view.specs.Known.{ViewState, fid_at}
 use Rattle.nine_view.specs.Replies.{GivesOutcome, IsViewReply}
 use Rattle.nine_view.specs.Serving.{MessageTurn}
@@ -25,14 +25,14 @@ module _ (reads_are : ReadsAreBytes) (map : BlockMap) (known : ViewState) where
   file_read fid offset room f reading (stored.Folder entries metadata) bytes o holds gives =
       absurd holds
 
-  answer_is : (msize fid offset count : ℕ) (f : Fid) (reading : Reading) (asked : Exchange)
+  answer_is : (msize fid offset count : ℕ) (f : Fid) (reading : Reading) (asked : Asked)
       → known.msize ≡ Some msize → asked ≡ request (t_read fid offset count)
       → fid_at fid known.fids ≡ Some f → f.reading ≡ Some reading
       → answer_to known asked
       ≡ to_stored known fid f reading offset (min count (iounit msize)) f.node.stored
   answer_is msize fid offset count f reading asked agreed is at opened =
       let room = min count (iounit msize) in
-      ap (λ (a : Exchange). answer_to known a) is
+      ap (λ (a : Asked). answer_to known a) is
       ∙ ap (λ (o : Option ℕ). answer_request known o (t_read fid offset count)) agreed
       ∙ rw at (ap (λ (r : Option Reading). to_read known fid offset room f r) opened)
 

@@ -8,7 +8,7 @@ use Rattle.vt_requests.specs.Driven.{DrivenState}
 use Rattle.vt_local.specs.Local.{DoesLocal, HoldsLocal}
 use Rattle.vt_use.specs.LocalJobs.{exchanges_of, new_local}
 use Rattle.vt_use.specs.Stores.{Exchange, MakesRun, at_time, store_on}
-use Rattle.vt_use.specs.Uses.{Asks}
+use Rattle.vt_use.specs.Uses.{AsksAndEnds}
 use Rattle.vt_use.proofs.Calls.{asked_so, only_reads}
 use Rattle.vt_use.proofs.Uses.{there, use_keeps, use_runs}
 use Rattle.vac_read.specs.declared.error.VacBad.{VacBad}
@@ -28,7 +28,7 @@ module _ {D : Type 0} (score_of : List ℕ → List ℕ) (disk : DiskOf D) (scor
   pub asked : List Exchange
   asked = exchanges_of (store_on score_of disk) gets.calls (new_local (at_time 0 old)) it.left gets.made
 
-  pub asks : Asks score_of disk 0 false asked (Ok tt) old new new
+  pub asks : AsksAndEnds score_of disk 0 false asked (Ok tt) old new new
   unfolding asked
   asks =
       let does = asked_so (store_on score_of disk) gets.calls (new_local (at_time 0 old)) it.left

@@ -12,7 +12,7 @@ use Rattle.nine_view.specs.declared.fid.Fid.{Fid}
 use Rattle.nine_view.specs.declared.fid.Reading.{Reading}
 use Rattle.nine_view.specs.declared.place.Place.{Place}
 use Rattle.nine_view.specs.declared.request_error.RequestError.{RequestError}
-use Rattle.nine_view.specs.Answers.{Answer, Exchange, ViewOutcome, answer_agreed, answer_first, answer_request, answer_to, misspelled, of_fid, reads_file, reads_files, reads_folder, refused_answer, request, sets, settled, stays, to_folder, to_names, to_read, to_stored, unknown, walks}
+use Rattle.nine_view.specs.Answers.{Answer, Asked, ViewOutcome, answer_agreed, answer_first, answer_request, answer_to, misspelled, of_fid, reads_file, reads_files, reads_folder, refused_answer, request, sets, settled, stays, to_folder, to_names, to_read, to_stored, unknown, walks}
 use Rattle.nine_view.specs.Known.{ViewState, fid_at}
 use Rattle.nine_view.specs.Replies.{GivesOutcome, IsViewReply, fails, walked}
 
@@ -119,7 +119,7 @@ module _ (known : ViewState) where
   requested None m = first m
   requested (Some msize) m = agreed msize m
 
-  answered : (asked : Exchange) → StaysIn known (answer_to known asked)
+  answered : (asked : Asked) → StaysIn known (answer_to known asked)
   answered unknown = says _ (kept _ _ _)
   answered misspelled = says _ (kept _ _ _)
   answered (request m) = requested known.msize m
@@ -145,7 +145,7 @@ module _ (known : ViewState) where
       of_outcome o _ gives.2 (files_stay fid f reading offset room gives.0)
 
   -- it is known behind a reply, and behind a failure, which changes nothing
-  pub top_stays : (map : BlockMap) (asked : Exchange) (failure : Option VacBad) (reply : RMessage)
+  pub top_stays : (map : BlockMap) (asked : Asked) (failure : Option VacBad) (reply : RMessage)
       (new : ViewState)
       → IsViewReply map known (answer_to known asked) failure (record { reply = reply; known = new })
       → IfSome failure (λ bad. stays new reply ≡ fails known bad) → new.top ≡ known.top

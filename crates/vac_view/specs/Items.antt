@@ -84,6 +84,7 @@ pub record StandsAt (map : BlockMap) (items : Items Numbered) (f : Fid) : Type 0
   pub node : IsKept map kept f.node
   pub files : IfSome f.files (AreNodesOf map (items_in kept))
 
+-- each fid of the view stands for an item of the folder that was archived
 abbrev pub AllStand : BlockMap → Items Numbered → ViewState → Type 0
 AllStand map items known = AllByRecursion (λ e. StandsAt map items e.1) known.fids
 

@@ -37,6 +37,7 @@ pub record Passed : Type 0 where
   pub write_faults : ℕ
   pub write_faults' : ℕ
 
+-- what passed over a link between two moments
 abbrev pub passed : {L : Type 0} → LinkOf L → (l l' : L) → Passed
 passed link l l' = record {
   tells = link.tells;
@@ -93,6 +94,7 @@ pub record IsAnswered (map : BlockMap) (known : ViewState) (turn : MessageTurn) 
   pub right : IsRightView map turn.known
   pub top_stays : turn.known.top ≡ known.top
 
+-- each request was answered by the blocks as they are, one behind the other
 abbrev pub AreAnswered : BlockMap → ViewState → List MessageTurn → Type 0
 AreAnswered map known [] = ⊤
 AreAnswered map known (turn ∷ turns) =

@@ -19,6 +19,7 @@ abbrev pub joined_behind : (path : List ℕ) → (names : List (List ℕ)) → L
 joined_behind path [] = path
 joined_behind path (name ∷ names) = joined_behind (path_to path name) names
 
+-- the names with slashes between them
 abbrev pub joined_path : (names : List (List ℕ)) → List ℕ
 joined_path names = joined_behind [] names
 

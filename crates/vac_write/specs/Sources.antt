@@ -8,6 +8,7 @@ use Rattle.vt_base.specs.Bytes.{AreBytes, AreBytes-none}
 use Rattle.vt_out.specs.declared.folder_item.Facts.{Facts}
 use Rattle.vt_out.specs.FolderItems.{Items, none, file, folder, other, IsFile, HaveBytes, inside_of, bytes_of, file_at}
 
+-- the bytes, or none where there is no file
 abbrev pub or_none : Option (List ℕ) → List ℕ
 or_none None = []
 or_none (Some bytes) = bytes
@@ -23,14 +24,17 @@ told_items false held = None
 
 -- ---- it has bytes
 
+-- what is found there, if anything, is as long as a file may be, and of bytes
 abbrev IfFile : Option (List ℕ) → Type 0
 IfFile None = ⊤
 IfFile (Some bytes) = IsFile bytes
 
+-- the items that are found, if any, have files of bytes
 abbrev IfHave : Option (Items Facts) → Type 0
 IfHave None = ⊤
 IfHave (Some items) = HaveBytes items
 
+-- a file among such items is of bytes
 file_bytes : (name : List ℕ) (items : Items Facts) → HaveBytes items
     → IfFile (bytes_of name items)
 file_bytes name none have = tt
@@ -42,6 +46,7 @@ file_bytes name (file about bytes others) have =
 file_bytes name (folder about inside others) have = file_bytes name others have.1
 file_bytes name (other about others) have = file_bytes name others have
 
+-- a folder among such items has files of bytes
 folder_bytes : (name : List ℕ) (items : Items Facts) → HaveBytes items
     → IfHave (inside_of name items)
 folder_bytes name none have = tt
@@ -61,6 +66,7 @@ bytes_below : (at : Items Facts → Option (List ℕ))
 bytes_below at each None have = tt
 bytes_below at each (Some inside) have = each inside have
 
+-- a file at a path in such items is of bytes
 bytes_at : (path : List (List ℕ)) (items : Items Facts) → HaveBytes items
     → IfFile (file_at path items)
 bytes_at [] items have = tt
@@ -69,6 +75,7 @@ bytes_at (name ∷ (next ∷ path)) items have =
     bytes_below (file_at (next ∷ path)) (bytes_at (next ∷ path))
     (inside_of name items) (folder_bytes name items have)
 
+-- what is read at a path is of bytes, also where there is no file
 pub file_is : (path : List (List ℕ)) (items : Items Facts) → HaveBytes items
     → IsFile (bytes_at_path path items)
 file_is path items have = of (file_at path items) (bytes_at path items have)
@@ -80,6 +87,7 @@ file_is path items have = of (file_at path items) (bytes_at path items have)
     }
     of (Some bytes) is = is
 
+-- and so is what is left of it behind a place
 pub left_bytes : (path : List (List ℕ)) (items : Items Facts) → HaveBytes items
     → (at : ℕ) → AreBytes (drop at (bytes_at_path path items))
 left_bytes path items have at i =

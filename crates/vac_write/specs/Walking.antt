@@ -94,6 +94,7 @@ pub record ArchivesItem {S : Type 0} (does : S → Call → S → Type 0) (score
   pub are : AreItemsAt tells held old.path.items part
   pub archived : ArchivesPart does score_of s s' old new from to part
 
+-- an item isn't archived for this reason; what was put for it is a beginning of what it calls for
 pub record GivesUpItem {S : Type 0} (does : S → Call → S → Type 0) (score_of : List ℕ → List ℕ)
     (s s' : S) (tells : Bool) (held : Items Facts) (old : Walk) (item : Item) (err : VacErr)
     : Type 0 where
@@ -104,10 +105,12 @@ pub record GivesUpItem {S : Type 0} (does : S → Call → S → Type 0) (score_
 
 -- ---- a folder's two streams
 
+-- the tree that an item is written as
 abbrev pub item_shape : (bsize : ℕ) → (is_dir : Bool) → Shape
 item_shape bsize true = directory_shape bsize
 item_shape bsize false = file_shape bsize
 
+-- the blocks of a folder's two trees: that of entries, and that of metadata
 abbrev pub streams_blocks : (score_of : List ℕ → List ℕ) → (bsize : ℕ) → Streams → List Block
 streams_blocks score_of bsize streams =
     (stream_of score_of (directory_shape bsize) streams.entries.items).blocks

@@ -1,4 +1,4 @@
-//! What was archived.
+//! What was archived: the score of the archive, and the paths that were left out.
 
 use std::marker::Model;
 use vt_base::{Score, Text};

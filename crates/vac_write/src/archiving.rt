@@ -72,11 +72,13 @@ pub fn archive<F: Folder, B: Blocks>(
 #[derive(Drop)]
 struct Walk {
     alloc: Global,
+    /// The most bytes of a block.
     bsize: u16,
     /// The names on the way to the folder that is archived.
     path: Vec<Text>,
     /// The number of the next file or folder.
     qid: u64,
+    /// The paths of what was left out, in order.
     skipped: Vec<Text>,
 }
 
@@ -293,6 +295,7 @@ fn put_root<B: Blocks>(
         (root_blocks B.score_of bsize (top_of top.now))) }
     ensures plain { IfErr result IsOfStore }
 {
+    // (two entries of 40 bytes, in a block that the root names)
     let mut bytes = [0; 80];
     let at = put(&mut bytes, 0, &top.entries.encode());
     put(&mut bytes, at, &top.metadata.encode());

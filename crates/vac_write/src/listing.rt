@@ -52,7 +52,7 @@ pub(crate) fn items_at<F: Folder>(
     Ok(items)
 }
 
-/// How two items stand by the bytes of their names.
+/// The order of two items by the bytes of their names, in which an archive lists them.
 fn by_name(a: &Item, b: &Item) -> Ordering
     ensures { result ≡ slice_cmp nat_cmp a.now.name b.now.name }
 {

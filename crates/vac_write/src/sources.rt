@@ -52,6 +52,7 @@ impl<'a, 'b, F: Folder> Source for FileSource<'a, 'b, F> {
 #[derive(Drop)]
 pub(crate) struct SliceSource<'a> {
     bytes: &'a [u8],
+    /// How many of them were taken.
     at: usize,
     ghost at_fits: { at ≤ length bytes.now },
     ghost are_bytes: { AreBytes bytes.now },
@@ -60,6 +61,7 @@ pub(crate) struct SliceSource<'a> {
 impl<'a> SliceSource<'a> {
     ghost use Rattle.std.specs.Prelude.{◌≡◌};
 
+    /// Gives these bytes, from the first.
     pub(crate) fn new(bytes: &'a [u8]) -> Self
         ensures at { result.at ≡ 0 }
         ensures bytes { result.bytes ≡ bytes.entry }

@@ -1,4 +1,4 @@
-//! A folder's two streams.
+//! A folder's two streams: its directory of entries, and the records of its metadata (vac(1)).
 
 ghost use Rattle.std.specs.Prelude.{◌≡◌, ◌*◌, ◌/◌, ◌≤◌, ◌<◌, ◌^◌, ◌++◌, [], IfOk, IfErr, OnOk};
 ghost use Rattle.std.specs.Prelude.{length, bit_and};
@@ -33,7 +33,7 @@ pub(crate) struct FolderEntries {
 }
 
 impl Streams {
-    /// Those of no items.
+    /// The streams of a folder without items.
     pub(crate) fn new(alloc: Global) -> Self
         ensures entries { result.entries.items ≡ [] }
         ensures metadata { result.metadata.items ≡ [] }
@@ -94,7 +94,7 @@ impl Streams {
         Ok(())
     }
 
-    /// Writes both.
+    /// Writes both streams as trees of blocks, and gives the entries that stand for them.
     pub(crate) fn write<B: Blocks>(
         &self,
         alloc: Global,

@@ -11,7 +11,7 @@ use Rattle.vt_core.specs.Sound.{IsSound}
 use Rattle.vt_requests.specs.Answers.{KeepsAll}
 use Rattle.vt_use.specs.Causes.{FailsFor, NoCallFails}
 use Rattle.vt_use.specs.Stores.{MakesRun}
-use Rattle.vt_use.specs.Uses.{Asks}
+use Rattle.vt_use.specs.Uses.{AsksAndEnds}
 use Rattle.vt_use.proofs.Memory.{calls_need, end_needs, first_needs, quiet_before}
 use Rattle.vt_use.proofs.Uses.{end_cause, first_cause, use_keeps, use_runs}
 use Rattle.vt_alone.specs.declared.serving.StoreServed.{StoreServed}
@@ -25,7 +25,7 @@ all_most (n ∷ numbers) a b low it = (omega (arith, it.0, low), all_most number
 module _ {D : Type 0} (score : List ℕ → List ℕ) (disk : DiskOf D) (end : StoreServed) (now : ℕ)
     (old new : CoreState D) (tells : Bool) (input output : List ℕ)
     (x : ServesStore score disk end now old new tells input output) where
-  pub asks : Asks score disk now true x.asked.calls end.closed old x.served new
+  pub asks : AsksAndEnds score disk now true x.asked.calls end.closed old x.served new
   asks = record {
     asked = x.asked.does;
     reads = λ no. let never : true ≡ false = no in absurd (cc);

@@ -66,6 +66,7 @@ with_seal a = record a { next = record a.next { sealed = Bool.true } }
 abbrev pub added_by_commit : ArenaState → List Stored
 added_by_commit a = map stored_of a.staged
 
+-- what the arena stands for behind the commit under way
 abbrev pub next_content : ArenaState → Content → Content
 next_content a old = record { sealed = a.next.sealed; stored = old.stored ++ added_by_commit a }
 
@@ -74,6 +75,7 @@ next_content a old = record { sealed = a.next.sealed; stored = old.stored ++ add
 abbrev pub commit_pieces : (blocks : ℕ) → ℕ
 commit_pieces blocks = blocks + min 1 blocks
 
+-- how many device calls write what is staged, before the head changes
 abbrev pub pieces : ArenaState → ℕ
 pieces a = commit_pieces (length a.staged)
 
@@ -94,9 +96,11 @@ changing a = if is_some a.twin.change then a.twin else with_change (head_frame a
 abbrev pub after_piece : ArenaState → ArenaState
 after_piece a = record a { written = a.written + 1 }
 
+-- behind a call that succeeded and was one of the head's change
 abbrev pub after_head : ArenaState → ArenaState
 after_head a = record a { twin = after_call (changing a) }
 
+-- behind a call of a commit that succeeded: of its pieces first, then of the head's change
 abbrev pub after_step : ArenaState → ArenaState
 after_step a = if nat_lt a.written (pieces a) then after_piece a else after_head a
 
@@ -113,6 +117,7 @@ after_last a = record a {
 abbrev pub with_failure : ArenaState → ArenaState
 with_failure a = record a { failed = true }
 
+-- behind a call of a commit that failed
 abbrev pub after_fault : ArenaState → ArenaState
 after_fault a =
     if nat_lt a.written (pieces a) then with_failure a

@@ -24,12 +24,15 @@ last_entry region entries file = part (directory_place region entries) DIRECTORY
 abbrev pub kind_in : List ℕ → ℕ
 kind_in entry = slice_index entry 0
 
+-- the size field of a directory entry
 abbrev pub size_in_entry : List ℕ → ℕ
 size_in_entry entry = big_number 2 (drop 1 entry)
 
+-- the field of a directory entry with the size before compression
 abbrev pub uncsize_in_entry : List ℕ → ℕ
 uncsize_in_entry entry = big_number 2 (drop 3 entry)
 
+-- the score of a directory entry
 abbrev pub score_in_entry : List ℕ → List ℕ
 score_in_entry entry = take 20 (drop 5 entry)
 

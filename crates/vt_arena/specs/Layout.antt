@@ -18,6 +18,7 @@ use Rattle.vt_arena.specs.Places.{block_room, directory_room, lengths_of, Fit}
 abbrev pub entry_bytes : (kind n : ℕ) → (score : List ℕ) → List ℕ
 entry_bytes kind n score = kind ∷ (sizes n ++ score)
 
+-- the directory entry of a block that is stored
 abbrev pub arena_entry : Stored → List ℕ
 arena_entry s = entry_bytes s.kind (length s.block) s.score
 
@@ -25,6 +26,7 @@ arena_entry s = entry_bytes s.kind (length s.block) s.score
 abbrev pub clumps_of : List Stored → List ℕ
 clumps_of stored = flat_map clump_bytes stored
 
+-- the directory of stored blocks, which grows from the arena's end to its front
 abbrev pub directory_of : List Stored → List ℕ
 directory_of stored = flat_map arena_entry (reverse stored)
 
@@ -42,6 +44,7 @@ pub record Content : Type 0 where
   pub sealed : Bool
   pub stored : List Stored
 
+-- an arena as it is formatted
 abbrev pub empty : Content
 empty = record { sealed = Bool.false; stored = [] }
 
@@ -64,6 +67,7 @@ BytesStandAt place bytes file = part place (length bytes) file ≡ bytes
 abbrev pub clumps_place : Region → (before : List Stored) → ℕ
 clumps_place region before = region.start + ARENA_HEAD_LEN + used_of before
 
+-- where a directory of so many entries begins, which ends with the arena
 abbrev pub directory_place : Region → (entries : ℕ) → ℕ
 directory_place region entries = region.start + region.len - directory_room entries
 

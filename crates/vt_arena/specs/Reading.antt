@@ -23,6 +23,7 @@ HasHeader len offset = (ARENA_HEAD_LEN ≤ offset) × (offset + CLUMP_HEADER_LEN
 abbrev pub header_at : Region → (offset : ℕ) → (file : List ℕ) → List ℕ
 header_at region offset file = part (region.start + offset) CLUMP_HEADER_LEN file
 
+-- the bytes of the clump at this offset, by the size in its header, within the region
 abbrev pub clump_at : Region → (offset : ℕ) → (file : List ℕ) → List ℕ
 clump_at region offset file =
     let len = clump_len (size_in (header_at region offset file)) in

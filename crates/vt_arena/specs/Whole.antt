@@ -45,6 +45,8 @@ abbrev pub IsBuffer : List ℕ → Type 0
 IsBuffer frame =
     (length frame ≡ FRAME_LEN) × (drop FIELDS_LEN frame ≡ replicate (FRAME_LEN - FIELDS_LEN) 0)
 
+-- The invariant of an arena in memory: its head, what is staged and its buffers fit each other and
+-- the region.
 pub record IsWholeArena (a : Inside) : Type 0 where
   pub frame_len : a.twin.frame_len ≡ FRAME_LEN
   pub runs : a.failed ≡ false → a.twin.failed ≡ false

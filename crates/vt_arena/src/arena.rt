@@ -24,11 +24,17 @@ const LINK_LEN: usize = 20 + DIRECTORY_ENTRY_LEN;
 /// each time.
 #[derive(Drop)]
 pub struct Arena {
+    /// Its number in its partition.
     pub(crate) number: u32,
+    /// How many bytes its region has.
     pub(crate) len: u64,
+    /// The two frames of the head on the disk.
     pub(crate) twin: Twin,
+    /// The head as it was committed last.
     pub(crate) head: ArenaHead,
+    /// The head that the commit under way brings.
     pub(crate) next: ArenaHead,
+    /// The clumps of the commit under way.
     pub(crate) staged: Vec<Packed>,
     /// The directory of what is staged, at the end of a buffer for as many as may be.
     pub(crate) directory: Vec<u8>,
@@ -40,6 +46,7 @@ pub struct Arena {
     pub(crate) buffer: Option<Bytes>,
     /// How many calls of the head's change under way succeeded.
     pub(crate) head_calls: u8,
+    /// Whether a call of a commit failed: then no more are made.
     pub(crate) failed: bool,
 }
 

@@ -84,7 +84,8 @@ impl Arena {
         self.go_on(outcome)
     }
 
-    /// The write of the next piece.
+    /// The device call that writes the next piece of a commit: a clump, or behind the last one the
+    /// directory of all.
     fn next_piece(&self, region: Region) -> Call<'_>
         requires same { region.len ≡ self.now.len }
         requires end { region.start + region.len < 2 ^ 64 }

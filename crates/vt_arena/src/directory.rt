@@ -107,6 +107,7 @@ fn decode(entry: &[u8; DIRECTORY_ENTRY_LEN], head: &ArenaHead, at: At) -> Result
     ensures within { IfOk result (λ info. block_room info.size ≤ at.end) }
     ensures differs { IfErr result NamesDamage }
 {
+    // (the places of the fields: docs/FORMATS.md, Arenas; of a type, 13 is told as wanted)
     let Some(kind) = Kind::from_wire(entry[0]) else {
         return Err(damaged(13, u64::from(entry[0])));
     };
@@ -139,6 +140,7 @@ fn decode(entry: &[u8; DIRECTORY_ENTRY_LEN], head: &ArenaHead, at: At) -> Result
     })
 }
 
+/// An entry that has one number where another had to stand.
 fn damaged(want: u64, found: u64) -> BackBad
     ensures { result ≡ BackBad.Damaged (FieldValue.Number want) (FieldValue.Number found) }
 {

@@ -115,7 +115,7 @@ fn check(head: &ArenaHead, sealed: u8, number: u32, len: u64) -> Result<(), Aren
     Ok(())
 }
 
-/// A field that can't stand there.
+/// The refusal of a field of a head, with what stands there and what had to.
 fn torn(field: Field, found: u128, want: u128) -> ArenaBad
     ensures { result ≡ ArenaBad.Torn field found want }
 {

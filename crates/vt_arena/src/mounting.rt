@@ -90,6 +90,7 @@ pub fn find<D: Disk>(disk: &mut D, region: Region, number: u32) -> Result<Found,
     ensures cause { CountsFault is_arena_fault result (D.faults disk.old) (D.faults disk.new) }
 {
     let mut selector = [0];
+    // (the selector stands behind both frames; its first byte names the current one)
     let Ok(()) = region.read_at(disk, 2 * FRAME_LEN as u64, &mut selector) else {
         return Err(ArenaBad::Fault);
     };

@@ -174,6 +174,8 @@ fn refusal(bad: ClumpBad) -> ReadBad
         → result ≡ ReadBad.Damaged (damage_of_clump bad).0 (damage_of_clump bad).1 }
     ensures memory { bad ≡ ClumpBad.NoMemory → result ≡ ReadBad.NoMemory }
 {
+    // (of what may stand there, the value that this program writes is told as wanted: type 13,
+    // encoding 1)
     let (want, found) = match bad {
         ClumpBad::Short => (number_value(CLUMP_HEADER_LEN as u16), number_value(0)),
         ClumpBad::Magic(found) => (FieldValue::Magic(*b"VCLP"), FieldValue::Magic(found)),

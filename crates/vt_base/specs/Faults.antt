@@ -5,6 +5,7 @@ use Rattle.std.specs.Prelude.{◌≡◌, ℕ, ◌+◌, ◌-◌, ◌^◌, min, Bo
 abbrev pub one_more : ℕ → ℕ
 one_more n = min (n + 1) (2 ^ 64 - 1)
 
+-- the count is one more than it was, where that fits 64 bits
 abbrev pub IsOneMore : (old new : ℕ) → Type 0
 IsOneMore old new = new ≡ one_more old
 

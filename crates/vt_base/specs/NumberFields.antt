@@ -9,6 +9,7 @@ use Rattle.std.proofs.lemmas.Nat.{div-mul-add}
 use Rattle.byteorder.specs.Endian.{big_number, big_bytes, big_from}
 use Rattle.byteorder.specs.Numbers.{big_from-cons, big_from-lt, big_number-reads_back, length-bytes_high_first}
 
+-- each byte of a number is below 256
 byte_at-lt : (k x : ℕ) → byte_at k x < 256
 byte_at-lt zero x = mod-lt x (omega arith)
 byte_at-lt (suc k) x = mod-lt (x / 256 ^ suc k) (omega arith)

@@ -7,6 +7,7 @@ use Rattle.vt_base.specs.declared.operation.Operation.TheVariants.{Read, Write, 
 use Rattle.vt_base.specs.declared.why.Why.{Why}
 use Rattle.vt_base.specs.Protocol.{Operation, read, write, sync, RMessage, r_read, r_write, r_sync, r_refused}
 
+-- the operation of the model that a request in memory is
 abbrev pub operation_of : Asked → Operation
 operation_of (Read score kind count) = read score.0 kind count
 operation_of (Write kind bytes) = write kind bytes.now

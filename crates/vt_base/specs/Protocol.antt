@@ -40,5 +40,6 @@ why_words (Stopped first) = codes "store stopped"
 why_words (Damaged site want found) = codes "block damaged"
 why_words NoMemory = codes "no memory"
 
+-- the reply that says why a request is refused
 abbrev pub r_refused : Why → RMessage
 r_refused why = r_error (why_words why)

@@ -43,18 +43,21 @@ impl Bytes {
         self.content
     }
 
+    /// Lends the bytes, without copying them.
     pub fn as_slice(&self) -> &[u8]
         ensures { result.now ≡ self.now }
     {
         &self.content
     }
 
+    /// How many bytes there are.
     pub fn len(&self) -> usize
         ensures { result ≡ length self.now }
     {
         self.content.len()
     }
 
+    /// Whether there are no bytes.
     pub fn is_empty(&self) -> bool
         ensures { result ≡ (length self.now == 0) }
     {
@@ -100,18 +103,21 @@ impl Text {
         self.content
     }
 
+    /// Lends the bytes of the text, without copying them.
     pub fn as_slice(&self) -> &[u8]
         ensures { result.now ≡ self.now }
     {
         &self.content
     }
 
+    /// How many bytes, not characters, the text has.
     pub fn len(&self) -> usize
         ensures { result ≡ length self.now }
     {
         self.content.len()
     }
 
+    /// Whether it has no bytes.
     pub fn is_empty(&self) -> bool
         ensures { result ≡ (length self.now == 0) }
     {

@@ -1,4 +1,4 @@
-//! Scores as text.
+//! Scores as text: 40 hexadecimal digits.
 
 ghost use Rattle.std.specs.Prelude.{◌≡◌, ℕ, List, ◌≤◌, length, IfOk, IfErr, IsOkAnd};
 ghost use Rattle.std.specs.List.{prefix_len};

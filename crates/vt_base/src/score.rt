@@ -14,6 +14,7 @@ pub trait Scorer {
     /// The score of a block's bytes, and of nothing else. That of no bytes is the zero score.
     ghost score_of: { List ℕ → List ℕ };
 
+    /// The score of a block's bytes, which are any number, also none.
     fn score(&self, block: &[u8]) -> Score
         ensures { result.0 ≡ score_of block.now };
 

@@ -17,6 +17,7 @@ pub record AreCounts (m k : ℕ) : Type 0 where
   pub some : 1 ≤ k
   pub few : k ≤ 32
 
+-- a filter of 2 ^ m bits with k positions for a score, both within their limits
 pub record IsFilter (filter : Filter) : Type 0 where
   pub counts : AreCounts filter.m filter.k
   pub whole : 64 * length filter.words ≡ 2 ^ filter.m
@@ -30,6 +31,8 @@ clear_of m k = record { m = m; k = k; words = replicate (2 ^ (m - 6)) 0 }
 abbrev pub stride_of : (score : List ℕ) → ℕ
 stride_of score = bit_or (big_number 8 (drop 8 score)) 1
 
+-- the bit that position i of a score is: the first eight bytes of the score, and i strides of it
+-- further, modulo 2 ^ m
 abbrev pub position_of : (m : ℕ) → (score : List ℕ) → (i : ℕ) → ℕ
 position_of m score i = (big_number 8 score + i * stride_of score) % 2 ^ m
 
@@ -37,6 +40,7 @@ position_of m score i = (big_number 8 score + i * stride_of score) % 2 ^ m
 abbrev pub IsSetIn : (words : List ℕ) → (p : ℕ) → Type 0
 IsSetIn words p = bit_at (slice_index words (p / 64)) (p % 64) ≡ 1
 
+-- the bit at this position is set
 abbrev pub IsSet : Filter → (p : ℕ) → Type 0
 IsSet filter p = IsSetIn filter.words p
 

@@ -22,19 +22,23 @@ pub record Covers (scores : List (List ℕ)) (saved : Saved) : Type 0 where
   pub set : (i : ℕ) (score : List ℕ) → i < saved.mark → slice_get scores i ≡ Some score
       → HasBitsOf saved.filter score
 
--- What the fields say, by their places.
+-- the first four bytes of a frame (the fields here are by their places)
 abbrev pub magic_in : List ℕ → List ℕ
 magic_in frame = take 4 frame
 
+-- the version field of a filter's frame
 abbrev pub version_in : List ℕ → ℕ
 version_in frame = big_number 2 (drop 4 frame)
 
+-- the field of a filter's frame that tells of how many bits it is, as a power of two
 abbrev pub m_in : List ℕ → ℕ
 m_in frame = slice_index frame 6
 
+-- the field of a filter's frame that tells how many positions a score has
 abbrev pub k_in : List ℕ → ℕ
 k_in frame = slice_index frame 7
 
+-- the field of a filter's frame that tells of how many blocks it has the bits
 abbrev pub mark_in : List ℕ → ℕ
 mark_in frame = big_number 8 (drop 8 frame)
 

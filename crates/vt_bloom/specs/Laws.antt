@@ -10,6 +10,7 @@ abbrev pub IsUnambiguous : Type 0
 IsUnambiguous = (s t : Saved) (frame : List ℕ) → IsFilterFrame s frame → IsFilterFrame t frame → s
     ≡ t
 
+-- a file holds one saved filter at most
 abbrev pub HasOneSaved : Type 0
 HasOneSaved = (s t : Saved) (file : List ℕ) → HasSaved s file → HasSaved t file → s ≡ t
 
@@ -33,6 +34,7 @@ abbrev pub CoversMore : Type 0
 CoversMore = (saved : Saved) (scores more : List (List ℕ)) → Covers scores saved
     → Covers (scores ++ more) saved
 
+-- a filter that covers scores covers the first of them, down to its mark
 abbrev pub CoversFewer : Type 0
 CoversFewer = (saved : Saved) (scores : List (List ℕ)) (n : ℕ) → Covers scores saved
     → saved.mark ≤ n → Covers (take n scores) saved

@@ -23,6 +23,7 @@ fn position(score: &Score, m: u8, i: u8) -> u32
 fn stride(score: &Score) -> u64
     ensures { result ≡ stride_of score.now.0 }
 {
+    // (an odd stride meets each of 2^m positions before one a second time)
     u64_at(&score.0, 8) | 1
 }
 

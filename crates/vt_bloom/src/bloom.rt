@@ -19,11 +19,17 @@ use vt_twin::{Step, Twin};
 #[derive(Drop)]
 pub struct Bloom<D: Disk> {
     pub(crate) disk: D,
+    /// It has 2^m bits.
     pub(crate) m: u8,
+    /// How many bits a score has.
     pub(crate) k: u8,
+    /// Of how many blocks the saved bits surely are.
     pub(crate) mark: u64,
+    /// The mark that the save under way brings.
     pub(crate) next: u64,
+    /// The two frames on the disk.
     pub(crate) twin: Twin,
+    /// The device calls of saves.
     pub(crate) calls: CallCount,
     /// What the next save is written into. The twin has it while a save is under way.
     pub(crate) frame: Option<Bytes>,
@@ -86,7 +92,7 @@ impl<D: Disk> Bloom<D> {
         self.k
     }
 
-    /// The mark that is saved.
+    /// Of how many of the log's first blocks the bits are surely saved.
     pub fn mark(&self) -> u64
         ensures { result ≡ self.now.mark }
     {

@@ -1,4 +1,4 @@
-//! Why a device is refused.
+//! Why a device isn't mounted as a Bloom filter.
 
 use std::alloc::{AllocError, AllocFailed};
 use vt_base::Failed;

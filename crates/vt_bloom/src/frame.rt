@@ -66,6 +66,7 @@ pub fn decode_head(frame: &[u8], m: u8) -> Result<(u8, u64), BloomError>
     ensures refused { IfErr result (λ bad. first_bad_filter m frame.now ≡ Some bad) }
     ensures tells { IfErr result TellsOfFrame }
 {
+    // (the places of the fields: docs/FORMATS.md, The Bloom filter)
     if frame[..4] != b"VBLM"[..] {
         return Err(BloomError::NotFormatted);
     }
@@ -83,7 +84,7 @@ pub fn decode_head(frame: &[u8], m: u8) -> Result<(u8, u64), BloomError>
     Ok((k, u64_at(frame, 8)))
 }
 
-/// A field that can't stand there.
+/// The refusal of a field of a frame, with what stands there and what had to.
 fn torn(field: Field, found: u64, want: u64) -> BloomError
     ensures { result ≡ BloomError.Torn field found want }
 {

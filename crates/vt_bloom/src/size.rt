@@ -12,6 +12,7 @@ pub fn exponent(size: u64) -> Option<u8>
     ensures found { IfSome result (λ m. IsFilterSize m size) }
     ensures none { IfNone result ((m : ℕ) → ¬ IsFilterSize m size) }
 {
+    // (2^m bits are 2^(m-3) bytes)
     for m in 16..24 {
         if size == 1 << (m - 3) {
             return Some(m);

@@ -4,9 +4,11 @@ use Rattle.std.specs.List.{Contains}
 use Rattle.vt_base.specs.declared.place.Entry.{Entry}
 use Rattle.vt_bucket.specs.declared.Bucket.{Bucket}
 
+-- the bucket's number over all sections
 abbrev pub number_of_bucket : Bucket → ℕ
 number_of_bucket b = b.number
 
+-- the entries of a bucket in memory, in order of their keys
 abbrev pub bucket_entries : Bucket → List Entry
 bucket_entries b = take b.len b.table
 

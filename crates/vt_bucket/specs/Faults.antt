@@ -8,12 +8,15 @@ use Rattle.vt_bucket.specs.declared.decoding.BucketBad.{BucketBad}
 use Rattle.vt_bucket.specs.declared.decoding.BucketBad.TheVariants.{Magic, Number, Count, Order}
 use Rattle.vt_bucket.specs.Frame.{BeginsWithEntries}
 
+-- the first four bytes of a frame
 abbrev pub magic_in : List ℕ → List ℕ
 magic_in bytes = take 4 bytes
 
+-- the number field of a frame
 abbrev pub number_in : List ℕ → ℕ
 number_in bytes = big_number 4 (drop 4 bytes)
 
+-- the field of a frame that counts the entries
 abbrev pub count_in : List ℕ → ℕ
 count_in bytes = big_number 2 (drop 8 bytes)
 
@@ -23,6 +26,7 @@ HasFirstEntries n bytes =
     (entries : List Entry) × (length entries ≡ n)
     × BeginsWithEntries entries (drop FIELDS_LEN bytes)
 
+-- the frame begins as that of a bucket
 abbrev pub HasMagic : List ℕ → Type 0
 HasMagic bytes = magic_in bytes ≡ codes "VBKT"
 

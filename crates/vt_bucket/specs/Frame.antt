@@ -34,6 +34,7 @@ pub record AreBucketEntries (entries : List Entry) : Type 0 where
   pub ascending : IsAscending entries
   pub most : length entries ≤ BUCKET_ROOM
 
+-- the bytes of entries, one behind the other
 abbrev pub cells : List Entry → List ℕ
 cells entries = flat_map cell entries
 
@@ -42,6 +43,7 @@ pub record BeginsWithEntries (entries : List Entry) (bytes : List ℕ) : Type 0 
   pub allowed : AreBucketEntries entries
   pub spelling : (rest : List ℕ) × (bytes ≡ cells entries ++ rest)
 
+-- the bytes in front of a bucket's entries
 abbrev pub bucket_header : (number count : ℕ) → List ℕ
 bucket_header number count = codes "VBKT" ++ (big_bytes 4 number ++ big_bytes 2 count)
 

@@ -58,6 +58,7 @@ fn decode_head(frame: &[u8], number: u32) -> Result<u16, BucketBad>
     ensures count { IfOk result (λ count. (count ≡ count_in frame.now) × (count ≤ BUCKET_ROOM)) }
     ensures refused { IfErr result (λ bad. FaultIs bad number frame.now) }
 {
+    // (the places of the fields: docs/FORMATS.md, Buckets of the index)
     let magic = [frame[0], frame[1], frame[2], frame[3]];
     if magic != *b"VBKT" {
         return Err(BucketBad::Magic(magic));

@@ -52,9 +52,11 @@ entries_at region i (suc n) file = last_entry region (i + 1) file ∷ entries_at
 
 -- ---- the tests
 
+-- the damage that one number stands where another should
 abbrev pub damage_of_numbers : (want found : ℕ) → Damage
 damage_of_numbers want found = record { want = Number want; found = Number found }
 
+-- the damage that one score stands where another should
 abbrev pub scores : (want found : List ℕ) → Damage
 scores want found =
     record { want = ScoreValue (record { 0 = want }); found = ScoreValue (record { 0 = found }) }
@@ -63,9 +65,11 @@ scores want found =
 abbrev pub damage_by : ClumpBad → Damage
 damage_by bad = record { want = (damage_of_clump bad).0; found = (damage_of_clump bad).1 }
 
+-- what is wrong with a clump, if anything is
 abbrev pub clump_damage : (List ℕ → List ℕ) → (clump : List ℕ) → Option Damage
 clump_damage score clump = option_map damage_by (first_bad_clump score clump)
 
+-- the first thing that is wrong with these clumps, in order
 abbrev pub bad_clump : (List ℕ → List ℕ) → List (List ℕ) → Option Damage
 bad_clump score [] = None
 bad_clump score (clump ∷ rest) = option_or (clump_damage score clump) (bad_clump score rest)
@@ -101,6 +105,7 @@ abbrev pub chain_of_entries : (List ℕ → List ℕ) → (entries : List (List 
 chain_of_entries score entries =
     fold (λ chain entry. score (chain ++ entry)) (replicate 20 0) entries
 
+-- the chain that the head has isn't that of the entries
 abbrev pub bad_chain : (List ℕ → List ℕ) → (entries : List (List ℕ)) → (found : List ℕ) → Option Damage
 bad_chain score entries found =
     if bytes_eq found (chain_of_entries score entries) then None else Some
@@ -117,6 +122,7 @@ first_damage score region head file =
 
 -- ---- the report
 
+-- the two values that are told of a damage differ
 abbrev pub DamageDiffers : Damage → Type 0
 DamageDiffers damage = Differ damage.want damage.found
 

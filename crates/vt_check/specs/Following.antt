@@ -29,6 +29,7 @@ pub record IsCut (cut : Cut) : Type 0 where
   pub order : cut.start ≤ cut.end
   pub entry : IsEntryRead cut.entry
 
+-- a cut of the bytes that were read together
 pub record IsWithinWindow (window : List ℕ) (cut : Cut) : Type 0 where
   pub is_cut : IsCut cut
   pub end : cut.end ≤ length window

@@ -54,6 +54,7 @@ pub struct Damage {
 impl Damage {
     ghost use Rattle.vt_check.specs.Checking.{damage_of_numbers, scores};
 
+    /// A number that had to be there, and the one that is.
     pub(crate) fn of_numbers(want: u64, found: u64) -> Damage
         ensures { result ≡ damage_of_numbers want found }
     {
@@ -63,6 +64,7 @@ impl Damage {
         }
     }
 
+    /// A score that had to be there, and the one that is.
     pub(crate) fn of_scores(want: Score, found: Score) -> Damage
         ensures { result ≡ scores want.0 found.0 }
     {
@@ -136,6 +138,7 @@ pub fn check<D: Disk, S: Scorer + Sync, G: Progress>(
     Ok(Report { arenas })
 }
 
+/// Puts the report of one more arena behind the others.
 fn add(arenas: &mut Vec<ArenaReport>, report: ArenaReport) -> Result<(), CheckErr>
     ensures added { OnOk result (arenas.new.items ≡ arenas.old.items ++ report ∷ []) }
     ensures refused { IfErr result (λ bad. bad ≡ CheckErr.NoMemory) }
@@ -197,12 +200,17 @@ fn end_of(head: &ArenaHead, followed: &Followed) -> Option<Damage>
 /// Room for what is read of an arena at once.
 #[derive(Drop)]
 struct Room {
+    /// The bytes of clumps, as many as are read at once.
     clumps: Vec<u8>,
+    /// Their directory entries, the last of which stands first.
     entries: Vec<u8>,
+    /// Where each clump begins and ends, with its entry.
     cuts: Vec<Cut>,
 }
 
 impl Room {
+    /// Takes no memory yet. What is read at once has at most `BYTES_AT_ONCE` bytes of clumps, and
+    /// `CLUMPS_AT_ONCE` entries.
     fn new(alloc: Global) -> Room {
         Room {
             clumps: Vec::new(alloc),

@@ -30,6 +30,7 @@ const _: () = prove!(MOST_CLUMP == 65_573);
 /// A clump within the bytes that were read together, and its directory entry.
 #[derive(Clone, Copy)]
 pub(crate) struct Cut {
+    /// The places are within the bytes, and the end is behind the clump.
     pub(crate) start: usize,
     pub(crate) end: usize,
     pub(crate) entry: [u8; DIRECTORY_ENTRY_LEN],
@@ -39,6 +40,7 @@ pub(crate) struct Cut {
 #[derive(Clone, Copy)]
 pub(crate) enum Tested {
     Sound,
+    /// The clump is sound, and its entry isn't its own.
     BadEntry(Damage),
     BadClump(Damage),
     NoMemory,
@@ -50,11 +52,13 @@ pub(crate) enum Tested {
 pub(crate) struct Followed {
     pub(crate) clumps: u32,
     pub(crate) used: u64,
+    /// The first damage of an entry, if there is any.
     pub(crate) entry: Option<Damage>,
     pub(crate) chain: Score,
 }
 
 impl Followed {
+    /// Before the first clump: no bytes, and the chain that an arena begins with, 20 zeros.
     pub(crate) fn nothing() -> Followed
         ensures { (score : List ℕ → List ℕ) → HasFollowed score [] [] result }
     {
@@ -113,6 +117,7 @@ impl Followed {
             → entry_damage (stored_in clump) cut.now.entry ≡ damage
             → HasFollowed S.score_of (clumps ++ clump ∷ []) (entries ++ cut.now.entry ∷ []) self.new }
     {
+        // (the next chain is the score of the one so far and the entry behind it)
         let mut bytes = [0; 20 + DIRECTORY_ENTRY_LEN];
         let at = put(&mut bytes, 0, &self.chain.0);
         put(&mut bytes, at, &cut.entry);
@@ -166,6 +171,7 @@ fn least_left(more: bool) -> usize
     if more { MOST_CLUMP } else { 0 }
 }
 
+/// Puts one more clump behind the others.
 fn push(cuts: &mut Vec<Cut>, cut: Cut) -> Result<(), CheckErr>
     ensures pushed { OnOk result (cuts.new.items ≡ cuts.old.items ++ cut ∷ []) }
     ensures same { OnErr result (cuts.new.items ≡ cuts.old.items) }
@@ -240,6 +246,7 @@ fn test_cut<S: Scorer>(alloc: Global, bytes: &[u8], cut: &Cut, scorer: &S) -> Te
     test_clump(alloc, &bytes[cut.start..cut.end], &cut.entry, scorer)
 }
 
+/// Tests the bytes of one clump, its score among them, and its entry against it.
 fn test_clump<S: Scorer>(
     alloc: Global,
     bytes: &[u8],
@@ -264,6 +271,7 @@ fn test_entry(clump: &Clump, entry: &[u8; DIRECTORY_ENTRY_LEN]) -> Option<Damage
 {
     let kind = u64::from(clump.kind.wire());
     let size = clump.bytes.len() as u64;
+    // (the places of the fields: docs/FORMATS.md, Arenas)
     let [kind_found, size_found, uncsize_found] = [
         u64::from(entry[0]),
         u64::from(u16_at(entry, 1)),
@@ -291,6 +299,8 @@ fn refusal(bad: ClumpBad) -> Tested
     ensures damaged { ¬ (bad ≡ ClumpBad.NoMemory) → result ≡ Tested.BadClump (damage_by bad) }
     ensures memory { bad ≡ ClumpBad.NoMemory → result ≡ Tested.NoMemory }
 {
+    // (of what may stand there, the value that this program writes is told as wanted: type 13,
+    // encoding 1)
     Tested::BadClump(match bad {
         ClumpBad::Short => Damage::of_numbers(HEADER_LEN as u64, 0),
         ClumpBad::Magic(found) => Damage {

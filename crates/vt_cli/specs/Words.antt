@@ -18,6 +18,7 @@ use Rattle.vt_cli.specs.declared.command.Command.TheVariants.{Session, FormatAre
 abbrev pub wanted : Text → Rule
 wanted id = record (new_rule id) { required = true }
 
+-- the command with one more word that it wants
 abbrev pub with_word : App → Text → App
 with_word app id = with_rule app (wanted id)
 
@@ -27,47 +28,59 @@ with_size app = with_rule app (record (new_rule (codes "BSIZE")) { short = Some 
 
 -- ---- the commands, each with its words
 
+-- `session STORE`
 abbrev pub session : App
 session = with_word (new_app (codes "session")) (codes "STORE")
 
+-- `fmtarenas FILE NAME LENGTH ARENASIZE`
 abbrev pub fmtarenas : App
 fmtarenas =
     with_word (with_word (with_word (with_word (new_app (codes "fmtarenas"))
     (codes "FILE")) (codes "NAME")) (codes "LENGTH")) (codes "ARENASIZE")
 
+-- `fmtisect FILE NAME LENGTH`
 abbrev pub fmtisect : App
 fmtisect =
     with_word (with_word (with_word (new_app (codes "fmtisect"))
     (codes "FILE")) (codes "NAME")) (codes "LENGTH")
 
+-- `fmtbloom FILE SIZE POSITIONS`
 abbrev pub fmtbloom : App
 fmtbloom =
     with_word (with_word (with_word (new_app (codes "fmtbloom"))
     (codes "FILE")) (codes "SIZE")) (codes "POSITIONS")
 
+-- `fmtindex CONF`
 abbrev pub fmtindex : App
 fmtindex = with_word (new_app (codes "fmtindex")) (codes "CONF")
 
+-- `buildindex CONF`
 abbrev pub buildindex : App
 buildindex = with_word (new_app (codes "buildindex")) (codes "CONF")
 
+-- `checkarenas CONF`
 abbrev pub checkarenas : App
 checkarenas = with_word (new_app (codes "checkarenas")) (codes "CONF")
 
+-- `read STORE SCORE TYPE`
 abbrev pub read : App
 read =
     with_word (with_word (with_word (new_app (codes "read"))
     (codes "STORE")) (codes "SCORE")) (codes "TYPE")
 
+-- `write STORE TYPE`
 abbrev pub write : App
 write = with_word (with_word (new_app (codes "write")) (codes "STORE")) (codes "TYPE")
 
+-- `rehearse SEED COUNT`
 abbrev pub rehearse : App
 rehearse = with_word (with_word (new_app (codes "rehearse")) (codes "SEED")) (codes "COUNT")
 
+-- `vac STORE FOLDER`, with an option for the size of blocks
 abbrev pub vac : App
 vac = with_size (with_word (with_word (new_app (codes "vac")) (codes "STORE")) (codes "FOLDER"))
 
+-- `vacfs STORE SCORE`
 abbrev pub vacfs : App
 vacfs = with_word (with_word (new_app (codes "vacfs")) (codes "STORE")) (codes "SCORE")
 
@@ -81,6 +94,7 @@ with_settings shape = record shape {
   has_version = true;
 }
 
+-- the program with all its commands
 abbrev pub venti : App
 venti =
     with_subcommand (with_subcommand (with_subcommand (with_subcommand (with_subcommand
@@ -91,9 +105,11 @@ venti =
 
 -- ---- what its words ask for
 
+-- a `session` by its words, if all are there
 abbrev pub session_of : List Row → Option Command
 session_of rows = option_and_then (λ store. Some (Session store)) (first_of (codes "STORE") rows)
 
+-- a `fmtarenas` by its words, if all are there
 abbrev pub arenas_of : List Row → Option Command
 arenas_of rows =
     option_and_then (λ file. option_and_then (λ name. option_and_then (λ length.
@@ -101,6 +117,7 @@ arenas_of rows =
     (first_of (codes "ARENASIZE") rows)) (first_of (codes "LENGTH") rows))
     (first_of (codes "NAME") rows)) (first_of (codes "FILE") rows)
 
+-- a `fmtisect` by its words, if all are there
 abbrev pub section_of : List Row → Option Command
 section_of rows =
     option_and_then (λ file. option_and_then (λ name. option_and_then (λ length.
@@ -108,6 +125,7 @@ section_of rows =
     (first_of (codes "LENGTH") rows)) (first_of (codes "NAME") rows))
     (first_of (codes "FILE") rows)
 
+-- a `fmtbloom` by its words, if all are there
 abbrev pub filter_of : List Row → Option Command
 filter_of rows =
     option_and_then (λ file. option_and_then (λ size. option_and_then (λ positions.
@@ -115,15 +133,19 @@ filter_of rows =
     (first_of (codes "POSITIONS") rows)) (first_of (codes "SIZE") rows))
     (first_of (codes "FILE") rows)
 
+-- a `fmtindex` by its word, if it is there
 abbrev pub index_of : List Row → Option Command
 index_of rows = option_and_then (λ file. Some (FormatIndex file)) (first_of (codes "CONF") rows)
 
+-- a `buildindex` by its word, if it is there
 abbrev pub rebuild_of : List Row → Option Command
 rebuild_of rows = option_and_then (λ file. Some (RebuildIndex file)) (first_of (codes "CONF") rows)
 
+-- a `checkarenas` by its word, if it is there
 abbrev pub check_of : List Row → Option Command
 check_of rows = option_and_then (λ file. Some (CheckArenas file)) (first_of (codes "CONF") rows)
 
+-- a `read` by its words, if all are there
 abbrev pub read_of : List Row → Option Command
 read_of rows =
     option_and_then (λ store. option_and_then (λ score. option_and_then (λ kind.
@@ -131,22 +153,26 @@ read_of rows =
     (first_of (codes "TYPE") rows)) (first_of (codes "SCORE") rows))
     (first_of (codes "STORE") rows)
 
+-- a `write` by its words, if all are there
 abbrev pub write_of : List Row → Option Command
 write_of rows =
     option_and_then (λ store. option_and_then (λ kind. Some (Write store kind))
     (first_of (codes "TYPE") rows)) (first_of (codes "STORE") rows)
 
+-- a `rehearse` by its words, if all are there
 abbrev pub rehearsal_of : List Row → Option Command
 rehearsal_of rows =
     option_and_then (λ seed. option_and_then (λ count. Some (Rehearse seed count))
     (first_of (codes "COUNT") rows)) (first_of (codes "SEED") rows)
 
+-- a `vac` by its words, if both are there, and the size, if one was said
 abbrev pub vac_of : List Row → Option Command
 vac_of rows =
     option_and_then (λ store. option_and_then (λ folder.
     Some (Vac store folder (first_of (codes "BSIZE") rows)))
     (first_of (codes "FOLDER") rows)) (first_of (codes "STORE") rows)
 
+-- a `vacfs` by its words, if all are there
 abbrev pub view_of : List Row → Option Command
 view_of rows =
     option_and_then (λ store. option_and_then (λ score. Some (View store score))
@@ -173,6 +199,7 @@ command_of name rows =
 abbrev pub said_by : Option (Text × List Row) → Option Command
 said_by met = option_and_then (λ p. command_of p.0 p.1) met
 
+-- the command that the words ask for, if they are those of one
 abbrev pub spoken : (words : List Text) → Option Command
 spoken words = said_by (subcommand_of venti words)
 
@@ -208,11 +235,13 @@ session_words = codes "session" ∷ codes ":memory:" ∷ []
 
 -- ---- by what clap answers
 
+-- what is asked where clap takes the words: a command, or nothing that is known
 abbrev pub IsSpoken : Option Command → Asked → Type 0
 IsSpoken said (Do command) = said ≡ Some command
 IsSpoken said (Faulty text) = (said ≡ None) × (string_bytes text ≡ [])
 IsSpoken said asked = ⊥
 
+-- what is asked where clap doesn't take the words: help, the version, or nothing that is known
 abbrev pub IsUnspoken : ErrorKind → Asked → Type 0
 IsUnspoken kind (Do command) = ⊥
 IsUnspoken kind (Help text) = kind ≡ DisplayHelp

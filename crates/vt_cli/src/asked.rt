@@ -65,6 +65,7 @@ fn unspoken(alloc: Global, error: &Error) -> Result<Asked, AllocError>
     }
 }
 
+/// What clap would print of it: help, the version, or what is wrong with the words.
 fn text_of(alloc: Global, error: &Error) -> Result<String, AllocError> {
     Ok(format!(in alloc; "{error}")?)
 }

@@ -114,6 +114,7 @@ pub(crate) fn command_of(
     }
 }
 
+/// `session STORE`: its words as they were said, or nothing where one of them is missing.
 fn session_of(alloc: Global, found: &ArgMatches<'_>) -> Result<Option<Command>, AllocError>
     ensures { IfOk result (λ it. it ≡ session_of (rows_of (found_of found.now))) }
 {
@@ -123,6 +124,8 @@ fn session_of(alloc: Global, found: &ArgMatches<'_>) -> Result<Option<Command>, 
     Ok(Some(Command::Session { store }))
 }
 
+/// `fmtarenas FILE NAME LENGTH ARENASIZE`: its words as they were said, or nothing where one of
+/// them is missing.
 fn arenas_of(alloc: Global, found: &ArgMatches<'_>) -> Result<Option<Command>, AllocError>
     ensures { IfOk result (λ it. it ≡ arenas_of (rows_of (found_of found.now))) }
 {
@@ -146,6 +149,8 @@ fn arenas_of(alloc: Global, found: &ArgMatches<'_>) -> Result<Option<Command>, A
     }))
 }
 
+/// `fmtisect FILE NAME LENGTH`: its words as they were said, or nothing where one of them is
+/// missing.
 fn section_of(alloc: Global, found: &ArgMatches<'_>) -> Result<Option<Command>, AllocError>
     ensures { IfOk result (λ it. it ≡ section_of (rows_of (found_of found.now))) }
 {
@@ -161,6 +166,8 @@ fn section_of(alloc: Global, found: &ArgMatches<'_>) -> Result<Option<Command>, 
     Ok(Some(Command::FormatSection { file, name, length }))
 }
 
+/// `fmtbloom FILE SIZE POSITIONS`: its words as they were said, or nothing where one of them is
+/// missing.
 fn filter_of(alloc: Global, found: &ArgMatches<'_>) -> Result<Option<Command>, AllocError>
     ensures { IfOk result (λ it. it ≡ filter_of (rows_of (found_of found.now))) }
 {
@@ -180,6 +187,7 @@ fn filter_of(alloc: Global, found: &ArgMatches<'_>) -> Result<Option<Command>, A
     }))
 }
 
+/// `fmtindex CONF`: its words as they were said, or nothing where one of them is missing.
 fn index_of(alloc: Global, found: &ArgMatches<'_>) -> Result<Option<Command>, AllocError>
     ensures { IfOk result (λ it. it ≡ index_of (rows_of (found_of found.now))) }
 {
@@ -189,6 +197,7 @@ fn index_of(alloc: Global, found: &ArgMatches<'_>) -> Result<Option<Command>, Al
     Ok(Some(Command::FormatIndex { file }))
 }
 
+/// `buildindex CONF`: its words as they were said, or nothing where one of them is missing.
 fn rebuild_of(alloc: Global, found: &ArgMatches<'_>) -> Result<Option<Command>, AllocError>
     ensures { IfOk result (λ it. it ≡ rebuild_of (rows_of (found_of found.now))) }
 {
@@ -198,6 +207,7 @@ fn rebuild_of(alloc: Global, found: &ArgMatches<'_>) -> Result<Option<Command>, 
     Ok(Some(Command::RebuildIndex { file }))
 }
 
+/// `checkarenas CONF`: its words as they were said, or nothing where one of them is missing.
 fn check_of(alloc: Global, found: &ArgMatches<'_>) -> Result<Option<Command>, AllocError>
     ensures { IfOk result (λ it. it ≡ check_of (rows_of (found_of found.now))) }
 {
@@ -207,6 +217,7 @@ fn check_of(alloc: Global, found: &ArgMatches<'_>) -> Result<Option<Command>, Al
     Ok(Some(Command::CheckArenas { file }))
 }
 
+/// `read STORE SCORE TYPE`: its words as they were said, or nothing where one of them is missing.
 fn read_of(alloc: Global, found: &ArgMatches<'_>) -> Result<Option<Command>, AllocError>
     ensures { IfOk result (λ it. it ≡ read_of (rows_of (found_of found.now))) }
 {
@@ -222,6 +233,7 @@ fn read_of(alloc: Global, found: &ArgMatches<'_>) -> Result<Option<Command>, All
     Ok(Some(Command::Read { store, score, kind }))
 }
 
+/// `write STORE TYPE`: its words as they were said, or nothing where one of them is missing.
 fn write_of(alloc: Global, found: &ArgMatches<'_>) -> Result<Option<Command>, AllocError>
     ensures { IfOk result (λ it. it ≡ write_of (rows_of (found_of found.now))) }
 {
@@ -234,6 +246,7 @@ fn write_of(alloc: Global, found: &ArgMatches<'_>) -> Result<Option<Command>, Al
     Ok(Some(Command::Write { store, kind }))
 }
 
+/// `rehearse SEED COUNT`: its words as they were said, or nothing where one of them is missing.
 fn rehearsal_of(alloc: Global, found: &ArgMatches<'_>) -> Result<Option<Command>, AllocError>
     ensures { IfOk result (λ it. it ≡ rehearsal_of (rows_of (found_of found.now))) }
 {
@@ -246,6 +259,8 @@ fn rehearsal_of(alloc: Global, found: &ArgMatches<'_>) -> Result<Option<Command>
     Ok(Some(Command::Rehearse { seed, count }))
 }
 
+/// `vac` with STORE, FOLDER and, if it was said, BSIZE: its words as they were said, or nothing
+/// where one of the first two is missing.
 fn vac_of(alloc: Global, found: &ArgMatches<'_>) -> Result<Option<Command>, AllocError>
     ensures { IfOk result (λ it. it ≡ vac_of (rows_of (found_of found.now))) }
 {
@@ -263,6 +278,7 @@ fn vac_of(alloc: Global, found: &ArgMatches<'_>) -> Result<Option<Command>, Allo
     }))
 }
 
+/// `vacfs STORE SCORE`: its words as they were said, or nothing where one of them is missing.
 fn view_of(alloc: Global, found: &ArgMatches<'_>) -> Result<Option<Command>, AllocError>
     ensures { IfOk result (λ it. it ≡ view_of (rows_of (found_of found.now))) }
 {

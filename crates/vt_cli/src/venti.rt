@@ -16,6 +16,7 @@ const VERSION: &str = "\
 0.1.0
 proved with rattle-kit-13f logic dac8208d650f15bf";
 
+/// What help tells behind the commands.
 const EXAMPLE: &str = "\
 A store of one partition of arenas and one index section, made in a new folder:
 
@@ -136,6 +137,7 @@ fn command_of<'a>(alloc: Global, name: &'a str, about: &'a str) -> Command<'a>
     Command::new(alloc, name).about(about)
 }
 
+/// What clap takes for `session STORE`, and what its help says.
 fn session<'a>(alloc: Global) -> Result<Command<'a>, AllocError>
     ensures app { IfOk result (λ it. app_of it ≡ session) }
     ensures local { IfOk result (λ it. (fields_of it).has_globals ≡ false) }
@@ -150,10 +152,13 @@ fn session<'a>(alloc: Global) -> Result<Command<'a>, AllocError>
     )
 }
 
+/// What help says of the word FILE of the commands that format.
 const FILE: &str = "the file, which is made, or grown, where that is needed";
 
+/// What help says of the word NAME.
 const NAME: &str = "1 to 64 letters, digits, '.', '-' and '_'";
 
+/// What help says of the word LENGTH.
 const LENGTH: &str = "how many bytes the file has at least";
 
 /// The command with the words of a partition that it makes of a file.
@@ -168,6 +173,7 @@ fn with_partition<'a>(alloc: Global, command: Command<'a>) -> Result<Command<'a>
     with_word(alloc, command, "LENGTH", LENGTH)
 }
 
+/// What clap takes for `fmtarenas FILE NAME LENGTH ARENASIZE`, and what its help says.
 fn fmtarenas<'a>(alloc: Global) -> Result<Command<'a>, AllocError>
     ensures app { IfOk result (λ it. app_of it ≡ fmtarenas) }
     ensures local { IfOk result (λ it. (fields_of it).has_globals ≡ false) }
@@ -178,6 +184,7 @@ fn fmtarenas<'a>(alloc: Global) -> Result<Command<'a>, AllocError>
     with_word(alloc, command, "ARENASIZE", size)
 }
 
+/// What clap takes for `fmtisect FILE NAME LENGTH`, and what its help says.
 fn fmtisect<'a>(alloc: Global) -> Result<Command<'a>, AllocError>
     ensures app { IfOk result (λ it. app_of it ≡ fmtisect) }
     ensures local { IfOk result (λ it. (fields_of it).has_globals ≡ false) }
@@ -186,6 +193,7 @@ fn fmtisect<'a>(alloc: Global) -> Result<Command<'a>, AllocError>
     with_partition(alloc, command_of(alloc, "fmtisect", about))
 }
 
+/// What clap takes for `fmtbloom FILE SIZE POSITIONS`, and what its help says.
 fn fmtbloom<'a>(alloc: Global) -> Result<Command<'a>, AllocError>
     ensures app { IfOk result (λ it. app_of it ≡ fmtbloom) }
     ensures local { IfOk result (λ it. (fields_of it).has_globals ≡ false) }
@@ -203,9 +211,11 @@ fn fmtbloom<'a>(alloc: Global) -> Result<Command<'a>, AllocError>
     )
 }
 
+/// What help says of the word CONF.
 const CONF: &str =
     "the configuration, a line for each partition: 'arenas FILE', 'isect FILE', 'bloom FILE'";
 
+/// What clap takes for `fmtindex CONF`, and what its help says.
 fn fmtindex<'a>(alloc: Global) -> Result<Command<'a>, AllocError>
     ensures app { IfOk result (λ it. app_of it ≡ fmtindex) }
     ensures local { IfOk result (λ it. (fields_of it).has_globals ≡ false) }
@@ -215,6 +225,7 @@ fn fmtindex<'a>(alloc: Global) -> Result<Command<'a>, AllocError>
     with_word(alloc, command, "CONF", CONF)
 }
 
+/// What clap takes for `buildindex CONF`, and what its help says.
 fn buildindex<'a>(alloc: Global) -> Result<Command<'a>, AllocError>
     ensures app { IfOk result (λ it. app_of it ≡ buildindex) }
     ensures local { IfOk result (λ it. (fields_of it).has_globals ≡ false) }
@@ -224,6 +235,7 @@ fn buildindex<'a>(alloc: Global) -> Result<Command<'a>, AllocError>
     with_word(alloc, command, "CONF", CONF)
 }
 
+/// What clap takes for `checkarenas CONF`, and what its help says.
 fn checkarenas<'a>(alloc: Global) -> Result<Command<'a>, AllocError>
     ensures app { IfOk result (λ it. app_of it ≡ checkarenas) }
     ensures local { IfOk result (λ it. (fields_of it).has_globals ≡ false) }
@@ -233,10 +245,13 @@ fn checkarenas<'a>(alloc: Global) -> Result<Command<'a>, AllocError>
     with_word(alloc, command, "CONF", CONF)
 }
 
+/// What help says of the word STORE of `read`, `write` and `vacfs`.
 const STORE: &str = "the file of a configuration, a server's address as tcp!HOST!PORT, or :memory:";
 
+/// What help says of the word TYPE.
 const TYPE: &str = "the number of the block's type: 13 for data";
 
+/// What clap takes for `read STORE SCORE TYPE`, and what its help says.
 fn read<'a>(alloc: Global) -> Result<Command<'a>, AllocError>
     ensures app { IfOk result (λ it. app_of it ≡ read) }
     ensures local { IfOk result (λ it. (fields_of it).has_globals ≡ false) }
@@ -248,6 +263,7 @@ fn read<'a>(alloc: Global) -> Result<Command<'a>, AllocError>
     with_word(alloc, command, "TYPE", TYPE)
 }
 
+/// What clap takes for `write STORE TYPE`, and what its help says.
 fn write<'a>(alloc: Global) -> Result<Command<'a>, AllocError>
     ensures app { IfOk result (λ it. app_of it ≡ write) }
     ensures local { IfOk result (λ it. (fields_of it).has_globals ≡ false) }
@@ -274,6 +290,8 @@ fn rehearse<'a>(alloc: Global) -> Result<Command<'a>, AllocError>
     )
 }
 
+/// What clap takes for `vac STORE FOLDER`, with the size of its blocks as an option, and what its
+/// help says.
 fn vac<'a>(alloc: Global) -> Result<Command<'a>, AllocError>
     ensures app { IfOk result (λ it. app_of it ≡ vac) }
     ensures local { IfOk result (λ it. (fields_of it).has_globals ≡ false) }
@@ -295,6 +313,7 @@ fn vac<'a>(alloc: Global) -> Result<Command<'a>, AllocError>
     with_size(alloc, command)
 }
 
+/// What clap takes for `vacfs STORE SCORE`, and what its help says.
 fn vacfs<'a>(alloc: Global) -> Result<Command<'a>, AllocError>
     ensures app { IfOk result (λ it. app_of it ≡ vacfs) }
     ensures local { IfOk result (λ it. (fields_of it).has_globals ≡ false) }

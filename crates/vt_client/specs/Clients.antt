@@ -59,10 +59,12 @@ spends (errs.BadReply place) = true
 spends errs.NoVersion = true
 spends errs.Spent = true
 
+-- whether the answer ended the link's use
 abbrev pub spent_by : {T : Type 0} → Result T ClientErr → Bool
 spent_by (Ok value) = false
 spent_by (Err err) = spends err
 
+-- whether it tells of a failed read
 abbrev pub is_read_fault : ClientErr → Bool
 is_read_fault errs.ReadFault = true
 is_read_fault (errs.Remote text) = false
@@ -74,6 +76,7 @@ is_read_fault (errs.BadReply place) = false
 is_read_fault errs.NoVersion = false
 is_read_fault errs.Spent = false
 
+-- whether it tells of a failed write
 abbrev pub is_write_fault : ClientErr → Bool
 is_write_fault errs.WriteFault = true
 is_write_fault (errs.Remote text) = false

@@ -16,6 +16,7 @@ pub record Traffic : Type 0 where
   pub left : List ℕ
   pub sent : List ℕ
 
+-- what passed over a link so far, and what is still to come
 abbrev pub traffic_of : {L : Type 0} → LinkOf L → L → Traffic
 traffic_of link l = record { came = link.given l; left = link.left l; sent = link.written l }
 

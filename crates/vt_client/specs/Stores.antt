@@ -74,6 +74,7 @@ pub record DoesOnce {L T : Type 0} (link : LinkOf L) (score_of : List ℕ → Li
     sent = c'.sent;
   }
 
+-- a call of a store of blocks is one exchange with the server
 abbrev pub AsksAsStore : {L : Type 0} → LinkOf L → (score_of : List ℕ → List ℕ) → ClientState L
     → Call → ClientState L → Type 0
 AsksAsStore link score_of c (get kind s answer) c' =

@@ -18,8 +18,10 @@ use vt_wire::{Reply, Request, encode_request};
 /// The types of replies (venti(6)).
 const READ: u8 = 13;
 
+/// Rwrite.
 const WRITE: u8 = 15;
 
+/// Rsync.
 const SYNC: u8 = 17;
 
 /// A client of a Venti server that has greeted it. It asks one thing at a time.
@@ -29,11 +31,17 @@ pub struct Client<L: Link, S: Scorer> {
     pub(crate) scorer: S,
     /// Room for the longest frame.
     buf: Vec<u8>,
+    /// The tag of the next request.
     tag: u8,
+    /// Whether something went wrong on the link, so that nothing more is asked over it.
     spent: bool,
+    /// How many calls of the link failed.
     pub(crate) faults: u64,
+    /// How many answers were refusals for another reason than want of memory.
     pub(crate) refusals: u64,
+    /// Why the last such answer was one.
     pub(crate) refused: Option<ClientErr>,
+    /// How many blocks the server took in.
     pub(crate) sent: u64,
     ghost buf_len: { length buf.items ≡ 65537 },
 }
@@ -193,6 +201,7 @@ impl<L: Link, S: Scorer + Drop> Client<L, S> {
             let why = ClientErr::Spent;
             return Err(LinkError { link, why });
         }
+        // (size, type and tag: a goodbye has no parameters)
         let mut frame = [0; 4];
         let len = encode_request(tag, &Request::Goodbye, &mut frame);
         match link.put(&frame[..len]) {

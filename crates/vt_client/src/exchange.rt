@@ -56,6 +56,7 @@ fn take_frame<L: Link>(link: &mut L, buf: &mut [u8]) -> Result<usize, ClientErr>
     ensures about { IfErr result IsOfTaking }
     ensures sides { CountsSides L.Link link.old link.new result }
 {
+    // (two bytes of size, which don't count themselves)
     take_all(link, &mut buf[..2])?;
     let end = 2 + usize::from(u16_at(buf, 0));
     take_all(link, &mut buf[2..end])?;

@@ -40,7 +40,7 @@ pub(crate) fn say_hello<L: Link>(
     welcome_in(alloc, &buf[..len])
 }
 
-/// Whether a frame says welcome.
+/// Whether a whole frame is the reply to the hello, which has tag 0.
 fn welcome_in(alloc: Global, frame: &[u8]) -> Result<(), ClientErr>
     requires { (body : List ℕ) × IsFrame frame.now body }
     ensures { (score_of : List ℕ → List ℕ) → ReadsReplyFrame score_of 0 welcome frame.now result }
@@ -101,7 +101,7 @@ fn take_to_newline<L: Link>(link: &mut L, buf: &mut [u8]) -> Result<usize, Clien
     Ok(n + 1)
 }
 
-/// Takes one byte.
+/// Takes the next byte of the server's line, which ends with a newline.
 fn take_byte<L: Link>(link: &mut L) -> Result<u8, ClientErr>
     ensures taken { IsTrue L.tells
         → TakesByte (traffic_of L.Link link.old) (traffic_of L.Link link.new) result }

@@ -39,6 +39,7 @@ bad_fields header room =
     else first_fault (bad_encoding (slice_index header 29))
     (bad_size (size_in header) (uncsize_in header) room)
 
+-- what is wrong with a clump's header, if anything is
 abbrev pub bad_header : List ℕ → Option ClumpBad
 bad_header bytes = bad_fields bytes (length bytes - HEADER_LEN)
 
@@ -48,6 +49,7 @@ other_score want found =
     if bytes_eq found want then None
     else Some (BadScore (record { 0 = want }) (record { 0 = found }))
 
+-- the clump's score isn't that of its block
 abbrev pub bad_score : (List ℕ → List ℕ) → Stored → Option ClumpBad
 bad_score score_of s = other_score s.score (score_of s.block)
 

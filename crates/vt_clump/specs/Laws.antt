@@ -19,6 +19,7 @@ abbrev pub PassesClumpsOnly : Type 0
 PassesClumpsOnly = (score_of : List ℕ → List ℕ) (bytes : List ℕ) → AreBytes bytes
     → first_bad_clump score_of bytes ≡ None → BeginsWithClump score_of (stored_in bytes) bytes
 
+-- the clump of a block is as long as its length calls for
 abbrev pub HasClumpLen : Type 0
 HasClumpLen = (score_of : List ℕ → List ℕ) (s : Stored) → IsStoredBlock score_of s
     → length (clump_bytes s) ≡ clump_len (length s.block)

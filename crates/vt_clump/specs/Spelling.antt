@@ -49,13 +49,15 @@ pub record BeginsWithClump (score_of : List ℕ → List ℕ) (s : Stored) (byte
   pub stored : IsStoredBlock score_of s
   pub spelling : (rest : List ℕ) × (bytes ≡ clump_bytes s ++ rest)
 
--- What the fields of a clump say, by their places.
+-- how many bytes the block has, by the field of a clump's header (the fields here are by their places)
 abbrev pub size_in : List ℕ → ℕ
 size_in bytes = big_number 2 (drop 5 bytes)
 
+-- the field of a header with the size before compression
 abbrev pub uncsize_in : List ℕ → ℕ
 uncsize_in bytes = big_number 2 (drop 7 bytes)
 
+-- what the bytes of a clump say
 abbrev pub stored_in : List ℕ → Stored
 stored_in bytes = record {
   kind = slice_index bytes 4;

@@ -30,6 +30,7 @@ pub struct Header {
     /// How many bytes the block has.
     pub size: u16,
     pub score: Score,
+    /// When the session that wrote it began, in seconds since 1970.
     pub time: u32,
 }
 
@@ -44,6 +45,8 @@ impl Header {
         let mut bytes = [0; HEADER_LEN];
         let at = put(&mut bytes, 0, b"VCLP");
         let at = put_u8(&mut bytes, at, self.kind.wire());
+        // (the size in the clump, and behind it that before compression: the same, since none is
+        // made)
         let at = put_u16(&mut bytes, at, self.size);
         let at = put_u16(&mut bytes, at, self.size);
         let at = put(&mut bytes, at, &self.score.0);
@@ -75,6 +78,7 @@ impl Header {
         if bytes.len() < HEADER_LEN {
             return Err(ClumpBad::Short);
         }
+        // (the places of the fields: docs/FORMATS.md, Clumps)
         let magic = [bytes[0], bytes[1], bytes[2], bytes[3]];
         if magic != *b"VCLP" {
             return Err(ClumpBad::Magic(magic));
@@ -96,6 +100,7 @@ impl Header {
     }
 }
 
+/// Takes plain blocks alone (1): a compressed one (2) and a number that isn't known are refused.
 fn check_encoding(encoding: u8) -> Result<(), ClumpBad>
     ensures { FailsWith (bad_encoding encoding) result }
 {

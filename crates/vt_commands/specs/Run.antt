@@ -106,6 +106,7 @@ SaysAndDoes disk link score command said outcome work sink =
     (does : DoesCommand disk link score command outcome work)
     × Said said sink (preface_of disk link score (Do command) outcome work does)
 
+-- the command is `vac`
 abbrev pub IsArchiveCommand : Command → Type 0
 IsArchiveCommand (Vac store folder size) = ⊤
 IsArchiveCommand command = ⊥

@@ -7,6 +7,7 @@ use Rattle.run_base.specs.Change.{AreUnused, StreamChange, DialerChange, FilesCh
 use Rattle.run_base.specs.Errors.{Causes, HasCauseIn, CommandOutcome, no_cause, with_dialer, with_files, with_folders, with_parts, with_sink, with_source}
 use Rattle.run_base.specs.Members.{SourceOf, SinkOf, FilesOf, PartsOf, FoldersOf, DialerOf, LinkOf}
 
+-- what a run did to all that it was handed
 pub record Work (R K I P D N L : Type 0) : Type 0 where
   pub source : StreamChange R
   pub sink : StreamChange K
@@ -15,6 +16,7 @@ pub record Work (R K I P D N L : Type 0) : Type 0 where
   pub dialer : DialerChange N L
   pub folders : FoldersChange
 
+-- the same by the members of what was handed in
 abbrev pub work_of : {R K F I P D G E N L C T : Type 0} → SourceOf R → SinkOf K → FilesOf I
     → PartsOf P D → FoldersOf G E → DialerOf N L → LinkOf L
     → (before after : Outside R K F I P N G C T) → Work R K I P D N L

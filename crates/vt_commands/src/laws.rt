@@ -49,7 +49,7 @@ use vt_out::{Files, Sink, Source};
 use vt_partitions::Parts;
 use vt_single::{failures_have_causes, stores_are_read, stores_are_written};
 
-/// What follows from what a run did.
+/// What follows from `did`, the clause of `run`, about each status.
 pub fn did_tells<R: Source, K: Sink, F: Sink, I: Files, P: Parts, N: Dialer>()
     // Words that ask for nothing that the program knows do nothing: nothing is read or handed out,
     // and nothing is written but on the fault sink, a line behind the short help, if that is told.

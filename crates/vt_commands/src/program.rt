@@ -1,4 +1,4 @@
-//! The top call.
+//! The top call: the words of the command line are done, and the status is told.
 
 ghost use Rattle.sha1.specs.Sha1.{sha1};
 ghost use Rattle.std.specs.Prelude.{◌≡◌, ℕ, List, map, OnErr, OnOk};

@@ -3,6 +3,7 @@ use Rattle.std.specs.Prelude.{ℕ, List, codes}
 use Rattle.vt_conf.specs.declared.error.ConfCause.{ConfCause}
 use Rattle.vt_conf.specs.declared.error.ConfCause.TheVariants.{NotUtf8, TooLong, UnknownName, MissingValue, ExtraValue, BadSize, BadAddress, Repeated, TooMany, NoArenas, NoSections}
 
+-- the text that tells why a line is refused
 abbrev pub cause_text : ConfCause → List ℕ
 cause_text NotUtf8 = codes "not utf-8"
 cause_text TooLong = codes "too long"

@@ -24,6 +24,7 @@ pub record Entry : Type 0 where
   pub line : ℕ
   pub words : List (List ℕ)
 
+-- the entry of a line with these words: none where it has none
 abbrev pub entry_at : (line : ℕ) → (words : List (List ℕ)) → List Entry
 entry_at line [] = []
 entry_at line (word ∷ words) = record { line = line; words = word ∷ words } ∷ []
@@ -34,6 +35,7 @@ entries_from line [] = []
 entries_from line (text ∷ texts) =
     entry_at line (words_of_line text) ++ entries_from (line + 1) texts
 
+-- the lines of the text that have words, by their numbers, the first of which is 1
 abbrev pub line_entries : (text : List ℕ) → List Entry
 line_entries text = entries_from 1 (lines_of text)
 
@@ -53,6 +55,7 @@ AreSet (entry ∷ entries) (setting ∷ settings) = SetsSetting entry setting ×
 abbrev pub is_of : Keyword → Setting → Bool
 is_of keyword setting = same_keyword setting.keyword keyword
 
+-- the settings with this keyword, in order
 abbrev pub said : Keyword → List Setting → List Setting
 said keyword settings = filter (is_of keyword) settings
 
@@ -60,9 +63,11 @@ said keyword settings = filter (is_of keyword) settings
 abbrev pub AreFew : List Setting → Type 0
 AreFew settings = (keyword : Keyword) → length (said keyword settings) ≤ most_lines keyword
 
+-- the partition's file that a setting names, with its line
 abbrev pub file_of : Setting → PartFile
 file_of setting = record { name = setting.value; line = setting.line }
 
+-- the first of these files, if there is one
 abbrev pub first_part_file : List PartFile → Option PartFile
 first_part_file [] = None
 first_part_file (file ∷ files) = Some file
@@ -72,10 +77,13 @@ abbrev pub name_in : List Setting → List ℕ
 name_in [] = codes "main"
 name_in (setting ∷ settings) = setting.value
 
+-- the size that the first of these settings spells, or the default where there is none
 abbrev pub IsSizeIn : (size : ℕ) → List Setting → Type 0
 IsSizeIn size [] = size ≡ DEFAULT_MEM
 IsSizeIn size (setting ∷ settings) = SpellsSize size setting.value
 
+-- the address that the first of these settings spells, or every host at Venti's port where there is
+-- none
 abbrev pub IsAddressIn : Address → List Setting → Type 0
 IsAddressIn address [] = address ≡ record { host = None; port = VENTI_PORT }
 IsAddressIn address (setting ∷ settings) = SpellsAddress address setting.value
@@ -124,6 +132,7 @@ pub record Exceeds (before : List Setting) (setting : Setting) (why : ConfCause)
   pub why_is : why ≡ exceeded_by setting.keyword
   pub full : most_lines setting.keyword ≤ length (said setting.keyword before)
 
+-- behind these settings the line is refused so: by itself, or since it is one too many
 abbrev pub RefusesLine : (before : List Setting) → Entry → ConfCause → Type 0
 RefusesLine before entry why = Misreads entry.words why
     ⊎ ((setting : Setting) × SetsSetting entry setting × Exceeds before setting why)

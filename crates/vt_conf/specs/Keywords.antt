@@ -62,5 +62,6 @@ keyword_number Webroot = 8
 keyword_number Queuewrites = 9
 keyword_number Addr = 10
 
+-- whether two keywords are the same
 abbrev pub same_keyword : Keyword → Keyword → Bool
 same_keyword a b = keyword_number a == keyword_number b

@@ -13,6 +13,7 @@ use Rattle.vt_conf.specs.Sizes.{SpellsSize}
 abbrev pub IsSizeText : List ℕ → Type 0
 IsSizeText text = (size : ℕ) × SpellsSize size text
 
+-- the text spells an address
 abbrev pub IsAddress : List ℕ → Type 0
 IsAddress text = (address : Address) × SpellsAddress address text
 
@@ -31,6 +32,7 @@ LacksValue keyword value why = ⊥
 abbrev pub value_count : Keyword → ℕ
 value_count keyword = if takes_value keyword then 1 else 0
 
+-- the words that stand behind a keyword: one value, or none
 abbrev pub values_of : Keyword → (value : List ℕ) → List (List ℕ)
 values_of keyword value = if takes_value keyword then value ∷ [] else []
 

@@ -1,4 +1,4 @@
-//! Addresses as text.
+//! Addresses as text: `tcp!HOST!PORT` (venti.conf(6)).
 
 ghost use Rattle.std.specs.Prelude.{◌≡◌, ◌<◌, ◌==◌, ℕ, List, Some, length, IfOk, IfSome, IsSomeAnd};
 ghost use Rattle.std.specs.List.{position};

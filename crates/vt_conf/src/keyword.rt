@@ -93,14 +93,14 @@ impl Keyword {
         matches!(self, Keyword::Arenas | Keyword::Isect)
     }
 
-    /// Whether they are one.
+    /// Whether two keywords are the same one.
     pub(crate) fn is(self, other: Keyword) -> bool
         ensures { result ≡ same_keyword self other }
     {
         self == other
     }
 
-    /// On how many lines it may stand.
+    /// On how many lines of a configuration it may stand at most.
     pub(crate) fn room(self) -> usize
         ensures { result ≡ most_lines self }
     {

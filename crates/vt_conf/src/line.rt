@@ -1,4 +1,4 @@
-//! The words of a line.
+//! The words of a line of a configuration.
 
 ghost use Rattle.std.specs.Prelude.{◌≡◌, ◌<◌, ◌≤◌, false, [], ◌∷◌, length, slice_index, IfSome, IfNone};
 ghost use Rattle.std.specs.List.{prefix_len, position_or_len};
@@ -42,7 +42,7 @@ fn word_len(line: &[u8]) -> usize
     line.iter().take_while(|b| !is_blank(**b)).count()
 }
 
-/// A space or a tab.
+/// Whether a byte parts words: a space or a tab.
 fn is_blank(b: u8) -> bool
     ensures { result ≡ is_blank b }
 {

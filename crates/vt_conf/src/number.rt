@@ -1,4 +1,4 @@
-//! Numbers as text.
+//! Numbers as text: decimal digits without a sign or a leading zero.
 
 ghost use Rattle.std.specs.Prelude.{◌≡◌, ◌≤◌, ◌<◌, ◌^◌, ◌==◌, ℕ, decimal, length, IfErr, IfOk, IfSome};
 ghost use Rattle.std.specs.List.{prefix_len};

@@ -13,7 +13,7 @@ use crate::{Address, Keyword, VENTI_PORT, parse_address, parse_size};
 use std::alloc::{AllocError, Global};
 use vt_base::Text;
 
-/// What these settings come to.
+/// The configuration that these settings come to, with defaults for what they leave out.
 pub(crate) fn conf_of(alloc: Global, settings: &[Setting]) -> Result<Conf, AllocError>
     requires { HaveValues settings.now }
     ensures { IfOk result (ComeTo settings.now) }
@@ -86,7 +86,7 @@ fn file_of(alloc: Global, setting: &Setting) -> Result<PartFile, AllocError>
     })
 }
 
-/// The index's name.
+/// The name of the index: the first that is set, or `main`.
 fn name_in(alloc: Global, settings: &[Setting]) -> Result<Text, AllocError>
     ensures { IfOk result (λ name. name ≡ name_in (said Keyword.Index settings.now)) }
 {

@@ -1,4 +1,4 @@
-//! Sizes as text.
+//! Sizes as text: digits, and k, m or g behind them (venti.conf(6)).
 
 ghost use Rattle.std.specs.Prelude.{◌≡◌, ◌*◌, ◌<◌, ◌^◌, ℕ, Some, decimal, IfSome};
 ghost use Rattle.vt_conf.specs.Sizes.{SpellsSize, unit_of};

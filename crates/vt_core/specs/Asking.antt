@@ -31,6 +31,7 @@ use Rattle.vt_lookup.specs.Adding.{AddsPacked}
 
 -- ---- sessions
 
+-- the store where this session waits for so many blocks, or for nothing
 abbrev pub with_waiting : {D : Type 0} → (session : ℕ) → Option ℕ → CoreState D → CoreState D
 with_waiting session number k = record k { waiting = slice_set k.waiting session number }
 
@@ -50,6 +51,8 @@ EndsSync session at (Refused (Stopped call)) old new =
     × (new ≡ with_waiting session None old)
 EndsSync session at said old new = ⊥
 
+-- the sync of a session is answered once its blocks are durable, or the store has stopped; else it
+-- waits
 abbrev pub AnswersSync : {D : Type 0} → (session : ℕ) → Out → (old new : CoreState D) → Type 0
 AnswersSync session (SaidOut a) old new = EndsSync session a.at a.said old new
 AnswersSync session NotYet old new =
@@ -70,9 +73,11 @@ pub record LooksIn {D : Type 0} (k : CoreState D) (s : List ℕ) (p : StoreParts
   pub shard : slice_get k.shards (section_of_score (setup_of k) s) ≡ Some p.shard
   pub bits : IsTrue may_have ↔ HasBitsOf k.bits s
 
+-- the store with these parts in place of its log and of the shard with this number
 abbrev pub with_parts : {D : Type 0} → (shard : ℕ) → StoreParts D → CoreState D → CoreState D
 with_parts shard p k = record k { log = p.log; shards = slice_set k.shards shard p.shard }
 
+-- the number of the shard that a score belongs to
 abbrev pub shard_of : {D : Type 0} → CoreState D → (s : List ℕ) → ℕ
 shard_of k s = section_of_score (setup_of k) s
 

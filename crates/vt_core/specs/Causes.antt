@@ -21,10 +21,12 @@ abbrev pub CountsWhy : Why → (old new : List ℕ) → Type 0
 CountsWhy DiskFault old new = OneHasRisen old new
 CountsWhy why old new = new ≡ old
 
+-- an answer tells a fault only where one device counted a failed call
 abbrev pub CountsSaid : Said → (old new : List ℕ) → Type 0
 CountsSaid (Refused why) old new = CountsWhy why old new
 CountsSaid said old new = new ≡ old
 
+-- what an event gives tells a fault only where one device counted a failed call
 abbrev pub CountsOut : Out → (old new : List ℕ) → Type 0
 CountsOut (SaidOut a) old new = CountsSaid a.said old new
 CountsOut (Failed why) old new = CountsWhy why old new
@@ -35,10 +37,12 @@ abbrev pub IsUndamagedWhy : Why → Type 0
 IsUndamagedWhy (Damaged site want found) = ⊥
 IsUndamagedWhy why = ⊤
 
+-- the answer tells of no damage
 abbrev pub IsUndamagedSaid : Said → Type 0
 IsUndamagedSaid (Refused why) = IsUndamagedWhy why
 IsUndamagedSaid said = ⊤
 
+-- what an event gives tells of no damage
 abbrev pub IsUndamaged : Out → Type 0
 IsUndamaged (SaidOut a) = IsUndamagedSaid a.said
 IsUndamaged (Failed why) = IsUndamagedWhy why

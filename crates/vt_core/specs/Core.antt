@@ -43,6 +43,7 @@ machine_of k h = record {
   waiting = k.waiting;
 }
 
+-- the devices of a store: its partitions, its sections, and its filter's, if it has one
 abbrev pub devices_of : {D : Type 0} → CoreState D → PerDevice D
 devices_of k = record {
   partitions = k.log.disks;

@@ -23,6 +23,7 @@ pub record AreLeftOf {D : Type 0} (disk : DiskOf D) (files : List (List ℕ)) (d
       → slice_get files i ≡ Some file
       → (disk.bytes device ≡ file) × Only file (disk.images device)
 
+-- of each device a crash left one of its images
 pub record AreLeft {D : Type 0} (disk : DiskOf D) (files : DeviceFiles) (devices : PerDevice D)
     : Type 0
   where

@@ -34,9 +34,11 @@ pub record Answers (score : List ℕ → List ℕ) (m : Operation) (reply : RMes
 abbrev pub WaitsForNone : (waiting : List (Option ℕ)) → (session : ℕ) → Type 0
 WaitsForNone waiting session = slice_get waiting session ≡ Some None
 
+-- the session's sync waits for so many blocks
 abbrev pub WaitsAt : (waiting : List (Option ℕ)) → (session number : ℕ) → Type 0
 WaitsAt waiting session number = slice_get waiting session ≡ Some (Some number)
 
+-- the machine where this session waits for so many blocks, or for nothing
 abbrev pub with_waiting : (session : ℕ) → Option ℕ → Machine → Machine
 with_waiting session number m = record m { waiting = slice_set m.waiting session number }
 

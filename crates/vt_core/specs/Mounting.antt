@@ -43,6 +43,7 @@ devices_in devices = record {
   filter = option_to_list devices.filter;
 }
 
+-- the tables of the partitions that are handed in
 abbrev pub tables_in : {D : Type 0} → Devices D → List Table
 tables_in devices = tables_of devices.parts.items
 

@@ -63,6 +63,7 @@ IsMarkOf {D} part sections bloom of mark =
     × (mark ≡ s.head.mark))
     ⊎ ((b : BloomState D) × (bloom ≡ Some b) × (of ≡ part + length sections) × (mark ≡ b.mark))
 
+-- no section's mark, and not the filter's, is above the log's length; or the first that is, is told
 abbrev pub TestsMarks : {D U : Type 0} → (part : ℕ) → List (SectionState D)
     → Option (BloomState D) → (len : ℕ) → Result U MountBad → Type 0
 TestsMarks {D} part sections bloom len (Ok done) =
@@ -120,6 +121,7 @@ abbrev pub with_log : {D : Type 0} → (log : List D) → (sections : List D) �
 with_log log sections filter =
     record { partitions = log; sections = sections; filter = option_to_list filter }
 
+-- the devices, as opening sections and filter beside the log left them
 abbrev pub beside_after : {D : Type 0} → (log : List D)
     → Result (Beside D) (MountBad × Vec D Global × Option D) → PerDevice D
 beside_after log (Ok b) =

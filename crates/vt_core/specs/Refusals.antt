@@ -43,6 +43,7 @@ use Rattle.vt_recover.specs.Refusals.{SectionIsRefused, FilterIsRefused, CountsR
 abbrev pub section_part : {D : Type 0} → PerDevice D → (i : ℕ) → ℕ
 section_part devices i = length devices.partitions + i
 
+-- the filter's number among the parts, which comes last
 abbrev pub filter_part : {D : Type 0} → PerDevice D → ℕ
 filter_part devices = length devices.partitions + length devices.sections
 
@@ -99,6 +100,7 @@ abbrev pub first_wrong_field : (part : ℕ) → Setup → (i : ℕ) → Head →
 first_wrong_field part c i head =
     wrong_head part (first_bucket c.sections i) (section_buckets c i) (bucket_count c) head
 
+-- a section's head says something else than the other sections call for, and that is told
 pub record HeadIsWrong {D : Type 0} (disk : DiskOf D) (devices : PerDevice D) (c : Setup)
     (bad : MountBad) : Type 0 where
   pub i : ℕ
@@ -189,6 +191,7 @@ IsDamageAt disk tables devices (Bucket n) want found =
     (frame : List ℕ) × (group : List Entry)
     × IsDamage n group frame (shard_err.Damaged n want found)
 
+-- what is told as damaged is damaged, on a device of the store
 pub record IsFoundDamaged {D : Type 0} (disk : DiskOf D) (tables : List Table)
     (devices : PerDevice D) (bad : MountBad) : Type 0 where
   pub site : Site

@@ -37,6 +37,7 @@ LeavesPrefix score disk old new = (h : History) (files : DeviceFiles) → IsSoun
 
 -- ---- on any devices
 
+-- what each event does to the store, and what it gives
 abbrev pub DoesEvent : {D : Type 0} → (List ℕ → List ℕ) → DiskOf D → Event → Out
     → (old new : CoreState D) → Type 0
 DoesEvent score disk (Ask session operation now) out old new =
@@ -71,6 +72,8 @@ pub record StoreGoesOn {D : Type 0} (disk : DiskOf D) (old new : CoreState D) : 
   pub one_more : history_len new ≤ history_len old + 1
   pub synced_before : new.synced ≤ old.log.durable
 
+-- what is promised of an event: it is one of the machine, a crash in it leaves a prefix, and what
+-- it tells is true
 pub record Steps {D : Type 0} (score : List ℕ → List ℕ) (disk : DiskOf D) (event : Event)
     (out : Out) (old new : CoreState D) : Type 0 where
   pub machine : IsTrue disk.tells → StepsSoundly score disk event out old new

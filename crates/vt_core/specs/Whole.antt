@@ -37,6 +37,7 @@ pub record IsFilterOf {D : Type 0} (k : CoreState D) (durable : ℕ) (b : BloomS
     pub next : b.next ≤ durable
     pub made : twin_calls_made b.twin ≤ 3
 
+-- The invariant of a store in memory: its log, shards, filter and sessions fit each other.
 pub record IsWhole {D : Type 0} (disk : DiskOf D) (k : CoreState D) : Type 0 where
   pub some_arena : 0 < length k.log.layout
   pub some_shard : 0 < length k.shards

@@ -27,10 +27,12 @@ use Rattle.vt_lookup.specs.Finding.{why_of_shard}
 
 -- ---- the log
 
+-- a log's failure, as the reason of a refusal
 abbrev pub why_of_log : LogErr → Why
 why_of_log log_err.Fault = DiskFault
 why_of_log (log_err.Stopped call) = Stopped call
 
+-- what an event gives where the log made a step
 abbrev pub out_of_progress : Result Progress LogErr → Out
 out_of_progress (Ok Idle) = Nothing
 out_of_progress (Ok LogStep) = Moved
@@ -47,6 +49,7 @@ pub record AdvancesLog {D : Type 0} (disk : DiskOf D) (out : Out) (old new : Cor
 
 -- ---- the saved filter
 
+-- what an event gives where the filter's save made a step
 abbrev pub out_of_save : Result Step CallError → Out
 out_of_save (Ok step) = Moved
 out_of_save (Err call_error.Fault) = Failed DiskFault
@@ -77,6 +80,7 @@ pub record Saves {D : Type 0} (bits : Filter) (durable : ℕ) (out : Out) (old n
       → (answer ≡ Err (call_error.Stopped call)) ↔ (begun.calls.stopped ≡ Some call)
   pub out_is : out ≡ out_of_save answer
 
+-- the filter is saved as far as the log is durable, or one call of its save was made
 abbrev pub SavesOne : {D : Type 0} → (bits : Filter) → (durable : ℕ) → Out
     → (old new : BloomState D) → Type 0
 SavesOne bits durable out old new =
@@ -89,6 +93,7 @@ SavesIn bits durable out None new = (out ≡ Nothing) × (new ≡ None)
 SavesIn {D} bits durable out (Some before) new =
     (after : BloomState D) × (new ≡ Some after) × SavesOne bits durable out before after
 
+-- an event of saving touches the filter, and nothing else
 pub record SavesFilter {D : Type 0} (out : Out) (old new : CoreState D) : Type 0 where
   pub saves : SavesIn old.bits old.log.durable out old.bloom new.bloom
   pub same : new ≡ record old { bloom = new.bloom }
@@ -114,6 +119,7 @@ BeginsWriteback durable Nothing before after =
     (IsSome before.writeback ⊎ ¬ HasWork durable before) × (after ≡ before)
 BeginsWriteback durable out before after = ⊥
 
+-- what an event gives where a shard's writeback made a step
 abbrev pub out_of_writeback : Result Step ShardErr → Out
 out_of_writeback (Ok step) = Moved
 out_of_writeback (Err bad) = Failed (why_of_shard bad)

@@ -1,4 +1,4 @@
-//! Operations of sessions.
+//! Operations of sessions: reads, writes and syncs, and how each is answered.
 
 ghost use Rattle.std.specs.Prelude.{◌≡◌, ◌<◌, ◌≤◌, ◌++◌, ◌∷◌, [], ◌^◌, ℕ, IsTrue, None, Ok, Some, length, slice_get};
 ghost use Rattle.std.specs.Option.{option_or};

@@ -1,4 +1,4 @@
-//! What is asked of a store, and what it answers.
+//! The events of a store: what is asked of it, what work it is let do, and what each gives.
 
 use vt_base::{Answer, Operation, Why};
 

@@ -79,7 +79,8 @@ fn out_of_writeback(answer: Result<Step, ShardErr>) -> Out
     }
 }
 
-/// Whether something was done.
+/// What an event of the store's own work gives: that something was done, or that there was nothing
+/// to do.
 fn moved_if(done: bool) -> Out
     ensures { result ≡ if done then Moved else Nothing }
 {

@@ -261,10 +261,13 @@ fn test_parts<D: Disk>(
 #[derive(Drop)]
 struct Tally {
     sum: u64,
+    /// The part with which the limit was passed.
     past: Option<u32>,
 }
 
 impl Tally {
+    /// Adds what the next part has. The sum goes on behind the limit, since the refusal tells all
+    /// of it.
     fn add(&mut self, part: u32, count: u32, most: u32)
         requires { self.old.sum + count < 2 ^ 64 }
         ensures { (first : ℕ) (counts : List ℕ) → IsTally most first counts self.old
@@ -339,6 +342,8 @@ pub fn test_heads<D: Disk>(sections: &[Section<D>], part: u32, total: u32) -> Re
     Ok(())
 }
 
+/// Tests what the head of a section says, and names the first field that is wrong: it is in use
+/// (state 1), its first bucket is this one, it has `count` buckets, and all sections have `total`.
 fn test_head(head: &Head, part: u32, first: u32, count: u32, total: u32) -> Result<(), MountBad>
     ensures { MatchResult result (λ _. wrong_head part first count total head.now ≡ None)
         (λ bad. wrong_head part first count total head.now ≡ Some bad) }
@@ -392,6 +397,7 @@ fn test_marks<D: Disk>(
     }
 }
 
+/// Refuses a mark beyond the log's end: entries or bits of blocks that aren't there.
 fn test_mark(part: u32, mark: u64, len: u64) -> Result<(), MountBad>
     ensures { MatchResult result (λ _. mark ≤ len)
         (λ bad. (len < mark) × (bad ≡ MountBad.Disagree part MountField.Mark mark len)) }
@@ -402,6 +408,7 @@ fn test_mark(part: u32, mark: u64, len: u64) -> Result<(), MountBad>
     Ok(())
 }
 
+/// The refusal that names a part's field, what it holds and what it had to hold.
 fn disagree(part: u32, field: MountField, found: u64, want: u64) -> MountBad
     ensures { result ≡ MountBad.Disagree part field found want }
 {

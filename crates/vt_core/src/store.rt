@@ -30,11 +30,13 @@ use vt_shard::Shard;
 pub struct Core<D: Disk, S: Scorer> {
     pub(crate) log: Log<D, S>,
     pub(crate) shards: Vec<Shard<D>>,
+    /// The filter as it is saved, where the store has a device for it.
     pub(crate) bloom: Option<Bloom<D>>,
     /// The bits of all blocks.
     pub(crate) bits: Bits,
     /// For each session the number at which its sync waits.
     pub(crate) waiting: Vec<Option<u64>>,
+    /// How many blocks answered syncs cover: a crash leaves at least these.
     pub(crate) synced: u64,
     /// Where the sections' devices go when they are handed back.
     /// (the list that they came in, emptied, so that it takes no memory)
@@ -187,7 +189,7 @@ impl<D: Disk, S: Scorer> Core<D, S> {
     }
 }
 
-/// A score is a list of bytes.
+/// Tells the proof that a score is a list of bytes.
 fn is_of_bytes(score: Score)
     ensures { AreBytes score.0 }
 {}

@@ -10,6 +10,7 @@ use vt_out::Link;
 
 /// Makes links to addresses, and takes them back.
 pub trait Dialer {
+    /// What a connection is handed out as.
     type Link: Link + Drop;
 
     /// Whether dialers of this type tell what became of their link. That of the system doesn't.

@@ -1,4 +1,4 @@
-//! Where the link of a dialer in memory is.
+//! Where the link of a dialer in memory is: not handed out yet, in use, or back.
 
 use std::mem;
 use vt_out::MemLink;

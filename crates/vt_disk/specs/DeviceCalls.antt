@@ -17,6 +17,7 @@ pub data DeviceCall : Type 0 where
   write : (start : ℕ) (chunk : List ℕ) → DeviceCall
   sync : DeviceCall
 
+-- the device call that a call in memory is
 abbrev pub call_of : Call → DeviceCall
 call_of (Write start chunk) = write start chunk.now
 call_of Sync = sync
@@ -40,6 +41,7 @@ bytes_after sync file = file
 abbrev pub call_counted : CallCount → CallCount
 call_counted calls = record calls { made = one_more calls.made }
 
+-- the count behind a call that failed
 abbrev pub stopped_at : CallCount → CallCount
 stopped_at calls = record { made = one_more calls.made; stopped = Some calls.made }
 

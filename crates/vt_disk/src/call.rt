@@ -33,10 +33,12 @@ pub enum CallError {
 #[derive(Clone, Copy, Debug, PartialEq, Eq)]
 pub struct CallCount {
     pub made: u64,
+    /// The number of the call that failed, the last one that was made.
     pub stopped: Option<u64>,
 }
 
 impl CallCount {
+    /// No call was made, and none failed.
     pub fn new() -> CallCount
         ensures { result ≡ record { made = 0; stopped = None } }
     {

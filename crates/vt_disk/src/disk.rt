@@ -34,10 +34,11 @@ pub trait Disk {
     /// How many calls have failed.
     ghost faults: { Self → ℕ };
 
+    /// How many bytes the disk has. It never changes, and asking it is no call that is counted.
     fn len(&self) -> u64
         ensures { result ≡ size self.now };
 
-    /// Fills the buffer.
+    /// Fills the buffer with the bytes from this place on.
     fn read_at(&mut self, start: u64, buf: &mut [u8]) -> Result<(), Failed>
         requires { start + length buf.old ≤ size self.old }
         ensures read { OnOk result (IsTrue tells

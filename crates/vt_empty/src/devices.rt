@@ -38,6 +38,7 @@ pub fn fresh_devices(alloc: Global, shape: &Shape) -> Result<Devices<MemDisk>, A
     let mut parts = Vec::with_capacity(alloc, 1)?;
     parts.push(part)?;
     let sections = fresh_sections(alloc, shape.sections, shape.buckets)?;
+    // (two frames, each a block and the filter's bytes, and a block for the selector)
     let len = 2 * (BLOCK_LEN as u64 + shape.filter) + BLOCK_LEN as u64;
     let disk = MemDisk::new(alloc, len)?;
     let filter = fresh_filter(alloc, disk, shape.filter, shape.positions)?;

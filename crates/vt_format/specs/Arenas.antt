@@ -45,6 +45,7 @@ RefusesArenaFormat disk arena_size bad old new =
     ⊎ (bad ≡ NoMemory)
     ⊎ (¬ IsTrue disk.tells × RefusesTable bad)
 
+-- what formatting a device as a partition of arenas does, and how often it calls the device
 pub record FormatsArenas {D : Type 0} (disk : DiskOf D) (name : List ℕ) (arena_size : ℕ)
     (result : Result ℕ MountBad) (old new : D) : Type 0 where
   pub size : disk.size new ≡ disk.size old

@@ -26,13 +26,16 @@ use Rattle.vt_twin.specs.Frames.{current_frame}
 
 -- ---- the files that a configuration names, in the order of their partitions
 
+-- the file, as a list
 abbrev pub listed : Option PartFile → List PartFile
 listed None = []
 listed (Some file) = file ∷ []
 
+-- the files of the sections, and behind them that of the filter
 abbrev pub files_behind : Conf → List PartFile
 files_behind conf = conf.sections.items ++ listed conf.filter
 
+-- all files of a configuration, in the order in which the parts are counted
 abbrev pub files_in_order : Conf → List PartFile
 files_in_order conf = conf.arenas.items ++ files_behind conf
 
@@ -122,6 +125,7 @@ StopsSections disk old new first total number part (file ∷ files) =
     × StopsSection disk first count total number part (old file.name) (new file.name)
     × StopsSections disk old new (first + count) total (number + 1) part files
 
+-- where it stopped, and what the partitions are then
 abbrev pub StopsIndex : {D : Type 0} → DiskOf D → (old new : List ℕ → Standing D)
     → (first total number : ℕ) → List PartFile → IndexError → Type 0
 StopsIndex disk old new first total number files (Fault part) = ⊤

@@ -125,6 +125,7 @@ IsRefusalByTest mount_bad.Fault = ⊥
 IsRefusalByTest (mount_bad.Damaged site want found) = ⊥
 IsRefusalByTest bad = TellsTwo bad
 
+-- a refusal is one by a test, which names what differs
 abbrev pub NamesCause : IndexError → Type 0
 NamesCause (Fault part) = ⊤
 NamesCause (Refused bad) = IsRefusalByTest bad
@@ -162,6 +163,7 @@ pub record IsOpenedAs {D : Type 0} (disk : DiskOf D) (before : ℕ) (d : D) (par
   pub room : arenas_end (table_of part) ≤ disk.size (disk_of part)
   pub few : before + (table_of part).count ≤ MAX_ARENAS
 
+-- the device is a partition of arenas, or it is told why not
 abbrev pub OpensArenas : {D : Type 0} → DiskOf D → (number before : ℕ) → (d : D)
     → Result (Part D) (IndexError × D) → Type 0
 OpensArenas disk number before d (Ok part) = IsOpenedAs disk before d part
@@ -180,6 +182,7 @@ pub record IsOpenedSection {D : Type 0} (disk : DiskOf D) (before : ℕ) (d : D)
   pub buckets : t.buckets ≡ buckets_in (disk.size d)
   pub few : before + t.buckets ≤ MAX_BUCKETS
 
+-- the device is an index section, or it is told why not
 abbrev pub OpensSection : {D : Type 0} → DiskOf D → (number before : ℕ) → (d : D)
     → Result (SectionState D) (IndexError × D) → Type 0
 OpensSection disk number before d (Ok t) = IsOpenedSection disk before d t

@@ -96,6 +96,7 @@ pub record IsOpened {D : Type 0} (disk : DiskOf D) (t : SectionState D) : Type 0
 abbrev pub total_buckets : {D : Type 0} → List (SectionState D) → ℕ
 total_buckets sections = sum_by (λ section. section.buckets) sections
 
+-- how many buckets the sections before this one have
 abbrev pub buckets_before : {D : Type 0} → List (SectionState D) → (i : ℕ) → ℕ
 buckets_before sections i = total_buckets (take i sections)
 
@@ -125,6 +126,8 @@ pub record IsStoppedSection {D : Type 0} (disk : DiskOf D) (number i first total
   pub midway : i ≡ number → IsTrue disk.tells → IsMidway disk first total old new
   pub behind : number < i → new ≡ old
 
+-- The sections before the one that stopped are in use, it is midway, and those behind it are as they
+-- were.
 pub record StopsAtSection {D : Type 0} (disk : DiskOf D) (number total : ℕ)
     (olds news : List (SectionState D)) : Type 0 where
   pub many : length news ≡ length olds

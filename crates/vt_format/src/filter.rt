@@ -35,6 +35,7 @@ pub fn format_filter<P: Parts>(
     ensures others { IsTrue P.tells → (other : List ℕ) → other ≢ file.now
         → P.standing parts.new other ≡ P.standing parts.old other }
 {
+    // (two frames, each a block and the filter's bytes, and a block for the selector)
     let len = 2 * (BLOCK_LEN as u64 + size) + BLOCK_LEN as u64;
     let Ok(mut disk) = parts.part(alloc, file, Some(len)) else {
         return Err(MountBad::Fault);

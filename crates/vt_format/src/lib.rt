@@ -27,6 +27,7 @@ pub const MAX_LEN: u64 = 1 << 40;
 /// How many bytes a Bloom filter has at least and at most.
 pub const LEAST_FILTER: u64 = 8192;
 
+/// 1 MiB.
 pub const MOST_FILTER: u64 = 1 << 20;
 
 /// How many bits of a Bloom filter a score has at most.
@@ -35,4 +36,5 @@ pub const MOST_POSITIONS: u64 = 32;
 /// How many arenas and how many buckets a store has at most.
 pub const MAX_ARENAS: u64 = 4096;
 
+/// 1,048,576, so that two bytes for each bucket are 2 MiB.
 pub const MAX_BUCKETS: u64 = 1 << 20;

@@ -84,6 +84,7 @@ pub(crate) fn index_error(part: Option<u32>, bad: MountBad) -> IndexError
     }
 }
 
+/// The refusal that names a part's field, what it holds and what it had to hold.
 fn too_many(part: u32, field: MountField, found: u64, want: u64) -> IndexError
     ensures { result ≡ IndexError.Refused (MountBad.Disagree part field found want) }
 {

@@ -7,6 +7,7 @@ use Rattle.vt_session.specs.declared.Ended.TheVariants.{Closed, Cut}
 use Rattle.vt_session.specs.Heard.{Item, settled, asked, Heard}
 use Rattle.vt_session.specs.Turns.{server_line}
 
+-- the tag that the reply to an item gets
 abbrev pub tag_of : Item → ℕ
 tag_of (settled tag reply) = tag
 tag_of (asked tag operation) = tag

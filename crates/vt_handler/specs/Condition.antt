@@ -33,6 +33,7 @@ abbrev pub IsNoDamage : Cause → Type 0
 IsNoDamage (damaged site want found) = ⊥
 IsNoDamage cause = ⊤
 
+-- the cause is no failed call of a disk
 abbrev pub IsNoFault : Cause → Type 0
 IsNoFault (disk_fault before after) = ⊥
 IsNoFault cause = ⊤

@@ -98,6 +98,7 @@ abbrev pub ReadCause : Ended → (old new : ℕ) → Type 0
 ReadCause ReadFault old new = HasRisen old new
 ReadCause ended old new = new ≡ old
 
+-- a read fault is told only where a read of the link failed
 abbrev pub ReadsSo : Result (Option Ended) Failed → (old new : ℕ) → Type 0
 ReadsSo (Ok (Some ended)) old new = ReadCause ended old new
 ReadsSo result old new = new ≡ old
@@ -106,6 +107,7 @@ ReadsSo result old new = new ≡ old
 abbrev pub left_to_do : Talking → ℕ
 left_to_do talking = 2 * (spent_len - talking.taken) + unheard_len talking.stage
 
+-- where it goes on, less is left to do, so that serving ends
 abbrev pub LessIsLeft : Result (Option Ended) Failed → (old new : Talking) → Type 0
 LessIsLeft (Ok None) old new = left_to_do new < left_to_do old
 LessIsLeft result old new = ⊤

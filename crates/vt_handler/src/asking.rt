@@ -28,7 +28,7 @@ pub fn reply(said: &Said) -> Reply<'_>
     }
 }
 
-/// A score has 20 bytes.
+/// Tells the proof that a score has 20 bytes.
 fn is_whole(score: Score)
     ensures { length score.0 ≡ 20 }
 {}

@@ -1,4 +1,4 @@
-//! Who sends what a session answers.
+//! The trait of a client, whose input a session answers (`Client`).
 
 ghost use Rattle.std.specs.Prelude.{◌≡◌, ◌≤◌, ◌<◌, ◌++◌, ℕ, Bool, IsTrue, IfOk, OnOk, OnErr};
 ghost use Rattle.std.specs.Prelude.{List, [], length, take};

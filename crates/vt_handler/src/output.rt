@@ -27,6 +27,7 @@ const MAX_REPLY: usize = 4 + MAX_BLOCK;
 #[derive(Drop)]
 pub struct Output {
     buffer: Vec<u8>,
+    /// How many of the buffer's first bytes wait.
     used: usize,
 }
 
@@ -41,7 +42,7 @@ impl Model for Output {
 }
 
 impl Output {
-    /// The server's line waits.
+    /// Room for replies, with the server's line in front, which goes out first.
     pub fn new(alloc: Global) -> Result<Self, AllocError>
         ensures { IfOk result (λ output. output ≡ server_line) }
     {

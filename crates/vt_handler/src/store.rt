@@ -1,4 +1,4 @@
-//! What a session asks.
+//! The trait of a store that a session asks (`Store`).
 
 ghost use Rattle.std.specs.Prelude.{◌≤◌, ℕ, List, Result, length};
 ghost use Rattle.vt_base.specs.declared.why.Why.{Why};

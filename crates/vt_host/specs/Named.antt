@@ -7,6 +7,7 @@ use Rattle.vt_host.specs.declared.parts.FileParts.{FileParts}
 abbrev pub parts_files : {O : Type 0} → FileParts O → O
 parts_files parts = parts.files
 
+-- what opens the system's files
 abbrev pub files_opener : {O : Type 0} → StdFiles O → O
 files_opener files = files.files
 
@@ -14,5 +15,6 @@ files_opener files = files.files
 abbrev pub parts_faults : {O : Type 0} → FileParts O → ℕ
 parts_faults parts = parts.faults.count
 
+-- how many calls on the system's files failed
 abbrev pub files_faults : {O : Type 0} → StdFiles O → ℕ
 files_faults files = files.faults.count

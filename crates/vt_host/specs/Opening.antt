@@ -43,9 +43,11 @@ folder_or_working None = codes "."
 folder_or_working (Some []) = codes "."
 folder_or_working (Some (b ∷ folder)) = b ∷ folder
 
+-- the path of the folder that a file stands in; the working folder is "."
 abbrev pub folder_of : (name : List ℕ) → List ℕ
 folder_of name = folder_or_working (path_parent name)
 
+-- the opening of that folder, to read, and whether it succeeded
 abbrev pub folder_opening : (name : List ℕ) (ok : Bool) → Opening
 folder_opening name ok = record { how = read_options; name = folder_of name; ok = ok }
 

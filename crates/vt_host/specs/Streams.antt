@@ -15,5 +15,6 @@ sink_output sink = sink.output
 abbrev pub link_source : {R W : Type 0} → StdLink R W → StdSource R
 link_source link = link.source
 
+-- the half of a connection that is written
 abbrev pub link_sink : {R W : Type 0} → StdLink R W → StdSink W
 link_sink link = link.sink

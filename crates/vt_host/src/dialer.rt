@@ -23,7 +23,7 @@ pub struct StdDialer<N> {
 impl<N: Connector> StdDialer<N> {
     ghost use Rattle.vt_host.specs.Dialling.{dialer_faults, dialer_net};
 
-    /// Connections that this makes.
+    /// A dialer whose connections this makes; no call has failed.
     pub fn new(net: N) -> Self
         ensures net { dialer_net result ≡ net }
         ensures faults { dialer_faults result ≡ 0 }

@@ -1,4 +1,4 @@
-//! The count of failed calls.
+//! The count of an adapter's failed calls.
 
 ghost use Rattle.std.specs.Prelude.{◌<◌, ◌^◌};
 
@@ -15,6 +15,7 @@ impl Faults {
     ghost use Rattle.std.specs.Prelude.{◌≡◌, ◌+◌, ◌-◌, IfOk, Ok, is_ok, min};
     ghost use Rattle.vt_base.specs.Faults.{HasCause, HasRisen};
 
+    /// No call has failed.
     pub fn new() -> Self
         ensures { result.count ≡ 0 }
     {

@@ -28,13 +28,15 @@ pub struct StdFolder<C, F> {
     calls: C,
     // Its name, with `/.` behind it: a link to a folder is followed there.
     base: String,
+    /// The names of users by their numbers, and below those of groups.
     users: Owners,
     groups: Owners,
+    /// Kept open, so that a file is opened once for all of its pieces.
     opened: Option<Opened<F>>,
     pub(crate) faults: Faults,
 }
 
-/// Want of memory, or a failed call.
+/// Why a call on the folder isn't done: want of memory, or a failed call of the system.
 fn out_err(error: io::Error) -> OutErr {
     match error.kind() {
         ErrorKind::OutOfMemory => OutErr::NoMemory,
@@ -131,6 +133,8 @@ where
             .map_err(|_| OutErr::NoMemory)
     }
 
+    /// The item of this name of which the system said this; the numbers of its user and its group
+    /// become names here.
     fn item_of(&self, alloc: Global, name: &[u8], found: &Look) -> Result<Item, AllocError> {
         Ok(Item {
             name: Text::copy_of(alloc, name)?,

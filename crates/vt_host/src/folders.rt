@@ -13,6 +13,7 @@ use vt_out::{Files, Folders, OutErr};
 /// The files that name the users and the groups (passwd(5), group(5)).
 const USERS: &[u8] = b"/etc/passwd";
 
+/// The file that names the groups.
 const GROUPS: &[u8] = b"/etc/group";
 
 /// The most bytes that are read of one of them.
@@ -57,6 +58,7 @@ where
         Owners::from_lines(alloc, lines.as_slice()).map_err(|_| OutErr::NoMemory)
     }
 
+    /// Opens the folder of this name, with the names of users and groups as they are now.
     fn open(&mut self, alloc: Global, name: &Text) -> Result<StdFolder<C, C::File>, OutErr>
     where
         C::File: Drop,

@@ -19,6 +19,7 @@ use vt_out::ItemKind;
 #[derive(Clone, Copy)]
 pub struct Look {
     pub kind: ItemKind,
+    /// The type and the permissions, as the system has them.
     pub mode: u32,
     /// In seconds since 1970, or before.
     pub mtime: i64,
@@ -28,6 +29,7 @@ pub struct Look {
 
 /// Looks at folders and files by path.
 pub trait FolderCalls {
+    /// What a file is opened as.
     type File: PieceCalls;
 
     /// Whether it tells which calls were made of it.

@@ -22,11 +22,13 @@ use std::{io, time};
 
 /// Opens files by name.
 pub trait Opener {
+    /// What a file is opened as.
     type File: FileCalls;
 
     /// What was to be opened so far, where its files tell their calls.
     ghost opened: { Self → List Opening };
 
+    /// Opens the file at this path, from the working folder, in this way.
     fn open(&mut self, how: &OpenOptions, name: &str) -> io::Result<Self::File>
         ensures noted { IsTrue Self.File.tells → opened self.new ≡ opened self.old
             ++ record { how = how.now; name = name.now; ok = is_ok result } ∷ [] }
@@ -42,7 +44,7 @@ pub trait FileCalls {
     /// The calls that were made of it, in order.
     ghost made: { Self → List FileCall };
 
-    /// How many bytes it has.
+    /// How many bytes the file has now.
     fn measure(&mut self) -> io::Result<u64>
         ensures { IsTrue tells
             → made self.new ≡ made self.old ++ measured (result_ok result) ∷ [] };
@@ -51,12 +53,12 @@ pub trait FileCalls {
     fn resize(&mut self, len: u64) -> io::Result<()>
         ensures { IsTrue tells → made self.new ≡ made self.old ++ resized len (is_ok result) ∷ [] };
 
-    /// Fills the buffer.
+    /// Fills the whole buffer with the bytes from a place on.
     fn read_at(&mut self, start: u64, buf: &mut [u8]) -> io::Result<()>
         ensures { IsTrue tells
             → made self.new ≡ made self.old ++ read start buf.new (is_ok result) ∷ [] };
 
-    /// Writes the whole chunk.
+    /// Writes the whole chunk from a place on.
     fn write_at(&mut self, start: u64, chunk: &[u8]) -> io::Result<()>
         ensures { IsTrue tells
             → made self.new ≡ made self.old ++ written start chunk.now (is_ok result) ∷ [] };
@@ -87,7 +89,7 @@ pub trait WriteCalls {
             → made self.new ≡ made self.old ++ put piece.now (is_ok result) ∷ [] }
         ensures bytes { OnOk result (Appends (contents self.old) (contents self.new) piece.now) };
 
-    /// Leaves nothing in a buffer.
+    /// Puts out what the stream's own buffer has, if there is one.
     fn flush_all(&mut self) -> io::Result<()>
         ensures noted { IsTrue tells
             → made self.new ≡ made self.old ++ flushed (is_ok result) ∷ [] }

@@ -21,15 +21,19 @@ entry_of info = record { key = info.key; size = info.size; place = info.place }
 
 -- ---- looking up
 
+-- whether the dirty entry is of this key
 abbrev pub is_info_of : Key → Info → Bool
 is_info_of key info = same_key key info.key
 
+-- whether the clean entry is of this key
 abbrev pub is_entry_of : Key → Entry → Bool
 is_entry_of key entry = same_key key entry.key
 
+-- the dirty entry of this key, if there is one
 abbrev pub dirty_info : Key → IndexState → Option Info
 dirty_info key s = find (is_info_of key) s.dirty
 
+-- the clean entry of this key, if there is one
 abbrev pub clean_entry : Key → IndexState → Option Entry
 clean_entry key s = find (is_entry_of key) s.clean
 

@@ -13,9 +13,12 @@ use Rattle.lru.specs.LruCache.{LruCache}
 abbrev pub dirty_infos : {S : Type 0} → IndexMap Key Info S → (dirty : ℕ) → List Info
 dirty_infos infos dirty = take dirty (values infos)
 
+-- the clean entries, the one used last first
 abbrev pub clean_entries : LruCache Key Entry → List Entry
 clean_entries clean = map (λ pair. pair.1) clean.entries
 
+-- The invariant of the index cache: each entry stands under its own key, and there are no more of
+-- either sort than there is room for.
 pub record IsWell {S : Type 0} (room : ℕ) (infos : IndexMap Key Info S) (dirty : ℕ)
     (blank : IndexMap Key Info S) (clean : LruCache Key Entry) : Type 0 where
   pub info_keys : AllByRecursion (λ (pair : Key × Info). pair.1.key ≡ pair.0) infos.entries

@@ -152,6 +152,7 @@ impl IndexCache {
             &mut self.blank,
             &info.key,
         );
+        // (there is room, and nothing stood under the key: what is given back tells nothing)
         let _ = self.infos.insert(info.key, info);
         let last = self.infos.len() - 1;
         self.infos.swap_indices(self.dirty as usize, last);
@@ -196,6 +197,7 @@ impl IndexCache {
         let last = self.dirty - 1;
         self.infos.swap_indices(at, last as usize);
         self.dirty = last;
+        // (what the cache evicts for it is dropped: it is on the disk)
         let _ = self.clean.put(info.key, entry_of(&info));
         true
     }
@@ -284,6 +286,7 @@ fn copy_first(from: &IndexMap<Key, Info>, count: usize, to: &mut IndexMap<Key, I
 {
     for i in 0..count {
         if let Some((key, info)) = from.get_index(i) {
+            // (there is room, so that no insertion fails)
             let _ = to.insert(*key, *info);
         }
     }

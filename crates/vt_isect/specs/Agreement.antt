@@ -63,6 +63,7 @@ pub record IsMarkCovered {D : Type 0} (score : List ℕ → List ℕ) (c : Setup
       → i < mark → IsInBucket score c h n i
       → HasBlock score c h (λ entry. Contains entries entry ⊎ others entry) i
 
+-- no entry is allowed beside those that are known
 abbrev pub NoOthers : Entry → Type 0
 NoOthers entry = ⊥
 

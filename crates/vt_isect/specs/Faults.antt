@@ -15,6 +15,7 @@ use Rattle.vt_isect.specs.declared.error.SectBad.TheVariants as sect_bad
 use Rattle.vt_isect.specs.declared.error.ShardErr.{ShardErr}
 use Rattle.vt_isect.specs.declared.error.ShardErr.TheVariants.{Fault, Damaged, Stopped}
 
+-- the version field of a head's frame
 abbrev pub version_in : (frame : List ℕ) → ℕ
 version_in frame = big_number 2 (drop 4 frame)
 

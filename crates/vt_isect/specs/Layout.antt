@@ -18,6 +18,7 @@ head_place = record { start = 0; len = HEAD_PLACE_LEN }
 abbrev pub bucket_place : (j : ℕ) → Region
 bucket_place j = record { start = HEAD_PLACE_LEN + BUCKET_PLACE_LEN * j; len = BUCKET_PLACE_LEN }
 
+-- the region is that of this bucket of the section
 pub record IsBucketPlace (j : ℕ) (region : Region) : Type 0 where
   pub start : region.start ≡ (bucket_place j).start
   pub len : region.len ≡ (bucket_place j).len

@@ -48,6 +48,7 @@ pub record SectionState (D : Type 0) : Type 0 where
 abbrev pub call_count : {D : Type 0} → SectionState D → CallCount
 call_count t = record { made = t.calls; stopped = t.stopped }
 
+-- the entries of the writeback under way
 abbrev pub entries_of : {D : Type 0} → SectionState D → List Entry
 entries_of t = listed_entries t.entries
 
@@ -120,6 +121,7 @@ IsOfGroup t n entry =
 abbrev pub IsMember : {D : Type 0} → SectionState D → (n : ℕ) → Member → Type 0
 IsMember t n member = PutsEntries t.phase × Contains t.group member × (member.bucket ≡ n)
 
+-- the writeback under way changes this bucket
 abbrev pub IsChanging : {D : Type 0} → SectionState D → (n : ℕ) → Type 0
 IsChanging t n = (member : Member) × IsMember t n member
 
@@ -194,9 +196,12 @@ pub record IsIdleSection {D : Type 0} (t : SectionState D) : Type 0 where
 abbrev pub IsHere : Option (List ℕ) → Type 0
 IsHere buffer = MatchOption buffer ⊥ (λ frame. length frame ≡ FRAME_LEN)
 
+-- the head's twin has the frame, and has made fewer than its four calls
 abbrev pub IsLent : Option FrameChange → Type 0
 IsLent change = MatchOption change ⊥ (λ it. (length it.frame ≡ FRAME_LEN) × (it.made < 4))
 
+-- the buffer for the head's frame is with the twin while the head changes, and else with the
+-- section
 pub record HasHeadFrame {D : Type 0} (t : SectionState D) (buffer : Option (List ℕ)) : Type 0 where
   pub lent : t.phase ≡ ChangeHead → IsLent t.head_twin.change
   pub here : t.phase ≢ ChangeHead → IsHere buffer × (t.head_twin.change ≡ None)
@@ -223,6 +228,8 @@ pub record IsGroup {D : Type 0} (t : SectionState D) : Type 0 where
   pub whole : HasGroup t.phase → (0 < length t.group) × (t.framed ≡ t.begun)
   pub selector : (j : ℕ) → t.phase ≡ WriteSelector j → j < length t.group
 
+-- The invariant of a section in memory: sizes, buffers, counts and what is under way fit each other
+-- and the disk.
 pub record IsWell {D : Type 0} (disk : DiskOf D) (size : ℕ) (t : SectionState D)
     (head_frame : Option (List ℕ)) (capacity : ℕ) (frames : List (Option ℕ)) : Type 0 where
   pub room : HEAD_PLACE_LEN + BUCKET_PLACE_LEN * t.buckets ≤ size

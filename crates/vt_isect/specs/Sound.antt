@@ -22,9 +22,11 @@ use Rattle.vt_isect.specs.Section.{SectionState, IsChanging, IsMember, IsOfGroup
 abbrev pub KnownBuckets : Type 0
 KnownBuckets = ℕ → Option (List Entry)
 
+-- of no bucket it is known what entries it has
 abbrev pub nothing_known : KnownBuckets
 nothing_known n = None
 
+-- of each bucket it is known what entries it has
 abbrev pub all_known : (ℕ → List Entry) → KnownBuckets
 all_known entries n = Some (entries n)
 

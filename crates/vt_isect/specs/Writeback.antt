@@ -49,6 +49,7 @@ most_calls (WriteSelector j) t = 6 * later t + (length t.group - j) + 5
 most_calls SyncSelectors t = 6 * later t + 5
 most_calls ChangeHead t = 4 - twin_calls_made t.head_twin
 
+-- how many device calls the writeback under way makes at most from here on
 abbrev pub calls_left : {D : Type 0} → SectionState D → ℕ
 calls_left t = most_calls t.phase t
 

@@ -1,4 +1,4 @@
-//! A list of entries.
+//! The entries that a writeback takes in, in the order in which their buckets are written.
 
 ghost use Rattle.std.specs.Prelude.{◌≡◌, vec_capacity};
 ghost use Rattle.vt_isect.specs.Entries.{listed_entries, turn};

@@ -193,5 +193,6 @@ fn write_bucket<D: Disk>(disk: &mut D, place: Region, frame: &[u8]) -> Result<()
     ensures cause { HasCause result (D.faults disk.old) (D.faults disk.new) }
 {
     place.write_at(disk, 0, frame)?;
+    // (a selector of zeros, behind both frames, names frame 0)
     place.write_at(disk, 2 * FRAME_LEN as u64, &[0; SECTOR_LEN])
 }

@@ -39,6 +39,7 @@ pub fn decode_head(frame: &[u8], len: u64) -> Result<([u8; NAME_LEN], Head), Sec
     ensures told { IfErr result TellsOfHead }
     ensures cause { (faults : ℕ) → CountsFault refuses_by_fault result faults faults }
 {
+    // (the places of the fields: docs/FORMATS.md, Index sections)
     if frame[..4] != b"VSEC"[..] {
         return Err(SectBad::NotFormatted);
     }

@@ -87,6 +87,7 @@ pub fn read_merged<D: Disk>(
     ensures faults { CountsFault is_section_fault result (D.faults disk.old) (D.faults disk.new) }
     ensures stopped { (n : ℕ) → ¬ (result ≡ Err (ShardErr.Stopped n)) }
 {
+    // (an even selector names the first frame, an odd one the second)
     place.read_at(disk, FRAME_LEN as u64 * u64::from(selector % 2), frame)?;
     merge_frame(frame, number, group)
 }

@@ -1,4 +1,4 @@
-//! What a section's next device call does.
+//! What a section's next device call does: the phases of a writeback.
 
 /// What the next device call of `advance` does.
 #[derive(Clone, Copy, Debug, PartialEq, Eq)]

@@ -88,6 +88,7 @@ impl Remembered {
         ensures cause { HasCause result (D.faults disk.old) (D.faults disk.new) }
     {
         let mut selector = [0];
+        // (the selector stands behind both frames; its first byte names the current one)
         place.read_at(disk, 2 * FRAME_LEN as u64, &mut selector)?;
         let number = selector[0] % 2;
         self.put(bucket, number);

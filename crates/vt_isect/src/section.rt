@@ -44,13 +44,16 @@ use vt_twin::Twin;
 #[derive(Drop)]
 pub struct Section<D: Disk> {
     pub(crate) disk: D,
+    /// How many buckets its disk has room for.
     pub(crate) buckets: u32,
     pub(crate) name: [u8; NAME_LEN],
+    /// The head as it stands on the disk.
     pub(crate) head: Head,
     /// The head that it gets by what is under way.
     pub(crate) next: Head,
     /// From here to `most`: what is under way, a writeback bucket by bucket and the head's change.
     pub(crate) phase: Phase,
+    /// The entries of the writeback under way, or the memory for them until it is handed back.
     pub(crate) entries: Option<Entries>,
     /// How many of the entries are in their buckets: the first ones.
     pub(crate) written: usize,
@@ -66,6 +69,7 @@ pub struct Section<D: Disk> {
     pub(crate) group: Vec<Member>,
     /// How many these may be.
     pub(crate) most: usize,
+    /// The two frames of the head on the disk.
     pub(crate) head_twin: Twin,
     /// The buffer of the head's frame, but where a change has it.
     pub(crate) head_frame: Option<Vec<u8>>,
@@ -97,7 +101,7 @@ impl<D: Disk> Section<D> {
     ghost use Rattle.vt_isect.specs.Sound.{KnownBuckets, DiskHolds, IsReadFrom};
     ghost use Rattle.vt_isect.specs.Writeback.{BeginsBehind, calls_left, later};
 
-    /// A section as it was found.
+    /// A section as it was found on its disk, with nothing under way.
     pub(crate) fn new(disk: D, buckets: u32, opened: Opened) -> Self
         requires room { HEAD_PLACE_LEN + BUCKET_PLACE_LEN * buckets ≤ D.size disk }
         requires name { length opened.name ≡ NAME_LEN }

@@ -391,7 +391,7 @@ impl<D: Disk> Section<D> {
         }
     }
 
-    /// Begins the change to this head.
+    /// Begins the head's change to this one, by which a writeback ends.
     pub(crate) fn begin_next(&mut self, next: Head)
         requires rest { self.old.phase ≡ Rest }
         ensures same { self.new ≡ record self.old {

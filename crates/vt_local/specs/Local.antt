@@ -49,6 +49,7 @@ IsToldAs why err = (err ≡ err_of why) ⊎ (HasText (err_of why) × (err ≡ No
 abbrev pub RefusedFor : BlockErr → Result RMessage Why → Type 0
 RefusedFor err reply = (why : Why) × (reply ≡ Err why) × IsToldAs why err
 
+-- the reply that a call's answer was made of
 abbrev pub StandsFor : Call → Result RMessage Why → Type 0
 StandsFor (get kind s (Ok bytes)) reply = reply ≡ Ok (r_read bytes)
 StandsFor (get kind s (Err err)) reply = RefusedFor err reply

@@ -80,6 +80,7 @@ lends_gives count (Some b) bytes is = of (nat_lt count (length b)) is
     of true is = absurd (cc)
     of false is = cc
 
+-- a block that was given is held
 read_gives : (score : List ℕ → List ℕ) (h : History) (s : List ℕ) (kind count : ℕ)
     (bytes : List ℕ) → (answer_to_read score h s kind count).reply ≡ r_read bytes
     → held score h s kind ≡ Some bytes
@@ -107,6 +108,7 @@ lends_none count (Some b) text most is = elim (cases_Bool (nat_lt count (length 
       absurd (cc)
 ]
 
+-- a read of a known type that had room for what is held, and was refused, asked for what isn't held
 read_absent : (score : List ℕ → List ℕ) (h : History) (s : List ℕ) (kind count : ℕ)
     (text : List ℕ) → IsKind kind
     → ((b : List ℕ) → held score h s kind ≡ Some b → length b ≤ count)
@@ -599,6 +601,7 @@ module _ {S : Type 0} (T : StoreOf S)
 
 -- ---- the same where the store is told by what is known of it
 
+-- what a call tells is true of what the store holds, and stays so
 pub tells : {S : Type 0} {T : StoreOf S}
     (law : (s : S) (h : History) → T.holds s h → (T.condition s).durable ≤ length h)
     (score_of : List ℕ → List ℕ) (l l' : LocalState S) (call : Call) (m : Maps)
@@ -607,12 +610,14 @@ pub tells : {S : Type 0} {T : StoreOf S}
 tells {S} {T} law score_of l l' call m does hold =
     store_tells T law score_of l l' call m does hold
 
+-- what was synced is held
 pub synced_is_held : {S : Type 0} {T : StoreOf S}
     (law : (s : S) (h : History) → T.holds s h → (T.condition s).durable ≤ length h)
     (score_of : List ℕ → List ℕ) (l : LocalState S) (m : Maps) → HoldsLocal T score_of l m
     → IsWithin m.synced m.held
 synced_is_held {S} {T} law score_of l m hold = store_synced T law score_of l m hold
 
+-- what is held is write-once
 pub write_once : {S : Type 0} {T : StoreOf S}
     (law : (s : S) (h : History) → T.holds s h → (T.condition s).durable ≤ length h)
     (score_of : List ℕ → List ℕ) (l : LocalState S) (m : Maps) → HoldsLocal T score_of l m

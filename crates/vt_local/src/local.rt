@@ -15,8 +15,11 @@ use vt_tree::{BlockErr, Blocks};
 pub struct Local<T: Store, S: Scorer> {
     store: T,
     scorer: S,
+    /// How many calls failed by a disk's fault.
     faults: u64,
+    /// How many were refused for another reason than want of memory.
     refusals: u64,
+    /// Why the store refused last.
     refused: Option<Why>,
     ghost scores: { (bytes : List ℕ) → S.score_of bytes ≡ T.score_of bytes },
 }

@@ -51,6 +51,7 @@ pub record TakesIn {D : Type 0} (packed : Packed) (place : Place) (old new : Log
     filling = with_room_taken packed.len filling;
   }
 
+-- the packed block is queued at the place that was told, or no arena has room and nothing changed
 abbrev pub TakesOrRefuses : {D : Type 0} → Packed → (old new : LogState D) → Result Place Full
     → Type 0
 TakesOrRefuses packed old new (Ok place) = TakesIn packed place old new

@@ -40,6 +40,7 @@ pub record LogState (D : Type 0) : Type 0 where
 abbrev pub queued : {D : Type 0} → LogState D → ℕ
 queued l = length l.queue.places
 
+-- how many blocks are accepted: those on the disks, and those that are queued
 abbrev pub front : {D : Type 0} → LogState D → ℕ
 front l = l.durable + queued l
 

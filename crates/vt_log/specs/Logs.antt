@@ -22,9 +22,11 @@ abbrev pub first_unsealed : List Content → ℕ
 first_unsealed [] = 0
 first_unsealed (a ∷ rest) = if a.sealed then first_unsealed rest + 1 else 0
 
+-- the arena takes no more blocks
 abbrev pub IsSealed : Content → Type 0
 IsSealed a = a.sealed ≡ Bool.true
 
+-- the arena is as it was formatted
 abbrev pub IsUntouched : Content → Type 0
 IsUntouched a = (a.sealed ≡ Bool.false) × (a.stored ≡ [])
 

@@ -13,6 +13,7 @@ pub record QueueState : Type 0 where
   pub waiting : List Waiting
   pub places : List Place
 
+-- no block is accepted that isn't committed
 abbrev pub no_queue : QueueState
 no_queue = record { waiting = []; places = [] }
 

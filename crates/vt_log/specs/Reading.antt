@@ -25,6 +25,7 @@ IsOther key kind score want found =
     ⊎ ((kind ≡ key.kind) × (score ≢ key.score.0) × (want ≡ ScoreValue key.score)
     × (found ≡ ScoreValue (record { 0 = score })))
 
+-- the clump that was read is of another block, by these two values; no failed call is one
 abbrev pub IsDamagedBy : Key → (kind : ℕ) → (score : List ℕ) → ReadBad → Type 0
 IsDamagedBy key kind score (Damaged want found) = IsOther key kind score want found
 IsDamagedBy key kind score Fault = ⊥

@@ -4,6 +4,7 @@ use Rattle.vt_part.specs.Parts.{disk_of, tables_of}
 use Rattle.vt_log.specs.declared.log.Log.TheInside.{Inside}
 use Rattle.vt_log.specs.Log.{LogState}
 
+-- what contracts see of a log
 abbrev pub state_of : {D S : Type 0} → Inside D S → LogState D
 state_of l = record {
   disks = map (λ part. disk_of part) l.parts.items;

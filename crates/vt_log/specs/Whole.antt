@@ -48,6 +48,8 @@ pub record IsArenaOf (r : ArenaRegion) (found : Found) (a : ArenaState) : Type 0
   pub number : a.number ≡ r.number
   pub head : a.head ≡ found.head
 
+-- The invariant of a log in memory: its regions, heads, queue and counts fit each other and the
+-- disks.
 pub record IsWholeLog {D : Type 0} (disk : DiskOf D) (l : LogState D) : Type 0 where
   -- the regions are those of the partitions' arenas, apart from each other, and on their disks
   pub many_disks : length l.disks ≡ length l.tables

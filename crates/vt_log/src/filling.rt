@@ -21,7 +21,7 @@ pub(crate) struct Filling {
 impl Filling {
     ghost use Rattle.vt_log.specs.Log.{filled_as, with_room_taken};
 
-    /// An arena with this head.
+    /// How full the arena of this number is, by its head.
     pub fn of(arena: u32, head: &ArenaHead) -> Filling
         ensures { result ≡ filled_as arena head.now }
     {

@@ -35,6 +35,7 @@ use vt_part::{ArenaRegion, Layout, Part};
 pub struct Log<D: Disk, S: Scorer> {
     pub(crate) parts: Vec<Part<D>>,
     pub(crate) scorer: S,
+    /// The regions of all arenas.
     pub(crate) layout: Layout,
     /// Each arena's head, as mounted or last committed. The selectors are those at mounting.
     pub(crate) heads: Vec<Found>,
@@ -45,7 +46,9 @@ pub struct Log<D: Disk, S: Scorer> {
     /// The arena that is committed in. Its room goes to the next one with it. Where every arena is
     /// sealed, it is one of no partition.
     pub(crate) arena: Arena,
+    /// What is accepted and not yet committed.
     pub(crate) queue: Queue,
+    /// How full the arena is that blocks are taken in for, queued ones counted.
     pub(crate) filling: Filling,
     /// How many blocks are committed.
     pub(crate) durable: u64,

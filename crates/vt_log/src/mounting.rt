@@ -144,6 +144,7 @@ struct Opened {
     heads: Vec<Found>,
     base: u32,
     arena: Arena,
+    /// Empty, with all the room that it will want.
     queue: Queue,
 }
 
@@ -151,6 +152,8 @@ impl Opened {
     ghost use Rattle.vt_log.specs.Mounting.{found_log};
     ghost use Rattle.vt_log.specs.Queue.{no_queue};
 
+    /// Makes the log of what was found. It takes no memory and can't fail, so the partitions aren't
+    /// lost.
     fn into_log<D: Disk, S: Scorer>(self, parts: Vec<Part<D>>, scorer: S) -> Log<D, S>
         requires queue { self.queue ≡ no_queue }
         requires whole { IsWholeLog D.Disk (found_log (disks_of parts.items) (tables_of parts.items)
@@ -316,7 +319,7 @@ fn find_next<D: Disk>(
     Ok(found)
 }
 
-/// Finds one arena.
+/// Finds the arena of this region, by its own number in its partition.
 fn find_arena<D: Disk>(parts: &mut [Part<D>], r: ArenaRegion, arena: u32) -> Result<Found, LogBad>
     requires { IsOnDisk D.Disk (disks_of parts.old) r }
     ensures answer { (fields : List ℕ)
@@ -430,7 +433,7 @@ fn room_for(
     Arena::resume(alloc, layout.as_slice()[arena].region.len, heads[arena])
 }
 
-/// An arena without blocks.
+/// The head that the log works with where every arena is sealed: none of a disk.
 fn no_arena() -> Found
     ensures { (result.head.sealed ≡ Bool.false) × (result.head.used ≡ 0)
         × (result.head.clumps ≡ 0) }

@@ -22,7 +22,9 @@ pub(crate) struct Waiting {
 /// commit: of these it has the places alone. There is room for 64.
 #[derive(Drop)]
 pub(crate) struct Queue {
+    /// Those that aren't staged, as clumps.
     waiting: VecDeque<Waiting>,
+    /// Where each will stand, the staged ones first.
     places: VecDeque<Place>,
 }
 
@@ -60,6 +62,7 @@ impl Queue {
         self.places.len()
     }
 
+    /// Whether each accepted block is committed.
     pub fn is_empty(&self) -> bool
         ensures { result ≡ (length self.now.places == 0) }
     {

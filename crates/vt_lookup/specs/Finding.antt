@@ -39,6 +39,7 @@ pub record StoreParts (D : Type 0) : Type 0 where
   pub log : LogState D
   pub shard : ShardState D
 
+-- the parts that a search reaches: the log, and one shard
 abbrev pub parts_of : {D : Type 0} → LogState D → ShardState D → StoreParts D
 parts_of log shard = record { log = log; shard = shard }
 
@@ -78,6 +79,7 @@ JudgesWrite score c h key bytes verdict =
     MatchResult verdict (IsVerdict outcome key.score.0)
     (λ why. MayKeepFrom why ⊎ (IsWriteRefusal why × (outcome ≡ refuses why)))
 
+-- the parts with this shard in place of theirs
 abbrev pub with_shard : {D : Type 0} → ShardState D → StoreParts D → StoreParts D
 with_shard shard p = record p { shard = shard }
 
@@ -110,6 +112,7 @@ OnePartRose disk old new =
     ⊎ ((map disk.faults new.log.disks ≡ map disk.faults old.log.disks)
     × HasRisen (disk.faults old.shard.section.disk) (disk.faults new.shard.section.disk))
 
+-- a fault is told only where one device counted a failed call, and else none did
 abbrev pub CountsFailure : {D : Type 0} → DiskOf D → Why → (old new : StoreParts D) → Type 0
 CountsFailure disk DiskFault old new = OnePartRose disk old new
 CountsFailure disk why old new = NoneRose disk old new
@@ -151,6 +154,7 @@ why_of_read place read_bad.Fault = DiskFault
 why_of_read place (read_bad.Damaged want found) = Damaged (Clump place) want found
 why_of_read place read_bad.NoMemory = NoMemory
 
+-- what reading the block at this place gives a search
 abbrev pub sought_in : Place → Result (List ℕ) ReadBad → Sought
 sought_in place (Ok bytes) = Ok (Some bytes)
 sought_in place (Err bad) = Err (why_of_read place bad)
@@ -173,6 +177,7 @@ pub record ReadsClump {D : Type 0} (score : List ℕ → List ℕ) (disk : DiskO
   pub keeps : MayKeep entry.key answer old.shard new.shard
   pub block_is : (block ≡ sought_in entry.place answer) ⊎ (block ≡ Err NoMemory)
 
+-- a shard's failure, as the reason of a refusal
 abbrev pub why_of_shard : ShardErr → Why
 why_of_shard shard_err.Fault = DiskFault
 why_of_shard (shard_err.Damaged bucket want found) = Damaged (Bucket bucket) want found
@@ -223,6 +228,7 @@ room_verdict (Ok crowd) room =
     else if room then Ok New
     else Err ArenasFull
 
+-- whether a block's bucket and the arenas have room for it; only the bucket's crowd is read
 pub record TestsRoom {D : Type 0} (disk : DiskOf D) (s bytes : List ℕ)
     (verdict : Result Verdict Why) (old new : StoreParts D) : Type 0 where
   pub crowd : Result ℕ ShardErr

@@ -41,12 +41,14 @@ differs (Ok None) bytes = Ok false
 differs (Ok (Some block)) bytes = Ok (not (bytes_eq block bytes))
 differs (Err why) bytes = Err why
 
+-- whether the block under this key has these bytes, or that there is none
 pub record ComparesBlock {D : Type 0} (score : List ℕ → List ℕ) (disk : DiskOf D) (key : Key)
     (bytes : List ℕ) (result : Result (Option Bool) Why) (old new : StoreParts D) : Type 0 where
   pub own : Sought
   pub seeks : SeeksBlock score disk true key own old new
   pub result_is : result ≡ compared own bytes
 
+-- whether a block of this score under any type has other bytes
 pub record ComparesOther {D : Type 0} (score : List ℕ → List ℕ) (disk : DiskOf D)
     (s bytes : List ℕ) (result : Result Bool Why) (old new : StoreParts D) : Type 0 where
   pub other : Sought

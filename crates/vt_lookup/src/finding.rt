@@ -205,7 +205,7 @@ fn fetch<D: Disk, S: Scorer, L: Ledger>(
     }
 }
 
-/// Keeps a block in memory.
+/// Keeps a block that was read in the shard's cache, from which another may go.
 fn keep<D: Disk>(shard: &mut Shard<D>, key: Key, bytes: Bytes) -> Result<(), Why>
     ensures kept { MatchResult result
         (λ _. shard.new ≡ record shard.old { lumps = with_lump key bytes shard.old.lumps })

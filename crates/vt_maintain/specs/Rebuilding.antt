@@ -52,6 +52,7 @@ pub record StopsOn {D : Type 0} (score : List ℕ → List ℕ) (disk : DiskOf D
   pub counts : CountsOneFault (is_rebuild_fault bad) (device_faults disk devices)
       (device_faults disk back)
 
+-- the index was rebuilt with so many blocks, or it is told why not
 abbrev pub Rebuilds : {D : Type 0} → (List ℕ → List ℕ) → DiskOf D → Result ℕ RebuildBad
     → (devices back : Devices D) → Type 0
 Rebuilds score disk (Ok blocks) devices back = RebuildsOn score disk blocks devices back

@@ -1,4 +1,4 @@
-//! Why a store isn't kept.
+//! Why an index isn't rebuilt, or arenas aren't checked.
 
 use vt_open::OpenError;
 

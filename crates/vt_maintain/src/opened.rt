@@ -160,7 +160,7 @@ impl<D: Disk, S: Scorer + Drop> Opened<D, S> {
         }
     }
 
-    /// The devices.
+    /// Gives all devices of the store back, and takes no memory for it.
     pub(crate) fn close(self) -> Devices<D>
         requires { HasRoomForDevices (length self.sections.items) self.room }
         ensures devices { devices_in result

@@ -16,8 +16,11 @@ use vt_disk::SECTOR_LEN;
 /// The bytes of a disk.
 #[derive(Drop)]
 pub struct Cells {
+    /// What reads give: all that was written.
     pub content: Vec<u8>,
+    /// What they were at the last sync, which a crash leaves wherever nothing is pending.
     synced: Vec<u8>,
+    /// Of each byte, whether a crash may leave anything there.
     pub pending: Vec<bool>,
     /// The sectors with pending bytes, and perhaps others.
     dirty: Dirty,
@@ -34,7 +37,7 @@ pub struct Cells {
         → is_pending pending.items i ≡ false },
 }
 
-/// Writes over what is there.
+/// Writes a piece over what stands from a place on.
 fn put(content: &mut Vec<u8>, start: usize, chunk: &[u8])
     requires { start + length chunk.now ≤ length content.old.items }
     ensures { content.new.items ≡ with_bytes start chunk.now content.old.items }

@@ -1,4 +1,4 @@
-//! The choices that a crash makes.
+//! The choices that a crash makes: which of the pending bytes it leaves written.
 
 ghost use Rattle.std.specs.Prelude.{◌≡◌, ◌+◌, ◌-◌, ◌^◌, ◌<◌, ◌≤◌, length, drop, if◌then◌else◌};
 ghost use Rattle.vt_memdisk.specs.Cells.{byte_after, chosen};
@@ -31,7 +31,8 @@ fn next_place(pending: bool, next: usize) -> usize
     if pending { next + 1 } else { next }
 }
 
-/// Makes the choices.
+/// Makes a crash of these bytes: each pending one, in order of the places, takes the next choice,
+/// and stays as it is synced where the choices have run out.
 pub fn choose(content: &mut Vec<u8>, synced: &Vec<u8>, pending: &Vec<bool>, choice: &[u16])
     requires synced_length { length synced.now.items ≡ length content.old.items }
     requires pending_length { length pending.now.items ≡ length content.old.items }

@@ -1,4 +1,4 @@
-//! The sectors that a sync has to settle.
+//! The sectors with bytes that were written and not synced, which the next sync settles.
 
 ghost use Rattle.std.specs.Prelude.{◌≡◌, ◌≢◌, ◌⊎◌, ◌+◌, ◌-◌, ◌<◌, ◌≤◌, ◌==◌, ℕ, length, slice_index, IfOk};
 ghost use Rattle.vt_memdisk.specs.Sectors.{AreInverse, IsAmongFirst};
@@ -43,7 +43,7 @@ impl Dirty {
         })
     }
 
-    /// Adds a sector.
+    /// Makes a sector dirty. It changes places with the first clean one of the order.
     fn add(&mut self, sector: usize)
         requires { sector < length self.old.place.items }
         ensures sectors { length self.new.place.items ≡ length self.old.place.items }
@@ -83,6 +83,7 @@ impl Dirty {
         }
     }
 
+    /// Whether a sync has no sector to settle.
     pub fn is_empty(&self) -> bool
         ensures { result ≡ (self.now.count == 0) }
     {

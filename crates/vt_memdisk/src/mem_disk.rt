@@ -67,6 +67,7 @@ impl<P: Plan> MemDisk<P> {
     ghost use Rattle.vt_memdisk.specs.Crashes.{IsLeftBy};
     ghost use Rattle.vt_memdisk.specs.Memory.{memory_bytes, memory_synced, memory_pending, memory_plan};
 
+    /// A disk of so many zero bytes with nothing pending, whose calls fail by this plan.
     fn with_plan(alloc: Global, len: u64, plan: P) -> Result<Self, AllocError>
         ensures length { IfOk result (λ disk. length (memory_bytes disk) ≡ len) }
         ensures zero { IfOk result (λ disk. (i : ℕ) → slice_index (memory_bytes disk) i ≡ 0) }

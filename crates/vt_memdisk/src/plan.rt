@@ -14,7 +14,7 @@ pub trait Plan: Drop {
     /// How many calls have failed.
     ghost faults: { Self → ℕ };
 
-    /// Counts a call. Whether it fails.
+    /// Counts a call, and tells whether it fails.
     fn next_fails(&mut self) -> bool
         ensures fails { IsTrue result ↔ Contains (listed self.old) (calls self.old) }
         ensures listed { listed self.new ≡ listed self.old }
@@ -38,6 +38,7 @@ pub struct Never {
 }
 
 impl Never {
+    /// Before the first call.
     pub(crate) fn new() -> Self
         ensures { result.calls ≡ 0 }
     {
@@ -77,6 +78,7 @@ pub struct Listed {
 }
 
 impl Listed {
+    /// Before the first call; the numbers, counted from 0, are those of the calls that will fail.
     pub(crate) fn new(failing: Vec<u64>) -> Self
         ensures failing { result.failing ≡ failing }
         ensures calls { result.calls ≡ 0 }

@@ -20,6 +20,7 @@ pub record Outcome : Type 0 where
 abbrev pub replies : RMessage → Outcome
 replies reply = record { reply = reply; added = None }
 
+-- the request is refused for this reason, and nothing is added
 abbrev pub refuses : Why → Outcome
 refuses why = replies (r_refused why)
 
@@ -57,6 +58,7 @@ lends count None = refuses Absent
 lends count (Some bytes) =
     if nat_lt count (length bytes) then refuses TooSmall else replies (r_read bytes)
 
+-- what a read of this score, type and length is answered: the block, or why not
 abbrev pub answer_to_read : (List ℕ → List ℕ) → History → List ℕ → ℕ → ℕ → Outcome
 answer_to_read score h s kind count =
     if not (is_kind kind) then refuses BadType else lends count (held score h s kind)

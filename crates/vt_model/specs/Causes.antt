@@ -26,6 +26,7 @@ pub data Cause : Type 0 where
   damaged : (site : Site) (want found : FieldValue) → Cause
   no_memory : Cause
 
+-- the refusal that a cause of failure is told as
 abbrev pub why_of : Cause → Why
 why_of (disk_fault before after) = DiskFault
 why_of (stopped part first) = Stopped first
@@ -58,6 +59,7 @@ MayFindDamage (read s kind count) = ⊤
 MayFindDamage (write kind bytes) = ⊤
 MayFindDamage sync = ⊥
 
+-- the operation takes memory, so that it may be refused for want of it
 abbrev pub TakesMemory : Operation → Type 0
 TakesMemory ping = ⊥
 TakesMemory (read s kind count) = ⊤
@@ -81,5 +83,6 @@ IsCauseFor score c operation (damaged site want found) =
     MayFindDamage operation × SameForm want found × (want ≢ found)
 IsCauseFor score c operation no_memory = TakesMemory operation
 
+-- a request may fail for this cause: it reaches parts, and the cause fits it
 abbrev pub MayFail : (List ℕ → List ℕ) → Setup → Operation → Cause → Type 0
 MayFail score c operation cause = ReachesParts score operation × IsCauseFor score c operation cause

@@ -14,6 +14,8 @@ HasOtherKey score a b = a.block.kind ≡ b.block.kind → score a.block.bytes �
 abbrev pub NoCollision : (List ℕ → List ℕ) → Accepted → Accepted → Type 0
 NoCollision score a b = score a.block.bytes ≡ score b.block.bytes → a.block.bytes ≡ b.block.bytes
 
+-- A list of blocks that a store of this setup may have come to hold: each is a block, none has
+-- another's key or its score with other bytes, and arenas are filled in order.
 pub record IsLegal (score : List ℕ → List ℕ) (c : Setup) (h : History) : Type 0 where
   pub blocks : All (λ e. IsBlock e.block) h
   pub keys : AllPairs (HasOtherKey score) h

@@ -6,6 +6,7 @@ use Rattle.vt_base.specs.Protocol.{r_write}
 use Rattle.vt_model.specs.declared.plain.Verdict.{Verdict}
 use Rattle.vt_model.specs.Answer.{Outcome, refuses}
 
+-- what a write of this block is answered by a verdict, and what it adds
 abbrev pub verdict_outcome : ℕ → List ℕ → Result Verdict Why → Outcome
 verdict_outcome kind bytes (Err why) = refuses why
 verdict_outcome kind bytes (Ok v) = record {

@@ -11,8 +11,11 @@ use vt_base::Score;
 /// What a store was opened with.
 #[derive(Drop)]
 pub struct Layout {
+    /// How many bytes the region of each arena has.
     arenas: Vec<u32>,
+    /// The first arena that wasn't sealed then, or their count.
     base: usize,
+    /// How many buckets each index section has.
     sections: Vec<u32>,
 }
 
@@ -29,6 +32,8 @@ impl Model for Layout {
 }
 
 impl Layout {
+    /// Of arenas with so many bytes each, in order, of which the first unsealed one has the number
+    /// `base`, and of index sections with so many buckets each.
     pub fn new(arenas: Vec<u32>, base: usize, sections: Vec<u32>) -> Self
         ensures { result
             ≡ record { arenas = arenas.items; base = base; sections = sections.items } }

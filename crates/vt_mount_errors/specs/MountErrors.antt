@@ -28,11 +28,13 @@ use Rattle.vt_bloom.specs.declared.error.Field.TheVariants as bloom_field
 use Rattle.vt_log.specs.declared.error.LogBad.{LogBad}
 use Rattle.vt_log.specs.declared.error.LogBad.TheVariants as log_bad
 
+-- the field of a partition's table, as one of a store
 abbrev pub field_of_part : PartField → MountField
 field_of_part part_field.Version = Version
 field_of_part part_field.ArenaSize = ArenaSize
 field_of_part part_field.Count = Count
 
+-- the refusal of a partition of arenas with this number, as one of a store
 abbrev pub of_part : (part : ℕ) → PartBad → MountBad
 of_part part part_bad.Fault = Fault
 of_part part (part_bad.TooSmall len need) = TooSmall part len need
@@ -41,12 +43,14 @@ of_part part (part_bad.Torn field found want) = Disagree part (field_of_part fie
 of_part part (part_bad.DuplicateName first second) = DuplicateName first second
 of_part part part_bad.NoMemory = NoMemory
 
+-- the field of an arena's head, as one of a store
 abbrev pub field_of_arena : ArenaField → MountField
 field_of_arena arena_field.Version = Version
 field_of_arena arena_field.Number = Number
 field_of_arena arena_field.Sealed = Sealed
 field_of_arena arena_field.Used = Used
 
+-- the refusal of an arena in the partition with this number, as one of a store
 abbrev pub of_arena : (part : ℕ) → ArenaBad → MountBad
 of_arena part arena_bad.Fault = Fault
 of_arena part arena_bad.NotFormatted = NotFormatted part
@@ -65,6 +69,7 @@ of_log layout (log_bad.Order arena clumps) = Disagree (partition_of layout arena
 of_log layout log_bad.Fault = Fault
 of_log layout log_bad.NoMemory = NoMemory
 
+-- the refusal of an index section, the part with this number, as one of a store
 abbrev pub of_section : (part : ℕ) → SectBad → MountBad
 of_section part sect_bad.Fault = Fault
 of_section part (sect_bad.TooSmall len need) = TooSmall part len need
@@ -72,11 +77,13 @@ of_section part sect_bad.NotFormatted = NotFormatted part
 of_section part (sect_bad.Torn field found want) = Disagree part Version found want
 of_section part sect_bad.NoMemory = NoMemory
 
+-- the field of a filter's frame, as one of a store
 abbrev pub field_of_filter : BloomField → MountField
 field_of_filter bloom_field.Version = Version
 field_of_filter bloom_field.M = M
 field_of_filter bloom_field.K = K
 
+-- the refusal of a filter, the part with this number, as one of a store
 abbrev pub of_filter : (part : ℕ) → BloomError → MountBad
 of_filter part bloom_error.Fault = Fault
 of_filter part (bloom_error.TooSmall len need) = TooSmall part len need

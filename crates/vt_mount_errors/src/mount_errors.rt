@@ -33,6 +33,7 @@ pub fn of_part(part: u32, bad: PartBad) -> MountBad
     }
 }
 
+/// The field's name for a store, which has fields of all of its parts.
 fn field_of_part(field: PartField) -> MountField
     ensures { result ≡ field_of_part field }
 {
@@ -97,6 +98,7 @@ pub fn of_arena(part: u32, bad: ArenaBad) -> MountBad
     }
 }
 
+/// The field's name for a store, which has fields of all of its parts.
 fn field_of_arena(field: ArenaField) -> MountField
     ensures { result ≡ field_of_arena field }
 {
@@ -148,6 +150,7 @@ pub fn of_filter(part: u32, bad: BloomError) -> MountBad
     }
 }
 
+/// The field's name for a store, which has fields of all of its parts.
 fn field_of_filter(field: BloomField) -> MountField
     ensures { result ≡ field_of_filter field }
 {

@@ -15,6 +15,7 @@ files_of conf = record {
   filter = option_to_list conf.filter;
 }
 
+-- the names of these files, in order
 abbrev pub names_of : List PartFile → List (List ℕ)
 names_of files = map (λ file. file.name) files
 

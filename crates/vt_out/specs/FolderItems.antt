@@ -32,6 +32,7 @@ HaveBytes (other about others) = HaveBytes others
 
 -- ---- how a folder is listed
 
+-- what a listing tells of an item with these facts
 abbrev pub listed_item : Facts → ItemKind → Item
 listed_item about kind = record {
   name = about.name;
@@ -42,6 +43,7 @@ listed_item about kind = record {
   gid = about.gid;
 }
 
+-- what a listing tells of items, in order
 abbrev pub listing_of : Items Facts → List Item
 listing_of none = []
 listing_of (file about bytes others) = listed_item about File ∷ listing_of others
@@ -58,6 +60,7 @@ inside_of name (folder about inside others) =
     if bytes_eq about.name name then Some inside else inside_of name others
 inside_of name (other about others) = inside_of name others
 
+-- the bytes of the first file of this name, if there is one
 abbrev pub bytes_of : (name : List ℕ) → Items Facts → Option (List ℕ)
 bytes_of name none = None
 bytes_of name (file about bytes others) =
@@ -65,10 +68,12 @@ bytes_of name (file about bytes others) =
 bytes_of name (folder about inside others) = bytes_of name others
 bytes_of name (other about others) = bytes_of name others
 
+-- what is in the folder at this path, if there is one
 abbrev pub folder_at : (path : List (List ℕ)) → Items Facts → Option (Items Facts)
 folder_at [] items = Some items
 folder_at (name ∷ path) items = option_and_then (folder_at path) (inside_of name items)
 
+-- the bytes of the file at this path, if there is one
 abbrev pub file_at : (path : List (List ℕ)) → Items Facts → Option (List ℕ)
 file_at [] items = None
 file_at (name ∷ []) items = bytes_of name items

@@ -9,6 +9,7 @@ use Rattle.vt_out.specs.declared.mem_folder.MemItem.TheOpen.{MemItem-F, File, Fo
 use Rattle.vt_out.specs.declared.folder_item.Facts.{Facts}
 use Rattle.vt_out.specs.FolderItems.{Items, none, file, folder, other, folder_at, file_at}
 
+-- the bytes of a file in memory
 abbrev pub content_bytes : MemContent → List ℕ
 content_bytes content = content.bytes.items
 
@@ -36,6 +37,7 @@ pub record FolderMemory : Type 0 where
   pub calls : ℕ
   pub faults : ℕ
 
+-- what contracts see of a folder in memory: its items, and the plan and the counts of its calls
 abbrev pub state_of : MemFolder → FolderMemory
 state_of m = record {
   items = items_in_memory m.items.items;
@@ -49,6 +51,7 @@ state_of m = record {
 abbrev pub FailsToList : FolderMemory → (path : List (List ℕ)) → Type 0
 FailsToList m path = Contains m.failing m.calls ⊎ (folder_at path m.items ≡ None)
 
+-- the next read of a file at this path fails: by the plan, or since there is none
 abbrev pub FailsToRead : FolderMemory → (path : List (List ℕ)) → Type 0
 FailsToRead m path = Contains m.failing m.calls ⊎ (file_at path m.items ≡ None)
 

@@ -13,6 +13,7 @@ name_of folders = folders.name
 abbrev pub waiting_of : MemFolders → Option MemFolder
 waiting_of folders = waiting_in folders.place
 
+-- the folder in memory behind its use, if it is back
 abbrev pub back_of : MemFolders → Option MemFolder
 back_of folders = back_in folders.place
 

@@ -1,4 +1,4 @@
-//! The time.
+//! The time, as a trait (`Clock`), and a clock that stands still.
 
 ghost use Rattle.std.specs.Prelude.{◌≡◌, ℕ, Bool, IsTrue};
 
@@ -12,6 +12,7 @@ pub trait Clock {
     /// The time that it gives next, where it tells it.
     ghost time: { Self → ℕ };
 
+    /// The time, in seconds since 1970.
     fn now(&mut self) -> u32
         ensures { IsTrue tells → result ≡ time self.old };
 }

@@ -89,6 +89,7 @@ impl Listing {
         self.items
     }
 
+    /// Lends the items, in the order in which the folder listed them.
     pub fn as_slice(&self) -> &[Item]
         ensures { result.now ≡ self.now }
     {

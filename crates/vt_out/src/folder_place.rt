@@ -1,4 +1,4 @@
-//! Where a folder in memory is.
+//! Where a folder in memory is: not handed out yet, in use, or back.
 
 use crate::MemFolder;
 use std::mem;

@@ -12,6 +12,7 @@ use vt_base::Text;
 
 /// Hands out folders by name, each to one holder at a time, and takes them back.
 pub trait Folders {
+    /// What a folder is handed out as.
     type Folder: Folder + Drop;
 
     /// Whether folders of this type tell what stands under which name. Those of the system don't.

@@ -27,6 +27,7 @@ impl MemContent {
         MemContent { bytes }
     }
 
+    /// Lends the file's bytes.
     pub fn as_slice(&self) -> &[u8]
         ensures { result.now ≡ content_bytes self.now }
     {
@@ -47,7 +48,9 @@ pub enum MemItem {
 #[derive(Drop)]
 pub struct MemFolder {
     items: Vec<MemItem>,
+    /// The most bytes that one read of a file gives; 0 counts as 1.
     most: usize,
+    /// The numbers of the calls that fail.
     failing: Vec<u64>,
     calls: u64,
     faults: u64,
@@ -95,7 +98,7 @@ impl MemFolder {
         folder
     }
 
-    /// What it holds.
+    /// The items that it holds, with all that is in them.
     pub fn items(&self) -> &[MemItem]
         ensures { items_in_memory result.now ≡ (state_of self.now).items }
     {
@@ -129,7 +132,7 @@ impl MemFolder {
     ghost use Rattle.vt_base.specs.Faults.{HasRisen};
     ghost use Rattle.vt_out.specs.FolderMemory.{state_of, Leaves};
 
-    /// Counts a call, and its fault.
+    /// Counts a call, and where it fails a fault too.
     fn count(&mut self, failed: bool)
         ensures left { Leaves (state_of self.old) (state_of self.new) }
         ensures faults { MatchBool failed

@@ -11,6 +11,7 @@ use vt_base::Failed;
 #[derive(Drop)]
 pub struct MemSink {
     content: Vec<u8>,
+    /// The most bytes that it takes in all.
     room: usize,
     plan: Plan,
     ghost content_fits: { length content.items ≤ room },
@@ -112,6 +113,7 @@ impl Sink for MemSink {
         let fails = self.plan.lists_next() || spare < piece.len();
         self.plan.count(fails);
         if fails {
+            // (a put that fails takes half of the piece, so that tests see what was cut)
             let half = (piece.len() / 2).min(spare);
             append(&mut self.content, &piece[..half]);
             return Err(Failed);

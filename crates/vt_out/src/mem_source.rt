@@ -13,7 +13,9 @@ use vt_base::Failed;
 #[derive(Drop)]
 pub struct MemSource {
     content: Vec<u8>,
+    /// How many bytes were given.
     given: usize,
+    /// The most bytes that each call gives, in turn; no bound where there are none.
     pieces: Vec<usize>,
     plan: Plan,
     ghost given_fits: { given ≤ length content.items },

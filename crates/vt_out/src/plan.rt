@@ -1,4 +1,4 @@
-//! Which calls of a fake fail.
+//! Which calls of a fake fail: those whose numbers, counted from 0, a list has.
 
 ghost use Rattle.std.specs.Prelude.{◌≡◌, ◌↔◌, ◌+◌, ◌-◌, ◌<◌, ◌^◌, min};
 ghost use Rattle.std.specs.Prelude.{IsTrue, Contains, MatchBool};
@@ -34,7 +34,7 @@ impl Plan {
         self.failing.contains(&self.calls)
     }
 
-    /// Counts a call, and its fault.
+    /// Counts a call, and where it failed a fault too.
     pub fn count(&mut self, failed: bool)
         ensures failing { self.new.failing ≡ self.old.failing }
         ensures calls { IsOneMore self.old.calls self.new.calls }

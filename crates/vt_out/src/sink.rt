@@ -1,4 +1,4 @@
-//! Bytes that go out.
+//! Bytes that go out, as a trait (`Sink`).
 
 ghost use Rattle.std.specs.Prelude.{◌≡◌, ◌<◌, ◌^◌, ◌++◌, ℕ, Bool, List, IsTrue, OnOk, OnErr};
 ghost use Rattle.vt_base.specs.Faults.{HasCause};

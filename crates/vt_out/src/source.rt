@@ -1,4 +1,4 @@
-//! Bytes that come in.
+//! Bytes that come in, as a trait (`Source`).
 
 ghost use Rattle.std.specs.Prelude.{◌≡◌, ◌≤◌, ◌<◌, ◌^◌, ◌++◌, ℕ, Bool, IsTrue, IfOk, OnErr};
 ghost use Rattle.std.specs.Prelude.{List, [], length, take, drop};

@@ -9,13 +9,15 @@ use Rattle.vt_part.specs.declared.error.PartBad.{PartBad}
 use Rattle.vt_part.specs.declared.error.PartBad.TheVariants.{Fault, TooSmall, NotFormatted, Torn, DuplicateName, NoMemory}
 use Rattle.vt_part.specs.Table.{is_arena_size, IsArenaSize, start_by}
 
--- What the fields say, by their places.
+-- the version field of a head (the fields here are by their places)
 abbrev pub version_in : List ℕ → ℕ
 version_in head = big_number 2 (drop 4 head)
 
+-- the field of a partition's head with the bytes of each arena
 abbrev pub arena_size_in : List ℕ → ℕ
 arena_size_in head = big_number 8 (drop 70 head)
 
+-- the field of a partition's head that counts its arenas
 abbrev pub count_in : List ℕ → ℕ
 count_in head = big_number 4 (drop 78 head)
 

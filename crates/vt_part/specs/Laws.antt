@@ -31,10 +31,12 @@ PartitionsStay = (t : Table) (old new : List ℕ) → SameBut (λ i. BLOCK_LEN �
 abbrev pub ArenasFollow : Type 0
 ArenasFollow = (t : Table) (i j : ℕ) → i < j → start_of t i + t.arena_size ≤ start_of t j
 
+-- each arena lies behind the partition's head, and before the end of its arenas
 abbrev pub ArenasAreInside : Type 0
 ArenasAreInside = (t : Table) (i : ℕ) → i < t.count
     → (BLOCK_LEN ≤ start_of t i) × (start_of t i + t.arena_size ≤ arenas_end t)
 
+-- each arena begins and ends at a multiple of the alignment
 abbrev pub ArenasAreAligned : Type 0
 ArenasAreAligned = (t : Table) (i : ℕ) → IsTable t
     → IsAligned (start_of t i) × IsAligned t.arena_size
@@ -49,6 +51,7 @@ abbrev pub IsBefore : (a b : ArenaRegion) → Type 0
 IsBefore a b = (a.part < b.part)
     ⊎ ((a.part ≡ b.part) × (a.region.start + a.region.len ≤ b.region.start))
 
+-- each region of a layout is that of an arena in one of the tables
 abbrev pub LayoutsHaveArenas : Type 0
 LayoutsHaveArenas = (tables : List Table) → All (IsArenaOfTable tables) (layout_of tables)
 
@@ -58,9 +61,11 @@ LayoutsListArenas = (tables : List Table) (part number : ℕ) (t : Table)
     → slice_get tables part ≡ Some t → number < t.count
     → Contains (layout_of tables) (arena_of part t number)
 
+-- a layout has as many regions as the tables have arenas
 abbrev pub LayoutsHaveLengths : Type 0
 LayoutsHaveLengths = (tables : List Table)
     → length (layout_of tables) ≡ sum_by (λ t. t.count) tables
 
+-- the regions of a layout follow each other and don't overlap
 abbrev pub LayoutsAreInOrder : Type 0
 LayoutsAreInOrder = (tables : List Table) → AllPairs IsBefore (layout_of tables)

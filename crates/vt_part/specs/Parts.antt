@@ -17,6 +17,7 @@ table_in head = record {
 abbrev pub table_of : {D : Type 0} → Part D → Table
 table_of part = table_in part.head
 
+-- the disk that a partition is on
 abbrev pub disk_of : {D : Type 0} → Part D → D
 disk_of part = part.disk
 
@@ -24,6 +25,7 @@ disk_of part = part.disk
 abbrev pub tables_of : {D : Type 0} → List (Part D) → List Table
 tables_of parts = map (λ part. table_of part) parts
 
+-- the names of partitions, in order
 abbrev pub names_of : {D : Type 0} → List (Part D) → List (List ℕ)
 names_of parts = map (λ part. (table_of part).name) parts
 

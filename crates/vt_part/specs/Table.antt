@@ -30,6 +30,7 @@ pub record IsPartName (name : List ℕ) : Type 0 where
 abbrev pub is_arena_size : ℕ → Bool
 is_arena_size n = n % BLOCK_LEN == 0 && nat_le LEAST_ARENA n && nat_le n MOST_ARENA
 
+-- an arena may have so many bytes
 abbrev pub IsArenaSize : ℕ → Type 0
 IsArenaSize n = IsTrue (is_arena_size n)
 
@@ -66,6 +67,7 @@ start_by arena_size number = BLOCK_LEN + number * arena_size
 abbrev pub start_of : Table → (number : ℕ) → ℕ
 start_of t number = start_by t.arena_size number
 
+-- the place behind the partition's last arena
 abbrev pub arenas_end : Table → ℕ
 arenas_end t = start_of t t.count
 

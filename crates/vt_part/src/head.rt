@@ -1,4 +1,4 @@
-//! The table in block 0.
+//! The table in block 0 of a partition, which names it and counts its arenas.
 
 ghost use Rattle.std.specs.Prelude.{◌≡◌, ◌<◌, ◌≤◌, None, Some, MatchResult, IfOk, IfErr, length, take};
 ghost use Rattle.vt_disk.specs.declared.TheConstants.{NAME_LEN};
@@ -17,8 +17,11 @@ use vt_disk::{BLOCK_LEN, LEAST_ARENA, NAME_LEN};
 pub struct Head {
     /// The name, filled up with zeros.
     pub field: [u8; NAME_LEN],
+    /// How many of these bytes are the name.
     pub name_len: usize,
+    /// How many bytes each arena has.
     pub arena_size: u64,
+    /// How many arenas there are.
     pub count: u32,
     ghost within: { name_len ≤ NAME_LEN },
     ghost allowed: { IsTable (record {
@@ -41,6 +44,7 @@ impl Head {
             (λ bad. first_bad_part len head.now ≡ Some bad) }
         ensures differs { IfErr result (NamesPartCause len) }
     {
+        // (the places of the fields: docs/FORMATS.md, Partitions of arenas)
         if head[..4] != b"VPRT"[..] {
             return Err(PartBad::NotFormatted);
         }
@@ -71,7 +75,7 @@ impl Head {
     }
 }
 
-/// A field that can't stand there.
+/// The refusal of a field of block 0, with what stands there and what had to.
 fn torn(field: Field, found: u64, want: u64) -> PartBad
     ensures { result ≡ PartBad.Torn field found want }
 {

@@ -46,6 +46,7 @@ impl Layout {
         self.arenas
     }
 
+    /// Lends the regions of the arenas, in their order on the disk.
     pub fn as_slice(&self) -> &[ArenaRegion]
         ensures { result.now ≡ self.now }
     {

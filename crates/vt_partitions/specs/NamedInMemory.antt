@@ -10,6 +10,7 @@ abbrev pub standing_of : {D : Type 0} → Option D → Standing D
 standing_of None = lent
 standing_of (Some disk) = there disk
 
+-- whether a partition in memory has this name
 abbrev pub has_name : {D : Type 0} → (name : List ℕ) → MemPart D → Bool
 has_name name part = bytes_eq part.name name
 

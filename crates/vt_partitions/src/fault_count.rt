@@ -1,4 +1,4 @@
-//! The count of failed calls.
+//! The count of failed calls of partitions in memory.
 
 ghost use Rattle.std.specs.Prelude.{◌<◌, ◌^◌};
 
@@ -13,6 +13,7 @@ impl Faults {
     ghost use Rattle.std.specs.Prelude.{◌≡◌};
     ghost use Rattle.vt_base.specs.Faults.{HasRisen};
 
+    /// No call has failed.
     pub fn new() -> Self
         ensures { result.count ≡ 0 }
     {

@@ -16,6 +16,7 @@ use vt_disk::Disk;
 #[derive(Drop)]
 pub struct MemPart<D> {
     pub name: Text,
+    /// None while it is handed out.
     pub disk: Option<D>,
 }
 

@@ -11,6 +11,7 @@ use vt_disk::Disk;
 
 /// Hands out partitions by name, each to one holder at a time, and takes them back.
 pub trait Parts {
+    /// What a partition is handed out as.
     type Disk: Disk + Drop;
 
     /// Whether partitions of this type tell what stands under which name. Those of the system don't.

@@ -13,6 +13,8 @@ use vt_commands::{end, run};
 use vt_handler::Streams;
 use vt_host::{FileParts, StdClock, StdDialer, StdFiles, StdFolders, StdSink, StdSource};
 
+/// Hands the system's streams, files, folders, connections and clock to `run` of `vt_commands`, and
+/// ends by the status that it tells.
 fn main(rt: HostRuntime) -> ExitCode {
     let mut host = Outside {
         streams: Streams {

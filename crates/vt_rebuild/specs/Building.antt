@@ -20,6 +20,7 @@ use Rattle.vt_rebuild.specs.declared.error.RebuildBad.TheVariants.{Fault, IndexF
 use Rattle.vt_rebuild.specs.Walking.{is_rebuild_fault}
 use Rattle.vt_rebuild.specs.Rebuilt.{EachSection, IsBeingBuilt, IsFirstFull, IsUnwrittenSection, counts_of}
 
+-- the disks that the sections are on
 abbrev pub disks_under : {D : Type 0} → List (SectionState D) → List D
 disks_under sections = map (λ section. section.disk) sections
 
@@ -30,6 +31,7 @@ pub record IsBuildBegun {D : Type 0} (disk : DiskOf D) (first total : ℕ) (old 
   pub built : IsBeingBuilt disk first total old new
   pub calls : IsTrue disk.tells → disk.calls new.disk ≤ disk.calls old.disk + 4
 
+-- rebuilding has begun in each section
 abbrev pub AreBegun : {D : Type 0} → DiskOf D → (total : ℕ) → (olds news : List (SectionState D))
     → Type 0
 AreBegun disk total olds news = EachSection (λ first. IsBuildBegun disk first total) olds news
@@ -91,6 +93,7 @@ pub record IsToFinish {D : Type 0} (total : ℕ) (t : SectionState D) : Type 0 w
   pub within : t.head.first + t.buckets ≤ total
   pub next : t.next ≡ t.head
 
+-- each section is filled, and its head has yet to say so
 abbrev pub AreToFinish : {D : Type 0} → (total : ℕ) → List (SectionState D) → Type 0
 AreToFinish total sections = All (IsToFinish total) sections
 
@@ -137,6 +140,7 @@ pub record IsStoppedBuild {D : Type 0} (score : List ℕ → List ℕ) (disk : D
 
 -- ---- all of them
 
+-- each section has the entries of its buckets, and is in use
 abbrev pub AreFinished : {D : Type 0} → (List ℕ → List ℕ) → DiskOf D → Setup → History
     → (olds news : List (SectionState D)) → Type 0
 AreFinished score disk c h olds news = EachSection (λ first. IsFinished score disk c h) olds news

@@ -22,6 +22,7 @@ use Rattle.vt_rebuild.specs.Heads.{IsSameSection, StopsAtHead, head_in}
 abbrev pub counts_of : {D : Type 0} → List (SectionState D) → List ℕ
 counts_of sections = map (λ section. section.buckets) sections
 
+-- the setup of a store of this log and these sections
 abbrev pub setup_with : {D : Type 0} → LogState D → List (SectionState D) → Setup
 setup_with l sections = record (setup_of_log l) { sections = counts_of sections }
 
@@ -94,6 +95,8 @@ IsHalfRebuilt score disk c h first old new =
 
 -- ---- all sections, each with the number of its first bucket
 
+-- there are as many sections as there were, and between each and what it was this holds, by the
+-- number of its first bucket
 pub record EachSection {D : Type 0} (R : (first : ℕ) → (old new : SectionState D) → Type 0)
     (olds news : List (SectionState D)) : Type 0 where
   pub many : length news ≡ length olds

@@ -25,8 +25,11 @@ use vt_log::Log;
 /// The entries of the blocks of some buckets, of so many: those from `first` on and before `end`.
 #[derive(Drop)]
 pub(crate) struct Gathered {
+    /// How many buckets all sections have.
     pub(crate) total: u32,
+    /// The first of the buckets, over all sections.
     pub(crate) first: u32,
+    /// The bucket behind the last of them.
     pub(crate) end: u32,
     /// In the order of their buckets.
     pub(crate) entries: Vec<Entry>,

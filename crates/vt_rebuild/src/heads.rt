@@ -51,6 +51,7 @@ pub(crate) fn begin_all<D: Disk>(sections: &mut [Section<D>], total: u32) -> Res
 {
     let mut first = 0;
     for section in sections.iter_mut() {
+        // (state 2: the section is being built, and isn't mounted)
         let head = Head {
             state: 2,
             first,

@@ -92,6 +92,7 @@ OpensFilter disk None bloom bits = (bloom ≡ None) × (bits.m ≡ 16) × (bits.
 OpensFilter {D} disk (Some device) bloom bits =
     (b : BloomState D) × (bloom ≡ Some b) × IsFilterOpened disk device b bits
 
+-- the filter's device, as opening the filter left it
 abbrev pub filter_after : {D : Type 0}
     → Result (Option (BloomState D) × Filter) (MountBad × Option D) → Option D
 filter_after (Ok opened) = option_map (λ b. b.disk) opened.0

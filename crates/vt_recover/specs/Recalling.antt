@@ -38,6 +38,7 @@ pub record Opened (D : Type 0) : Type 0 where
   pub shards : List (ShardState D)
   pub bits : Filter
 
+-- a store that was found: its log, its shards and its filter's bits
 abbrev pub opened : {D : Type 0} → LogState D → List (ShardState D) → Filter → Opened D
 opened log shards bits = record { log = log; shards = shards; bits = bits }
 
@@ -138,6 +139,7 @@ abbrev pub IsDamagedBucket : (n : ℕ) → (want found : FieldValue) → Type 0
 IsDamagedBucket n want found = (frame : List ℕ) × (group : List Entry)
     × IsDamage n group frame (shard_err.Damaged n want found)
 
+-- what is told as damaged is: a clump of this arena, or this bucket
 abbrev pub IsDamagedAt : {D : Type 0} → DiskOf D → LogState D → Site → (want found : FieldValue)
     → Type 0
 IsDamagedAt disk l (Clump place) want found = IsDamagedIn disk l place.arena want found

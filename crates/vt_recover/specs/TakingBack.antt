@@ -43,6 +43,7 @@ abbrev pub CountsRose : MountBad → (old new : ℕ) → Type 0
 CountsRose Fault old new = HasRisen old new
 CountsRose bad old new = new ≡ old
 
+-- a fault is told only where the shard's device counted a failed call
 abbrev pub CountsShard : {U : Type 0} → Result U MountBad → (old new : ℕ) → Type 0
 CountsShard (Ok done) old new = new ≡ old
 CountsShard (Err bad) old new = CountsRose bad old new

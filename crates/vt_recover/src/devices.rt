@@ -1,4 +1,4 @@
-//! What a store stands on.
+//! The devices that a store stands on, and how they are had back of it.
 
 ghost use Rattle.std.specs.Prelude.{◌≡◌, ◌+◌, ◌≤◌, ◌++◌, length, map, reverse, vec_capacity};
 ghost use Rattle.std.specs.Option.{option_map};

@@ -23,6 +23,7 @@ use vt_shard::{Shard, Sizes};
 /// The counts of a filter that has no device.
 const M: u8 = 16;
 
+/// How many bits a score has in it.
 const K: u8 = 8;
 
 /// The sections of these devices, the first of which is this part of the store; beside them, the

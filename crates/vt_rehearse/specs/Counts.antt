@@ -40,6 +40,7 @@ with_read is_found s =
     if is_found then record (with_events 1 s) { reads = s.reads + 1; found = s.found + 1 }
     else record (with_events 1 s) { reads = s.reads + 1; missing = s.missing + 1 }
 
+-- the summary with one sync more
 abbrev pub with_synced : Summary → Summary
 with_synced s = record s { syncs = s.syncs + 1 }
 

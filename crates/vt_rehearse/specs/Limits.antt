@@ -15,6 +15,7 @@ ROUNDS_MOST = 2 ^ 62
 abbrev pub MOST : ℕ
 MOST = 2 ^ 63
 
+-- a bound of each count, far enough below 2 ^ 64 that a round's own counts fit above it
 abbrev pub LIMIT : ℕ
 LIMIT = 2 ^ 64 - 2 ^ 8
 

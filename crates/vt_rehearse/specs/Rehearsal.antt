@@ -87,6 +87,7 @@ IsWordRead word listed is_found said =
     (Contains listed word × (is_found ≡ true) × (said ≡ Block (word_of word)))
     ⊎ ((¬ Contains listed word) × (is_found ≡ false) × (said ≡ Refused Absent))
 
+-- a session reads the block of a word, and finds it or not, which the plain list says too
 pub record ReadsWord {D : Type 0} (score : List ℕ → List ℕ) (disk : DiskOf D)
     (session word : ℕ) (listed : List ℕ) (is_found : Bool) (old new : CoreState D) : Type 0 where
   pub request : Asked

@@ -8,6 +8,7 @@ use Rattle.vt_rehearse.specs.declared.TheConstants.{SESSIONS, SHARDS}
 use Rattle.vt_rehearse.specs.declared.words.TheConstants.{WORDS}
 use Rattle.vt_rehearse.specs.Draws.{drawn, next_draw}
 
+-- what a crash leaves, by a number below 4
 abbrev pub mode_of : ℕ → CrashMode
 mode_of n = if n == 0 then Synced else if n == 1 then Written
     else if n == 2 then EvenWritten else Garbled
@@ -38,6 +39,7 @@ behind kind x =
 abbrev pub round_at : (x : ℕ) → Round
 round_at x = round_of (drawn x 16) (next_draw x)
 
+-- the number behind those that a round was drawn by
 abbrev pub behind_round : (x : ℕ) → ℕ
 behind_round x = behind (drawn x 16) (next_draw x)
 

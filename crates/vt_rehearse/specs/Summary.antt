@@ -43,18 +43,22 @@ IsRehearsalOf = IsRehearsal sha1 memory_disk LeavesMemory
 
 -- ---- how the numbers of a summary fit together
 
+-- whether the round writes
 abbrev pub is_write : Round → Bool
 is_write (Write session word) = true
 is_write _ = false
 
+-- whether the round reads
 abbrev pub is_read : Round → Bool
 is_read (Read session word) = true
 is_read _ = false
 
+-- whether the round syncs
 abbrev pub is_sync : Round → Bool
 is_sync (Sync session) = true
 is_sync _ = false
 
+-- whether the round is a crash
 abbrev pub is_crash : Round → Bool
 is_crash (Crash mode) = true
 is_crash _ = false

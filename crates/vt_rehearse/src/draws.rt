@@ -1,4 +1,4 @@
-//! Numbers that follow from a number.
+//! The numbers that a rehearsal is drawn by, which follow from its seed.
 
 ghost use Rattle.std.specs.Prelude.{◌≡◌, ◌<◌, ℕ};
 ghost use Rattle.vt_rehearse.specs.Draws.{drawn, next_draw};
@@ -39,6 +39,7 @@ impl Draws {
             .x
             .wrapping_mul(6_364_136_223_846_793_005)
             .wrapping_add(1_442_695_040_888_963_407);
+        // (the low bits of such a sequence repeat soon, so the highest 31 are taken)
         (self.x >> 33) as u32 % below
     }
 }

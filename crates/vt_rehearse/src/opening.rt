@@ -1,4 +1,4 @@
-//! The store of a rehearsal.
+//! The store of a rehearsal: its shape, its caches, and how it is mounted.
 
 ghost use Rattle.std.specs.Prelude.{◌+◌, ◌^◌, ◌<◌, ◌≤◌, All, IfOk, length};
 ghost use Rattle.vt_base.specs.declared.mount.MountBad.{MountBad};

@@ -1,4 +1,5 @@
-//! Reads.
+//! The rounds of a rehearsal that read: a session asks for a word, and what it is told is compared
+//! with the plain list.
 
 ghost use Rattle.std.specs.Prelude.{◌≡◌, ◌≢◌, ◌<◌, IfOk, OnOk, Bool};
 ghost use Rattle.vt_base.specs.declared.answer.Said.{Said};
@@ -84,7 +85,7 @@ fn look_up<D: Disk, S: Scorer>(
     Ok(is_block(&said))
 }
 
-/// Asks for a word.
+/// Asks the store for a word's block, in a session.
 fn ask_to_read<D: Disk, S: Scorer>(
     stage: &mut Stage<D, S>,
     alloc: Global,

@@ -1,4 +1,4 @@
-//! Rehearsals.
+//! Rehearsals: the store is made, the rounds are drawn and done one after another, and counted.
 
 ghost use Rattle.sha1.specs.Sha1.{sha1};
 ghost use Rattle.std.specs.Prelude.{◌≡◌, IfOk};
@@ -55,6 +55,7 @@ pub fn rehearse<P: Progress>(
     rehearse_on(alloc, devices, Sha1Scorer, progress, seed, count)
 }
 
+/// Rehearses on newly formatted devices in memory, with any scorer.
 fn rehearse_on<D: Crashable, S: Scorer + Copy + Drop, P: Progress>(
     alloc: Global,
     devices: Devices<D>,
@@ -83,6 +84,7 @@ fn rehearse_on<D: Crashable, S: Scorer + Copy + Drop, P: Progress>(
     Ok(summary)
 }
 
+/// Makes one round behind the other. Each is drawn from the seed and its number.
 fn make_rounds<D: Crashable, S: Scorer + Copy + Drop, P: Progress>(
     mut stage: Stage<D, S>,
     alloc: Global,
@@ -108,7 +110,7 @@ fn make_rounds<D: Crashable, S: Scorer + Copy + Drop, P: Progress>(
     Ok(stage)
 }
 
-/// Makes a round.
+/// Does one round, each as its kind says.
 fn make<D: Crashable, S: Scorer + Copy + Drop>(
     mut stage: Stage<D, S>,
     alloc: Global,

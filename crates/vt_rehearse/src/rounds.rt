@@ -1,4 +1,4 @@
-//! What is done in each round.
+//! What is done in each round of a rehearsal, and how that is drawn.
 
 ghost use Rattle.std.specs.Prelude.{◌≡◌};
 ghost use Rattle.vt_rehearse.specs.Rounds.{IsDrawn, round_at, behind_round};
@@ -28,12 +28,14 @@ pub enum Round {
 }
 
 impl Round {
-    /// The next one that is drawn.
+    /// The next round, of numbers that are drawn.
     pub fn draw(draws: &mut Draws) -> Self
         ensures round { result ≡ round_at draws.old }
         ensures drawn { IsDrawn result }
         ensures behind { draws.new ≡ behind_round draws.old }
     {
+        // (Of sixteen rounds, six write, three read, two commit, and one each does the others.
+        // There are 3 sessions, 64 words, 2 shards and 4 modes of a crash.)
         match draws.draw(16) {
             0..=5 => Round::Write {
                 session: draws.draw(3),

@@ -28,6 +28,7 @@ use vt_disk::Disk;
 #[derive(Drop)]
 pub(crate) struct Stage<D: Disk, S: Scorer> {
     pub(crate) core: Core<D, S>,
+    /// The numbers of the words that were accepted, in order.
     pub(crate) listed: Vec<u32>,
     pub(crate) summary: Summary,
 }

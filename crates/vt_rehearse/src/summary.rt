@@ -1,4 +1,4 @@
-//! What is counted.
+//! What a rehearsal counts, as it is printed at the end.
 
 ghost use Rattle.std.specs.Prelude.{◌≡◌};
 ghost use Rattle.vt_rehearse.specs.Counts.{nothing_done};
@@ -20,7 +20,9 @@ pub struct Summary {
     pub found: u64,
     /// Those for which there was none.
     pub missing: u64,
+    /// How many syncs were answered.
     pub syncs: u64,
+    /// How often all devices crashed.
     pub crashes: u64,
     /// Blocks that crashes cut off.
     pub lost: u64,

@@ -1,4 +1,4 @@
-//! The blocks that are written and read.
+//! The words of a rehearsal: the 64 blocks that it writes and reads.
 
 ghost use Rattle.std.specs.Prelude.{◌≡◌, ◌<◌};
 ghost use Rattle.vt_rehearse.specs.Words.{word_of};

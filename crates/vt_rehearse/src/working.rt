@@ -1,4 +1,4 @@
-//! Syncs, and the store's own work.
+//! The rounds of a rehearsal that sync, and those in which the store does a piece of its own work.
 
 ghost use Rattle.std.specs.Prelude.{◌≡◌, ◌+◌, ◌<◌, ◌≤◌, ℕ, [], ◌∷◌};
 ghost use Rattle.vt_core.specs.Core.{history_len};

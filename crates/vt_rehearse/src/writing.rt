@@ -1,4 +1,5 @@
-//! Writes.
+//! The rounds of a rehearsal that write: a session hands in a word, and what it is told is compared
+//! with the plain list.
 
 ghost use Rattle.std.specs.Prelude.{◌≡◌, ◌≢◌, ◌<◌, Bool, OnOk};
 ghost use Rattle.vt_base.specs.declared.answer.Said.{Said};

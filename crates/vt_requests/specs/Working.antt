@@ -143,5 +143,6 @@ left_in durable s (Some below) = calls_left s.section
 abbrev pub left_with : {D : Type 0} → LogState D → ShardState D → ℕ
 left_with log s = owed log * (most_left s + 1) + left_in log.durable s s.writeback
 
+-- a bound of how many events a shard's writeback takes from here on
 abbrev pub work_left : {D : Type 0} → (shard : ℕ) → CoreState D → ℕ
 work_left shard k = option_map_or (λ s. left_with k.log s) (slice_get k.shards shard) 0

@@ -18,6 +18,7 @@ use vt_handler::Store;
 #[derive(Drop)]
 pub struct Driven<D: Disk, S: Scorer> {
     core: Core<D, S>,
+    /// The time of the clumps that it adds, in seconds since 1970.
     now: u32,
 }
 

@@ -92,7 +92,7 @@ fn save_filter<D: Disk, S: Scorer>(core: &mut Core<D, S>, alloc: Global) -> Resu
     }
 }
 
-/// The first failure of two.
+/// The first failure of two steps, by which the end of the use is told.
 fn first_of(first: Result<(), Why>, second: Result<(), Why>) -> Result<(), Why>
     ensures { result ≡ first_of first second }
 {

@@ -10,6 +10,7 @@ use Rattle.vt_session.specs.declared.parsed.Left.{Left}
 use Rattle.vt_session.specs.Heard.{Item, heard_item, greets, Unheard, Hears}
 use Rattle.vt_session.specs.Hearing.{Hearing, going_on, over, MatchNext}
 
+-- what isn't heard yet of a connection, as contracts see what the talker has left
 abbrev pub unheard : Left → Unheard
 unheard left = record {
   offered = left.offered;

@@ -24,6 +24,7 @@ stage_of (BehindLine offered greeted) place bytes =
     (record { offered = offered; greeted = greeted; place = place; bytes = bytes }))
 stage_of (Over ended) place bytes = behind_line (over ended)
 
+-- how far a session has come, as contracts see a talker
 abbrev pub talking_of : Inside → Talking
 talking_of t = record {
   stage = stage_of t.phase t.place t.waiting;
@@ -45,6 +46,7 @@ IsPhaseBehind left next (BehindLine offered greeted) =
     × (greeted ≡ (left.greeted || is_hello next))
 IsPhaseBehind left next (Over ended) = next ≡ End ended
 
+-- The invariant of a talker: few enough bytes wait, and they fit the phase.
 pub record IsKeptTalker (t : Inside) : Type 0 where
   pub counted : t.place + length t.waiting ≤ spent_len
   pub fits : length t.waiting ≤ LONGEST

@@ -37,6 +37,7 @@ abbrev pub with_more : Hearing → List ℕ → Hearing
 with_more (going_on left) more = going_on (record left { bytes = left.bytes ++ more })
 with_more (over ended) more = over ended
 
+-- the stage with more bytes that came in
 abbrev pub stage_with : Stage → List ℕ → Stage
 stage_with (at_line bytes) more = at_line (bytes ++ more)
 stage_with (behind_line hearing) more = behind_line (with_more hearing more)
@@ -49,6 +50,7 @@ line_heard bytes (Whole len offered) =
 line_heard bytes More = at_line bytes
 line_heard bytes (Bad place) = behind_line (over (Malformed place))
 
+-- the same where a client's line may be whole with them
 abbrev pub fed_stage : Stage → List ℕ → Stage
 fed_stage (at_line bytes) piece = line_heard (bytes ++ piece) (line_of (bytes ++ piece))
 fed_stage (behind_line hearing) piece = behind_line (with_more hearing piece)
@@ -58,6 +60,7 @@ pub record Talking : Type 0 where
   pub stage : Stage
   pub taken : ℕ
 
+-- the session with one piece more that came in
 abbrev pub fed : Talking → List ℕ → Talking
 fed talking piece = record {
   stage = fed_stage talking.stage piece;
@@ -103,11 +106,13 @@ PassesItem old new item =
     → HearsStage (stage_with new more) items ended
     → HearsStage (stage_with old more) (item ∷ items) ended)
 
+-- nothing more is heard, and that is so whatever comes in behind it
 abbrev pub PassesEnd : Stage → Stage → Ended → Type 0
 PassesEnd old new ended =
     (new ≡ behind_line (over ended))
     × ((more : List ℕ) → AreBytes more → HearsStage (stage_with old more) [] ended)
 
+-- what was heard next, an item or the end, and the stage behind it
 abbrev pub Passes : Next → Stage → Stage → Type 0
 Passes next old new = MatchNext next (PassesItem old new) (PassesEnd old new)
 

@@ -18,6 +18,7 @@ pub data Turn : Type 0 where
   served : (tag : ℕ) (operation : Operation) (number : ℕ) (outcome : Outcome) → Turn
   failed : (tag : ℕ) (operation : Operation) (number : ℕ) (cause : Cause) → Turn
 
+-- the item that a turn answers
 abbrev pub item_of_turn : Turn → Item
 item_of_turn (told tag reply) = settled tag reply
 item_of_turn (served tag operation number outcome) = asked tag operation
@@ -31,6 +32,7 @@ spelled_turn (failed tag operation number cause) = spelled_reply tag (r_refused 
 
 -- ---- what a list of turns tells
 
+-- the items that turns answer
 abbrev pub items_of_turns : List Turn → List Item
 items_of_turns turns = map item_of_turn turns
 
@@ -38,9 +40,11 @@ items_of_turns turns = map item_of_turn turns
 abbrev pub server_line : List ℕ
 server_line = codes "venti-02-rattle" ++ 10 ∷ []
 
+-- what goes out, piece by piece: the server's line, and each reply
 abbrev pub said_pieces : List Turn → List (List ℕ)
 said_pieces turns = server_line ∷ map spelled_turn turns
 
+-- all bytes that go out
 abbrev pub output_of : List Turn → List ℕ
 output_of turns = server_line ++ flat_map spelled_turn turns
 
@@ -50,15 +54,18 @@ added_by_turn (told tag reply) = []
 added_by_turn (served tag operation number outcome) = option_to_list outcome.added
 added_by_turn (failed tag operation number cause) = []
 
+-- the blocks that these turns added, in order
 abbrev pub added_of : List Turn → List Accepted
 added_of turns = flat_map added_by_turn turns
 
+-- of how many blocks the answer tells, where the turn added one
 abbrev pub added_number : Turn → List ℕ
 added_number (told tag reply) = []
 added_number (served tag operation number outcome) =
     map (λ _. number) (option_to_list outcome.added)
 added_number (failed tag operation number cause) = []
 
+-- the same of each turn that added one
 abbrev pub added_numbers : List Turn → List ℕ
 added_numbers turns = flat_map added_number turns
 
@@ -67,6 +74,7 @@ abbrev pub synced_number : Turn → List ℕ
 synced_number (served tag sync number outcome) = number ∷ []
 synced_number turn = []
 
+-- how many blocks each answered sync covers
 abbrev pub synced_numbers : List Turn → List ℕ
 synced_numbers turns = flat_map synced_number turns
 
@@ -76,6 +84,7 @@ cause_of (told tag reply) = []
 cause_of (served tag operation number outcome) = []
 cause_of (failed tag operation number cause) = cause ∷ []
 
+-- the causes of those turns that failed
 abbrev pub causes_of : List Turn → List Cause
 causes_of turns = flat_map cause_of turns
 

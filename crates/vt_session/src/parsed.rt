@@ -34,7 +34,7 @@ pub enum Next<'a> {
 impl Next<'_> {
     ghost use Rattle.vt_session.specs.Parsed.{is_hello};
 
-    /// Whether the session begins here.
+    /// Whether it is a hello that is accepted, with which the session begins.
     pub(crate) fn is_hello(&self) -> bool
         ensures { result ≡ is_hello self.now }
     {

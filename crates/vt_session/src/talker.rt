@@ -28,6 +28,7 @@ pub struct Talker {
     phase: Phase,
     /// Where the bytes that wait stand in the input.
     place: u64,
+    /// What came in and isn't heard yet.
     waiting: Waiting,
 }
 
@@ -38,6 +39,7 @@ enum Phase {
     AtLine,
     /// The line was heard: whether it offered version 02, and whether a hello was accepted since.
     BehindLine { offered: bool, greeted: bool },
+    /// Nothing more is heard.
     Over(Ended),
 }
 
@@ -54,7 +56,7 @@ impl Model for Talker {
 }
 
 impl Talker {
-    /// Nothing came yet.
+    /// Hears a new input, of which nothing came yet.
     pub fn new(alloc: Global) -> Result<Self, AllocError>
         ensures { IfOk result (λ talker. talker ≡ record { stage = at_line []; taken = 0 }) }
     {

@@ -17,7 +17,9 @@ pub const LONGEST: usize = 65_537;
 #[derive(Drop)]
 pub struct Waiting {
     buffer: Vec<u8>,
+    /// The bytes that wait are those of the buffer from here on.
     start: usize,
+    /// And up to here.
     end: usize,
 }
 
@@ -45,6 +47,7 @@ impl Waiting {
         })
     }
 
+    /// Lends the bytes, the oldest first.
     pub fn as_slice(&self) -> &[u8]
         ensures value { result.now ≡ self.now }
         ensures fits { length self.now ≤ 65537 }
@@ -66,7 +69,7 @@ impl Waiting {
         self.end = put(&mut self.buffer, self.end, piece);
     }
 
-    /// The first so many wait no longer.
+    /// The first so many bytes were heard, and wait no longer.
     pub fn skip(&mut self, n: usize)
         requires { n ≤ length self.old }
         ensures { self.new ≡ drop n self.old }

@@ -23,6 +23,7 @@ pub record ReadBucket : Type 0 where
   pub number : ℕ
   pub entries : List Entry
 
+-- the bucket that was read last, as contracts see it
 abbrev pub read_bucket : Option Bucket → Option ReadBucket
 read_bucket bucket =
     option_map (λ it. record { number = number_of_bucket it; entries = bucket_entries it }) bucket

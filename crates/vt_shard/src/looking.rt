@@ -169,7 +169,7 @@ fn number_of(bucket: &Option<Bucket>) -> Option<u32>
     }
 }
 
-/// How many entries it has.
+/// How many entries the bucket that was read has.
 fn len_of(bucket: &Option<Bucket>) -> u32
     ensures count { result ≡ option_map_or (λ b. length (bucket_entries b)) bucket.now 0 }
     ensures most { result ≤ BUCKET_ROOM }
@@ -180,7 +180,7 @@ fn len_of(bucket: &Option<Bucket>) -> u32
     }
 }
 
-/// Its entry of a key.
+/// The entry of a key in the bucket that was read.
 fn find_in(bucket: &Option<Bucket>, key: &Key) -> Option<Entry>
     ensures { IsOneOf (option_map_or bucket_entries bucket.now [])
         (λ entry. entry.key ≡ key.now) result }
@@ -191,7 +191,7 @@ fn find_in(bucket: &Option<Bucket>, key: &Key) -> Option<Entry>
     }
 }
 
-/// An entry of it of this score.
+/// An entry of this score, of any type, in the bucket that was read.
 fn find_score_in(bucket: &Option<Bucket>, score: &Score) -> Option<Entry>
     ensures { IsOneOf (option_map_or bucket_entries bucket.now [])
         (λ entry. entry.key.score.0 ≡ score.now.0) result }

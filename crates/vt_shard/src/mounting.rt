@@ -74,10 +74,14 @@ pub fn mount<D: Disk>(
 struct Memory {
     index: IndexCache,
     lumps: Lumps,
+    /// Of each bucket, how many dirty entries wait for it.
     waiting: Vec<u16>,
+    /// Room for the entries of a writeback.
     list: Vec<Entry>,
 }
 
+/// Takes the memory for index entries, dirty and clean, for the counts of all buckets and for the
+/// entries of a writeback, so that no call on them runs out of it later.
 fn make(alloc: Global, buckets: u32, sizes: Sizes) -> Result<Memory, AllocError>
     requires lumps { 0 < sizes.lumps }
     requires clean { 0 < sizes.clean }

@@ -269,6 +269,7 @@ fn fill(list: &mut Vec<Entry>, dirty: &[Info], below: u64)
     list.clear();
     for info in dirty {
         if info.number < below {
+            // (there is room, so that no push fails)
             let _ = list.push(entry_of(info));
         }
     }

@@ -9,15 +9,15 @@ use Rattle.vt_core.specs.Core.{CoreState}
 use Rattle.vt_model.specs.History.{Block}
 use Rattle.vt_tree.specs.declared.error.BlockErr.{BlockErr}
 use Rattle.vt_use.specs.LocalJobs.{DoesOnStore}
-use Rattle.vt_use.specs.OneBlock.{ReadsOne, WritesOne, answer_of, asks_block}
+use Rattle.vt_use.specs.OneBlock.{ReadsOne, WritesOne, own_answer, asks_block}
 use Rattle.vt_use.specs.Stores.{Exchange, at_time, store_on}
-use Rattle.vt_use.specs.Uses.{Asks, UsesCore}
+use Rattle.vt_use.specs.Uses.{AsksAndEnds, UsesCore}
 use Rattle.vt_use.proofs.OneBlocks.{read_asked, written_asked}
 use Rattle.vt_single.specs.Single.{ReadsBlock, WritesBlock, closed_behind}
 
 -- what holds of a gain holds of the answer
 pub answer_holds : {T : Type 0} (P : T → Type 0) (output : Result T BlockErr)
-    (refused : Option Why) → IfOk output P → IfOk (answer_of output refused) P
+    (refused : Option Why) → IfOk output P → IfOk (own_answer output refused) P
 answer_holds P (Ok value) refused it = it
 answer_holds P (Err err) (Some why) it = tt
 answer_holds P (Err err) None it = tt
@@ -31,7 +31,7 @@ closed_holds P (Ok given) (Err why) it = tt
 module _ {D : Type 0} (score : List ℕ → List ℕ) (disk : DiskOf D) where
   pub reads_asks : (kind : ℕ) (s : List ℕ) (result : Result (List ℕ) Why) (old new : CoreState D)
       → ReadsBlock score disk kind s result old new
-      → Asks score disk 0 false (asks_block kind s result) (Ok tt) old new new
+      → AsksAndEnds score disk 0 false (asks_block kind s result) (Ok tt) old new new
   reads_asks kind s result old new it = record {
     asked = it;
     reads = λ no. (tt, tt);
@@ -40,7 +40,7 @@ module _ {D : Type 0} (score : List ℕ → List ℕ) (disk : DiskOf D) where
 
   pub writes_asks : (now kind : ℕ) (bytes : List ℕ) (result : Result Score Why)
       (old new : CoreState D) → (it : WritesBlock score disk now kind bytes result old new)
-      → Asks score disk now true it.puts.0 it.closed old it.kept new
+      → AsksAndEnds score disk now true it.puts.0 it.closed old it.kept new
   writes_asks now kind bytes result old new it = record {
     asked = it.puts.2;
     reads = λ no. let never : true ≡ false = no in absurd (cc);
@@ -54,7 +54,7 @@ module _ {D : Type 0} (score : List ℕ → List ℕ) (disk : DiskOf D) where
     pub read_used : (kind : ℕ) (s : List ℕ) (output : Result (List ℕ) BlockErr)
         → UsesCore score disk 0 false (DoesOnStore (store_on score disk)
         (λ calls l l'. ReadsOne kind s output calls) refused) added closed old new
-        → ReadsBlock score disk kind s (answer_of output refused) old new
+        → ReadsBlock score disk kind s (own_answer output refused) old new
     read_used kind s output x =
         let are = read_asked (store_on score disk) kind s output refused x.exchanges
         (at_time 0 old) (at_time 0 x.kept) x.does in
@@ -65,10 +65,10 @@ module _ {D : Type 0} (score : List ℕ → List ℕ) (disk : DiskOf D) where
         (result : Result Score Why)
         → UsesCore score disk now true (DoesOnStore (store_on score disk)
         (λ calls l l'. WritesOne score b output calls) refused) added closed old new
-        → result ≡ closed_behind (answer_of output refused) closed
+        → result ≡ closed_behind (own_answer output refused) closed
         → WritesBlock score disk now b.kind b.bytes result old new
     write_used now b output result x is = record {
-      put = answer_of output refused;
+      put = own_answer output refused;
       closed = closed;
       kept = x.kept;
       puts = (

@@ -8,7 +8,7 @@ use Rattle.vt_base.specs.declared.why.Why.{Why}
 use Rattle.vt_disk.specs.Members.{DiskOf}
 use Rattle.vt_handler.specs.Serving.{tells_failure}
 use Rattle.vt_core.specs.Core.{CoreState, stops_of}
-use Rattle.vt_use.specs.Causes.{FailsFor, HasCause}
+use Rattle.vt_use.specs.Causes.{FailsFor, HasItsCause}
 use Rattle.vt_use.specs.OneBlock.{ArePut, asks_block}
 use Rattle.vt_use.specs.Stores.{Exchange}
 use Rattle.vt_use.proofs.Uses.{each_cause, end_cause}
@@ -28,7 +28,7 @@ module _ {D : Type 0} (score : List ℕ → List ℕ) (disk : DiskOf D)
   module _ (now kind : ℕ) (bytes : List ℕ) (result : Result Score Why) (new : CoreState D)
       (it : WritesBlock score disk now kind bytes result old new) where
     abbrev Caused : List Exchange → Type 0
-    Caused calls = AllByRecursion (HasCause disk old new) calls
+    Caused calls = AllByRecursion (HasItsCause disk old new) calls
 
     each : Caused it.puts.0
     each = each_cause score disk now true it.puts.0 it.closed old it.kept new

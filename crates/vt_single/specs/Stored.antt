@@ -15,7 +15,7 @@ use Rattle.vt_core.specs.Core.{CoreState}
 use Rattle.vt_core.specs.Mounting.{AllStandFor}
 use Rattle.vt_open.specs.Opening.{NamesCause, RefusesStore}
 pub use Rattle.vt_use.specs.Uses.{Uses}
-use Rattle.vt_use.specs.Uses.{LeftInStore}
+use Rattle.vt_use.specs.Uses.{AreMarkedOn, LeftInStore}
 use Rattle.vt_single.specs.declared.stored.StoredError.{StoredError}
 use Rattle.vt_single.specs.declared.stored.StoredError.TheVariants.{Unopened, Refused}
 use Rattle.vt_single.specs.Single.{IsAnswer, written_to}
@@ -50,7 +50,8 @@ pub record ReadsStore {D : Type 0} (score : List ℕ → List ℕ) (disk : DiskO
 
 -- What a write leaves of such partitions: whatever calls failed, and whatever a crash then leaves of
 -- them, they stand for all of the history, perhaps with the block that the model adds. Where a score
--- is told, it is the model's answer, and they stand for the history with that block.
+-- is told, it is the model's answer, and they stand for the history with that block, as every mark
+-- that is read of them says.
 pub record WritesStore {D : Type 0} (score : List ℕ → List ℕ) (disk : DiskOf D) (conf : Conf)
     (kind : ℕ) (bytes : List ℕ) (result : Result Score Why) (new : List ℕ → Standing D)
     (tables : List Table) (c : Setup) (g : History) : Type 0 where
@@ -62,4 +63,5 @@ pub record WritesStore {D : Type 0} (score : List ℕ → List ℕ) (disk : Disk
   pub closed : Result (Unit {0}) Why
   pub left : LeftInStore score disk conf true closed last kept new tables c g
   pub done : OnOk result ((last ≡ written_to score c g kind bytes)
-      × AllStandFor score disk c tables left.back last (length last))
+      × (AreMarkedOn disk (length last) left.back
+      × AllStandFor score disk c tables left.back last (length last)))

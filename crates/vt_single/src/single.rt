@@ -9,9 +9,9 @@ use std::alloc::Global;
 use vt_base::{Bytes, Kind, Score, Scorer, Why};
 use vt_core::Core;
 use vt_disk::Disk;
-use vt_use::{LocalJob, ReadBlock, WriteBlock, answer_of, blocks_are_asked, use_core};
+use vt_use::{LocalJob, ReadBlock, WriteBlock, blocks_are_asked, own_answer, use_core};
 
-/// Asks a store whose first session waits for nothing for the block of a type and a score. That only
+/// AsksAndEnds a store whose first session waits for nothing for the block of a type and a score. That only
 /// reads. The scorer is the store's own.
 pub fn read_block<D: Disk, S: Scorer + Drop>(
     alloc: Global,
@@ -34,7 +34,7 @@ pub fn read_block<D: Disk, S: Scorer + Drop>(
     };
     let (used, core) = use_core(alloc, core, 0, &job, &mut ());
     let (block, last_refusal) = used.output;
-    (answer_of(block, last_refusal), core)
+    (own_answer(block, last_refusal), core)
 }
 
 /// Hands a block of at most 57,344 bytes to a store whose first session waits for nothing, makes all durable that the store
@@ -61,7 +61,7 @@ pub fn write_block<D: Disk, S: Scorer + Drop>(
     let (used, core) = use_core(alloc, core, now, &job, &mut ());
     let (put, last_refusal) = used.output;
     (
-        closed_behind(answer_of(put, last_refusal), used.closed),
+        closed_behind(own_answer(put, last_refusal), used.closed),
         core,
     )
 }

@@ -11,7 +11,7 @@ use vt_base::{Bytes, Kind, Score, Scorer, Why};
 use vt_conf::Conf;
 use vt_open::OpenError;
 use vt_partitions::Parts;
-use vt_use::{LocalJob, ReadBlock, WriteBlock, answer_of, blocks_are_asked, use_store};
+use vt_use::{LocalJob, ReadBlock, WriteBlock, blocks_are_asked, own_answer, use_store};
 
 /// Why a block of a configuration's store wasn't read or written.
 #[derive(Drop)]
@@ -51,7 +51,7 @@ pub fn read_stored<P: Parts, S: Scorer>(
     match use_store(alloc, parts, conf, scorer, 0, &job, &mut ()) {
         Ok(used) => {
             let (block, last_refusal) = used.output;
-            as_stored(answer_of(block, last_refusal))
+            as_stored(own_answer(block, last_refusal))
         }
         Err(bad) => Err(StoredError::Unopened(bad)),
     }
@@ -85,7 +85,7 @@ pub fn write_stored<P: Parts, S: Scorer>(
     match use_store(alloc, parts, conf, scorer, now, &job, &mut ()) {
         Ok(used) => {
             let (put, last_refusal) = used.output;
-            as_stored(closed_behind(answer_of(put, last_refusal), used.closed))
+            as_stored(closed_behind(own_answer(put, last_refusal), used.closed))
         }
         Err(bad) => Err(StoredError::Unopened(bad)),
     }

@@ -21,6 +21,7 @@ pub data Call : Type 0 where
 abbrev pub write_of_block : Block → Operation
 write_of_block b = write b.kind b.bytes
 
+-- the operation of a store that a call stands for
 abbrev pub asked_of : Call → Operation
 asked_of (get kind s answer) = read s kind MAX_BLOCK
 asked_of (put b answer) = write_of_block b

@@ -22,6 +22,7 @@ scores_in psize = psize / 20
 abbrev pub leaf_kind : (is_dir : Bool) → ℕ
 leaf_kind is_dir = if is_dir then 2 else 13
 
+-- the type of a pointer block at this depth: 3 above the leaves, one more at each step up
 abbrev pub pointer_kind : (depth : ℕ) → ℕ
 pointer_kind depth = 2 + depth
 
@@ -43,6 +44,7 @@ abbrev pub score_in : List ℕ → (place : ℕ) → Option (List ℕ)
 score_in block place =
     if nat_lt (20 * place) (length block) then Some (take 20 (drop (20 * place) block)) else None
 
+-- the score at this place of a pointer block, or why there is none
 abbrev pub score_of_pointers : Entry → (depth place : ℕ) → Option (List ℕ)
     → Result (Option (List ℕ)) ContentError
 score_of_pointers e depth place None = Err Absent

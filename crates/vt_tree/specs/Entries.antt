@@ -15,6 +15,7 @@ pub record FitsEntry (e : Entry) : Type 0 where
   pub depth : e.depth < 8
   pub size : e.size < 2 ^ 48
 
+-- this field has this number, which it can't
 abbrev pub bad : EntryField → ℕ → EntryError
 bad field found = record { field = field; found = found }
 
@@ -40,6 +41,7 @@ pub record IsTreeEntry (e : Entry) : Type 0 where
   pub ranges : HasRanges e
   pub allowed : entry_fault e ≡ None
 
+-- the number of a flag
 abbrev pub bit : Bool → ℕ
 bit b = if b then 1 else 0
 
@@ -69,6 +71,7 @@ pub record SpellsEntry (e : Entry) (bytes : List ℕ) : Type 0 where
 abbrev pub flags_in : List ℕ → ℕ
 flags_in bytes = slice_index bytes 8
 
+-- the entry that 40 bytes spell
 abbrev pub entry_in : List ℕ → Entry
 entry_in bytes = record {
   generation = big_number 4 bytes;
@@ -86,5 +89,6 @@ abbrev pub fault_behind : Option EntryError → ℕ → Option EntryError
 fault_behind (Some fault) flags = Some fault
 fault_behind None flags = if flags / 64 % 2 == 1 then Some (bad Flags flags) else None
 
+-- what is wrong with an entry's bytes, if anything is: a field of it, or a flag that isn't known
 abbrev pub entry_fault_in : List ℕ → Option EntryError
 entry_fault_in bytes = fault_behind (entry_fault (entry_in bytes)) (flags_in bytes)

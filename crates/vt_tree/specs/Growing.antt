@@ -27,9 +27,11 @@ pub record IsNextLeaf (dsize : ℕ) (next : Next) : Type 0 where
   pub last : next.ended ≡ false → length next.leaf ≡ dsize
   pub size : next.size ≤ 2 ^ 40
 
+-- the leaf that was read ahead, as contracts see it
 abbrev pub next_of : Ahead → Next
 next_of a = record { leaf = take a.filled a.leaf.items; ended = a.ended; size = a.size }
 
+-- the sizes by which a stream is cut, as contracts see them
 abbrev pub shape_of : Cut → Shape
 shape_of cut = record { psize = cut.psize; dsize = cut.dsize; is_dir = cut.is_dir }
 

@@ -19,6 +19,7 @@ pub block_keeps : (score_of : List ℕ → List ℕ) (b : Block) (map : BlockMap
     → IsWithin map (with_block score_of b map)
 block_keeps score_of b map s kind bytes has = rw has refl
 
+-- what is held is held behind more blocks too
 pub blocks_keep : (score_of : List ℕ → List ℕ) (blocks : List Block) (map : BlockMap)
     → IsWithin map (with_blocks score_of blocks map)
 blocks_keep score_of [] map s kind bytes has = has
@@ -50,15 +51,18 @@ block_is_there score_of b map alone = of (map (score_of b.bytes) b.kind) refl
 
 -- ---- equal maps
 
+-- two maps hold the same
 abbrev pub Same : (a b : BlockMap) → Type 0
 Same a b = (s : List ℕ) (kind : ℕ) → a s kind ≡ b s kind
 
+-- one block more leaves same maps the same
 pub block_same : (score_of : List ℕ → List ℕ) (b : Block) (m n : BlockMap) → Same m n
     → Same (with_block score_of b m) (with_block score_of b n)
 block_same score_of b m n same s kind =
     ap (λ (o : Option (List ℕ)). option_or o (cond (is_key score_of b s kind) (Some b.bytes) None))
     (same s kind)
 
+-- blocks in two lists are added as in one
 pub blocks_join : (score_of : List ℕ → List ℕ) (xs ys : List Block) (map : BlockMap)
     → with_blocks score_of (xs ++ ys) map
     ≡ with_blocks score_of ys (with_blocks score_of xs map)
@@ -88,6 +92,7 @@ block_again score_of b map bytes has s kind = of (map s kind) refl
 
 -- ---- write-once maps
 
+-- the empty map is write-once: it has the block of no bytes alone
 pub no_blocks_once : (score_of : List ℕ → List ℕ) → IsWriteOnce score_of (no_blocks score_of)
 no_blocks_once score_of = record {
   scores = λ s kind bytes has. (of s bytes has).1 ∙ sym (of s bytes has).0;
@@ -135,6 +140,7 @@ from_either score_of b map s kind bytes has = of (map s kind) refl
               sym (ap (λ (t : Bool). cond t (Some b.bytes) None) miss) ∙ here in cc
         ]
 
+-- a write-once map is so with one block more, if none collides with that
 pub once_with : (score_of : List ℕ → List ℕ) (b : Block) (map : BlockMap)
     → IsWriteOnce score_of map → HasNoOther score_of map b
     → IsWriteOnce score_of (with_block score_of b map)

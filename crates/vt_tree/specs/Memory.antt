@@ -42,6 +42,7 @@ pub record IsKeptBlock (score_of : List ℕ → List ℕ) (b : Stored) : Type 0 
 abbrev pub map_of : (score_of : List ℕ → List ℕ) → List Block → BlockMap
 map_of score_of blocks = with_blocks score_of blocks (no_blocks score_of)
 
+-- what a store of blocks in memory holds
 abbrev pub held_in : (score_of : List ℕ → List ℕ) → BlocksMemory → BlockMap
 held_in score_of m = map_of score_of m.blocks
 
@@ -75,12 +76,14 @@ on_demand = codes "refused on demand"
 abbrev pub key : (s : List ℕ) → (kind : ℕ) → Key
 key s kind = record { score = record { 0 = s }; kind = kind }
 
+-- the key of the block that a call gave, if it gave one
 abbrev pub given : Call → List Key
 given (get kind s (Ok bytes)) = key s kind ∷ []
 given (get kind s (Err err)) = []
 given (put b answer) = []
 given (sync answer) = []
 
+-- the key of the block that a call took in, if it took one
 abbrev pub taken : Call → List Key
 taken (get kind s answer) = []
 taken (put b (Ok score)) = record { score = score; kind = b.kind } ∷ []

@@ -22,6 +22,7 @@ abbrev pub unfit_by : Option EntryError → (size : ℕ) → Option TreeErr
 unfit_by (Some bad) size = Some (errs.BadEntry bad)
 unfit_by None size = if nat_lt (2 ^ 40) size then Some errs.TooLong else None
 
+-- why nothing is read by this entry, if that is so
 abbrev pub unfit : Entry → Option TreeErr
 unfit e = unfit_by (entry_fault e) (size_of e)
 
@@ -56,6 +57,7 @@ refusal_in (errs.BadBlock depth len) = None
 refusal_in errs.TooLong = None
 refusal_in errs.NoMemory = None
 
+-- why the store of blocks refused a block, if that is what failed
 abbrev pub refused_by : {X : Type 0} → Result X TreeErr → Option BlockErr
 refused_by (Ok x) = None
 refused_by (Err err) = refusal_in err
@@ -79,6 +81,7 @@ EndsBadlyBy e (errs.BadBlock depth len) calls = IsBadLast e depth len calls
 EndsBadlyBy e errs.TooLong calls = ⊤
 EndsBadlyBy e errs.NoMemory calls = ⊤
 
+-- where it fails, the calls that were made show why
 abbrev pub EndsBadly : {X : Type 0} → Entry → Result X TreeErr → List Call → Type 0
 EndsBadly e (Ok x) calls = ⊤
 EndsBadly e (Err err) calls = EndsBadlyBy e err calls

@@ -84,6 +84,7 @@ abbrev pub stream_of : (score_of : List ℕ → List ℕ) → Shape → List ℕ
 stream_of score_of shape bytes =
     tree_of score_of shape (depth_of shape (length bytes)) (leaves_of shape bytes)
 
+-- the entry of a stream of these bytes that is written in this shape
 abbrev pub entry_of_stream : (score_of : List ℕ → List ℕ) → Shape → List ℕ → Entry
 entry_of_stream score_of shape bytes = record {
   generation = 0;

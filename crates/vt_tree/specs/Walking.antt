@@ -83,6 +83,7 @@ byte_under blocks e d pointers p =
     through (Ok (score_in pointers (p / e.dsize / leaves)))
     (λ s. byte_below blocks e d s (p / e.dsize % leaves) (p % e.dsize))
 
+-- what lies below these pointers in the range is put behind what was read
 abbrev pub ReadsEach : {S : Type 0} → (does : S → Call → S → Type 0)
     → (score_of : List ℕ → List ℕ) → (s s' : S) → Entry → (d : ℕ) → (pointers : List ℕ)
     → (from len : ℕ) → (old new : List ℕ) → Result (Unit {0}) TreeErr → Type 0

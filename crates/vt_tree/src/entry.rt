@@ -14,6 +14,7 @@ pub const ENTRY_LEN: usize = 40;
 /// A file or a directory in a directory (venti(6)). Sizes are in bytes.
 #[derive(Clone, Copy, Debug, PartialEq, Eq)]
 pub struct Entry {
+    /// A number of the client's (venti(6)), which this program writes as 0 and doesn't look at.
     pub generation: u32,
     /// The size of pointer blocks.
     pub psize: u16,
@@ -99,6 +100,7 @@ impl Entry {
                 found: self.psize,
             });
         }
+        // (a pointer block has one score of 20 bytes at least, a directory's leaf one entry of 40)
         let least = if self.is_dir { 40 } else { 1 };
         if self.dsize < least {
             return Some(EntryError {
@@ -109,7 +111,7 @@ impl Entry {
         None
     }
 
-    /// The flags.
+    /// The byte of flags: what the entry is, and its depth.
     fn flags(&self) -> u8
         requires { FitsEntry self.now }
         ensures { result ≡ flags_of self.now }
@@ -127,6 +129,7 @@ fn fields(bytes: &[u8; 40]) -> Entry
     let mut score = [0; 20];
     score.copy_from_slice(&bytes[20..]);
     Entry {
+        // (the places of the fields: docs/FORMATS.md, Entries of directories, and roots)
         generation: u32_at(bytes, 0),
         psize: u16_at(bytes, 4),
         dsize: u16_at(bytes, 6),

@@ -23,13 +23,18 @@ pub struct Stored {
 pub struct MemBlocks<S: Scorer> {
     scorer: S,
     kept: Vec<Stored>,
+    /// How many of the first blocks were there at the last sync.
     synced: usize,
+    /// The numbers of the calls that fail.
     failing: Vec<u64>,
+    /// The numbers of the calls that are refused.
     refusing: Vec<u64>,
     calls: u64,
     faults: u64,
     refusals: u64,
+    /// The keys of the blocks that were given, in order.
     gets: Vec<Key>,
+    /// The keys of the blocks that were taken in, in order.
     puts: Vec<Key>,
 }
 
@@ -223,7 +228,7 @@ impl<S: Scorer> MemBlocks<S> {
         }
     }
 
-    /// A fault, counted.
+    /// Counts a fault, and answers it.
     fn fault(&mut self) -> BlockErr
         ensures err { result ≡ BlockErr.Fault }
         ensures left { self.new

@@ -64,6 +64,7 @@ pub(crate) fn leaves_below(psize: u16, depth: u8) -> u128
     if depth == 0 {
         return 1;
     }
+    // (a pointer block has as many scores, of 20 bytes each, as fit whole)
     leaves_below(psize, depth - 1) * u128::from(psize / 20)
 }
 

@@ -46,6 +46,7 @@ impl Root {
         if u16_at(bytes, 0) != 2 {
             return Err(RootError::Version);
         }
+        // (the places of the fields: docs/FORMATS.md, Entries of directories, and roots)
         let mut root = Root {
             name: [0; 128],
             kind: [0; 128],

@@ -79,6 +79,7 @@ pub fn write_stream<B: Blocks, R: Source>(
 /// The next leaf of a stream.
 #[derive(Drop)]
 struct Ahead {
+    /// A buffer of a whole leaf, of `dsize` bytes.
     leaf: Vec<u8>,
     /// How many bytes the leaf has; none at the stream's end.
     filled: usize,
@@ -102,7 +103,7 @@ impl Ahead {
         })
     }
 
-    /// Takes the next leaf.
+    /// Takes the next leaf from the source: whole, unless the source ends in it.
     fn advance<R: Source>(&mut self, source: &mut R) -> Result<(), TreeErr>
         requires filled { self.old.filled ≤ length self.old.leaf.items }
         requires size { self.old.size ≤ 2 ^ 40 }
@@ -165,6 +166,7 @@ fn fill<R: Source>(source: &mut R, buf: &mut [u8]) -> Result<usize, TreeErr>
 #[derive(Clone, Copy)]
 struct Cut {
     alloc: Global,
+    /// The most bytes of a pointer block, and below it of a leaf.
     psize: u16,
     dsize: u16,
     is_dir: bool,

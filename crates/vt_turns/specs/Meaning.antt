@@ -2,6 +2,8 @@
 use Rattle.std.specs.Prelude.{◌≡◌, ℕ, ◌≤◌, List, [], ◌∷◌, ◌++◌, Option, Bool, false, true}
 use Rattle.vt_turns.specs.declared.view.Opening.{Opening}
 
+-- what a rule says of the parts that threads share: which of them are sound for a list of blocks,
+-- which blocks lie in a part's range, and how far a part bounds the list
 pub record Meaning (P B : Type 0) : Type 1 where
   -- In a store that was opened so, the part is sound for this list of blocks. A log's history is
   -- known by this relation alone: it needs to be no function of the part.
@@ -23,6 +25,7 @@ pub record Meaning (P B : Type 0) : Type 1 where
   pub count : P → ℕ
   pub full : P → Bool
 
+-- what a meaning has to keep to, so that one thread's step leaves other parts sound
 pub record Lawful {P B : Type 0} (M : Meaning P B) : Type 0 where
   -- a part stays sound when a block outside its range is added
   pub outside : (o : Opening P B) (h : List B) (b : B) (x : P)

@@ -1,4 +1,4 @@
-//! What a part means to the rule.
+//! What a part that is at home or held means to the rule.
 
 ghost use Rattle.vt_turns.specs.Meaning.{Meaning, Lawful};
 

@@ -54,12 +54,15 @@ fn opening_of_seat<P, B, J: Opened<P, B>>(
 /// What is made before a part is moved.
 struct Prepared<P, B> {
     opening: Snapshot<Seat<(), Opening<P, B>>>,
+    /// The front, a word for each part, and behind these the bits.
     words: Vec<u64>,
+    /// Memory for a slot for each part.
     slots: Vec<Option<P>>,
+    /// Memory in which the parts are handed back.
     back: Vec<P>,
 }
 
-/// Makes it, for so many parts.
+/// Makes what sharing so many parts takes: words, slots and memory, before a part is moved.
 fn prepare_parts<P: Drop, B, J: Opened<P, B>>(
     alloc: Global,
     count: usize,

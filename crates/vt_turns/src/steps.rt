@@ -58,24 +58,28 @@ impl BitPlace for Brand {
     ghost place = { 0 };
 }
 
+/// A pass takes a part. An exchange that finds it taken changes nothing.
 pub(crate) struct TakesPart;
 
 impl<P: Held<B>, B> Play<Option<P>, View<P, B>> for TakesPart {
     ghost then = { TellsTaken P.means };
 }
 
+/// The empty slot of a part goes back to the table, and the part stays with the pass.
 pub(crate) struct SlotHome;
 
 impl<P: Held<B>, B> Play<Option<P>, View<P, B>> for SlotHome {
     ghost then = { TellsSlotHome P.means };
 }
 
+/// The empty slot of a part that the pass has comes out of the table.
 pub(crate) struct SlotOut;
 
 impl<P: Held<B>, B> Play<Option<P>, View<P, B>> for SlotOut {
     ghost then = { TellsSlotOut P.means };
 }
 
+/// The new numbers of a part that is held are recorded, with its word.
 pub(crate) struct BooksPart<W> {
     named: PhantomData<W>,
 }
@@ -84,12 +88,14 @@ impl<P: Held<B>, B, W: BookedPart<P>> Play<Option<P>, View<P, B>> for BooksPart<
     ghost then = { TellsBooked P.means W.part };
 }
 
+/// The part is in its slot, which goes back to the table: another pass may take it.
 pub(crate) struct GivesPart;
 
 impl<P: Held<B>, B> Play<Option<P>, View<P, B>> for GivesPart {
     ghost then = { TellsGiven P.means };
 }
 
+/// The front is raised by the block that was added.
 pub(crate) struct RaisesFront<W> {
     named: PhantomData<W>,
 }
@@ -98,12 +104,14 @@ impl<P: Held<B>, B, W: AddedBlock<P, B>> Play<Option<P>, View<P, B>> for RaisesF
     ghost then = { TellsRaised P.means W.added };
 }
 
+/// The front is read.
 pub(crate) struct LoadsFront;
 
 impl<P: Held<B>, B> Play<Option<P>, View<P, B>> for LoadsFront {
     ghost then = { TellsFront P.means };
 }
 
+/// A bit is set.
 pub(crate) struct SetsBit<W> {
     named: PhantomData<W>,
 }
@@ -112,6 +120,7 @@ impl<P: Held<B>, B, W: BitPlace> Play<Option<P>, View<P, B>> for SetsBit<W> {
     ghost then = { TellsBitSet P.means W.place };
 }
 
+/// A word is read for one of its bits.
 pub(crate) struct LoadsBit<W> {
     named: PhantomData<W>,
 }
@@ -120,6 +129,7 @@ impl<P: Held<B>, B, W: BitPlace> Play<Option<P>, View<P, B>> for LoadsBit<W> {
     ghost then = { TellsBit P.means W.place };
 }
 
+/// A pass is split into two.
 pub(crate) struct SplitsPass;
 
 impl<P, B> Split<View<P, B>> for SplitsPass {
@@ -128,6 +138,7 @@ impl<P, B> Split<View<P, B>> for SplitsPass {
     ghost right = { split_off };
 }
 
+/// A note is taken of what a pass knows.
 pub(crate) struct NotesPass;
 
 impl<P, B> Split<View<P, B>> for NotesPass {
@@ -136,6 +147,7 @@ impl<P, B> Split<View<P, B>> for NotesPass {
     ghost right = { noted };
 }
 
+/// Two passes become one again.
 pub(crate) struct JoinsPasses;
 
 impl<P, B> Join<View<P, B>> for JoinsPasses {

@@ -12,5 +12,6 @@ abbrev pub key_of : Ask → ℕ
 key_of (Write block) = block.key
 key_of (Look key) = key
 
+-- what is asked is about a key
 abbrev pub IsAsk : Ask → Type 0
 IsAsk ask = IsKey (key_of ask)

@@ -17,6 +17,7 @@ number_outside n (c ∷ cs) b key other =
     ap (λ (o : Option ℕ). if c.key == key then Some n else o)
     (number_outside (suc n) cs b key other)
 
+-- the log and the shards keep to it
 pub part_lawful : Lawful part_means
 part_lawful = record {
   outside = λ o. outside o.kept;

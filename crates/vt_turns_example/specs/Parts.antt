@@ -13,6 +13,7 @@ use Rattle.vt_turns_example.specs.Blocks.{number_from}
 abbrev pub covers_key : TheShard → ℕ → Bool
 covers_key s key = leb s.low key && ltb key s.high
 
+-- a log has each block in its range, a shard those of its keys
 abbrev pub covers : Part → Block → Bool
 covers (Log l) b = true
 covers (Shard s) b = covers_key s b.key
@@ -23,6 +24,7 @@ sound_for kept h (Log l) = kept ≡ true → l.blocks.items ≡ h
 sound_for kept h (Shard s) = kept ≡ true → (key : ℕ) → covers_key s key ≡ true
     → get nat_cmp s.numbers key ≡ number_from 0 h key
 
+-- how many blocks a log has; a shard bounds nothing
 abbrev pub front_of : Part → ℕ
 front_of (Log l) = length l.blocks.items
 front_of (Shard s) = 0
@@ -57,6 +59,7 @@ abbrev pub is_log : Part → Bool
 is_log (Log l) = true
 is_log (Shard s) = false
 
+-- whether the part is the shard of this range of keys
 abbrev pub is_range : (low high : ℕ) → Part → Bool
 is_range low high (Log l) = false
 is_range low high (Shard s) = (s.low == low) && (s.high == high)

@@ -13,9 +13,11 @@ use Rattle.vt_turns_example.specs.declared.link.Said.{Said}
 use Rattle.vt_turns_example.specs.declared.link.Said.TheVariants.{Held, Collision}
 use Rattle.vt_turns_example.specs.Talk.{AnswersAsk, Adds}
 
+-- a worker's pass, as contracts see it
 abbrev pub Pass : Type 0
 Pass = Seat (Option Part) (View Part Block)
 
+-- what a pass knows, in this store
 abbrev pub TheView : Type 0
 TheView = View Part Block
 

@@ -53,7 +53,7 @@ pub trait Link {
         ensures told { told self.new ≡ told self.old }
         ensures ask { IfSome result (λ ask. IsAsk ask × (asked self.new ≡ true)) };
 
-    /// Answers it.
+    /// Answers what was asked last.
     fn answer(&mut self, line: Line)
         requires asked { asked self.old ≡ true }
         ensures told { told self.new ≡ told self.old ++ line ∷ [] };
@@ -61,6 +61,7 @@ pub trait Link {
 
 /// Where links come from.
 pub trait Listener {
+    /// What a link is handed out as.
     type Link: Link + Send + Drop;
 
     /// The next link, which has asked nothing yet. Nothing ends it.

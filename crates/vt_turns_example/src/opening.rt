@@ -1,4 +1,4 @@
-//! How a store is opened and closed.
+//! How a store is opened, with three parts and one pass that has all shares, and how it is closed.
 
 ghost use Rattle.std.specs.Prelude.{◌≡◌, [], IfOk};
 ghost use Rattle.vt_turns.specs.Views.{view};

@@ -1,4 +1,4 @@
-//! The log and the shards.
+//! The parts of a store that threads take in turns: the log, and two shards of keys.
 
 ghost use Rattle.std.specs.Prelude.{◌≡◌};
 ghost use Rattle.std.specs.Ordering.{nat_cmp};

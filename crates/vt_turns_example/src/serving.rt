@@ -1,4 +1,4 @@
-//! One link.
+//! Serving one link: each of its asks is answered, until it ends.
 
 ghost use Rattle.std.specs.Prelude.{◌≡◌, [], ◌∷◌};
 ghost use Rattle.vt_turns_example.specs.Keys.{IsAsk};

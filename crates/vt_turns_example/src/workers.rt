@@ -50,6 +50,7 @@ pub enum Started<L: Link> {
     Done(Served<L>),
 }
 
+/// Serves one link to its end, and gives back the pass with what its worker knows by then.
 fn work<R: Wait, L: Link>(
     rt: &R,
     store: &Store,
@@ -64,7 +65,7 @@ fn work<R: Wait, L: Link>(
     Served { pass, link }
 }
 
-/// Starts a worker.
+/// Starts a worker in a thread of its own; where there is none to be had, does its work here.
 fn start<'s, E: 's, R: Wait + Sync, L: Link + Send + Drop + 's>(
     scope: &Scope<'s, E>,
     rt: &'s R,
@@ -92,7 +93,7 @@ fn start<'s, E: 's, R: Wait + Sync, L: Link + Send + Drop + 's>(
     }
 }
 
-/// Waits for a worker.
+/// Waits for a worker to end, and gives back what it gave.
 fn finish<R: Threads, L: Link>(rt: &R, started: Started<L>) -> Served<L>
     ensures { (p : _) → BeginsWorker L.told p started → Works p result.pass (L.told result.link) }
 {

@@ -1,4 +1,4 @@
-//! A write, and a look.
+//! What a worker does with the store: writes a block, looks a key up, counts the blocks.
 
 ghost use Rattle.std.specs.Prelude.{◌≡◌, ◌≢◌, ◌⊎◌, ◌+◌, ◌<◌, ◌≤◌, ◌++◌, ◌∷◌, [], List, Some, None, true, length, ℕ};
 ghost use Rattle.std.specs.Ordering.{nat_cmp};
@@ -62,6 +62,7 @@ impl Store {
         ensures low { key < self.now.cut → result ≡ 1 }
         ensures high { self.now.cut ≤ key → result ≡ 2 }
     {
+        // (part 0 is the log)
         if key < self.cut { 1 } else { 2 }
     }
 
@@ -82,6 +83,7 @@ impl Store {
         (shard, number)
     }
 
+    /// Waits until no other thread has the log, and takes it. It is part 0, which is always a log.
     fn take_log<R: Wait>(&self, rt: &R, pass: &mut Pass<Part, Block>) -> Log
         requires own { IsPassOfStore self.now pass.old }
         ensures own { IsPassOfStore self.now pass.new }
@@ -240,7 +242,7 @@ impl Store {
         self.turns.give(pass, number, part);
     }
 
-    /// A pass for another worker.
+    /// Splits a share off the pass, for another worker.
     pub fn split(&self, pass: &mut Pass<Part, Block>) -> Pass<Part, Block>
         requires free { IsFree self.now pass.old }
         requires two { 1 < (view pass.old).share }

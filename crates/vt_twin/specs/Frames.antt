@@ -21,9 +21,11 @@ pub record FitsTwin (region : Region) (n size : ℕ) : Type 0 where
 abbrev pub frame_start : Region → (n number : ℕ) → ℕ
 frame_start region n number = region.start + n * number
 
+-- where the selector begins: behind the two frames of n bytes each
 abbrev pub selector_start : Region → (n : ℕ) → ℕ
 selector_start region n = region.start + 2 * n
 
+-- how many bytes the selector has: what the two frames leave of the region
 abbrev pub selector_len : Region → (n : ℕ) → ℕ
 selector_len region n = region.len - 2 * n
 
@@ -51,6 +53,7 @@ selector_bytes number len = number ∷ replicate (len - 1) 0
 abbrev pub with_frame : Region → (n number : ℕ) → (frame file : List ℕ) → List ℕ
 with_frame region n number frame file = with_bytes (frame_start region n number) frame file
 
+-- the file with the selector of this number written over
 abbrev pub with_selector : Region → (n number : ℕ) → (file : List ℕ) → List ℕ
 with_selector region n number file =
     with_bytes (selector_start region n) (selector_bytes number (selector_len region n)) file

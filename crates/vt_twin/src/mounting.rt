@@ -60,6 +60,7 @@ pub fn mount<D: Disk>(disk: &mut D, region: Region, frame_len: u64) -> Result<Tw
 {
     disk.sync()?;
     let mut selector = [0];
+    // (the selector stands behind both frames; its first byte names the current one)
     region.read_at(disk, 2 * frame_len, &mut selector)?;
     Ok(Twin::resume(frame_len, selector[0]))
 }

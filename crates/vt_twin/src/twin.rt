@@ -25,10 +25,15 @@ struct Pending {
 /// and the region, the same one each time.
 #[derive(Drop)]
 pub struct Twin {
+    /// How many bytes each of the two frames has.
     frame_len: u64,
+    /// The number of the current frame, 0 or 1.
     current: u8,
+    /// The change under way.
     pending: Option<Pending>,
+    /// The buffer of the last change's frame, until it is handed back.
     spare: Option<Bytes>,
+    /// Whether a call of a change failed: then no more are made.
     failed: bool,
 }
 

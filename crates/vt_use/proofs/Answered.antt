@@ -24,8 +24,8 @@ use Rattle.vt_core.specs.Machine.{Machine}
 use Rattle.vt_core.specs.Sound.{IsSound}
 use Rattle.vt_requests.specs.Answers.{IsServed}
 use Rattle.vt_requests.specs.Driven.{DoesRequest, DrivenState}
-use Rattle.vt_use.specs.Answers.{AreModelAnswers, GoesOnTo, HasFailed, IsCovered}
-use Rattle.vt_use.specs.Stores.{Exchange, OnlyReads, store_on}
+use Rattle.vt_use.specs.Answers.{AreModelAnswers, GoesOnAs, HasFailed, IsCovered}
+use Rattle.vt_use.specs.Stores.{Exchange, AddsNothing, store_on}
 use Rattle.vt_use.proofs.Keeps.{calls_keep, one_keeps}
 
 said_so : (said : Said) → reply_in (result_of said) ≡ reply_saying said
@@ -57,7 +57,7 @@ adds_none score c h s kind count =
     cond_adds (not (is_kind kind)) _ _ refl (lends_none count (held score h s kind))
 
 pub stays : (score : List ℕ → List ℕ) (c : Setup) (h next : History) (s : List ℕ)
-    (kind count : ℕ) (reply : Result RMessage Why) → GoesOnTo score c (read s kind count, reply) h next
+    (kind count : ℕ) (reply : Result RMessage Why) → GoesOnAs score c (read s kind count, reply) h next
     → next ≡ h
 stays score c h next s kind count reply how = ⊎_elim
     (λ model. model.1 ∙ ap (λ (o : Option Accepted). with_added h o)
@@ -71,7 +71,7 @@ pub record Goes {D : Type 0} (score : List ℕ → List ℕ) (disk : DiskOf D) (
     (asked : Exchange) (h : History) (new : CoreState D) : Type 0 where
   pub next : History
   pub sound : IsSound score disk new next
-  pub how : GoesOnTo score c asked h next
+  pub how : GoesOnAs score c asked h next
   pub covered : IsCovered asked next new.log.durable
 
 module _ {D : Type 0} (score : List ℕ → List ℕ) (disk : DiskOf D)
@@ -80,7 +80,7 @@ module _ {D : Type 0} (score : List ℕ → List ℕ) (disk : DiskOf D)
     given : (said : Said) (outcome : Outcome)
         → answer score (setup_of old) h (asked_of_store m) ≡ outcome
         → outcome.reply ≡ reply_saying said → next ≡ with_added h outcome.added
-        → GoesOnTo score (setup_of old) (m, result_of said) h next
+        → GoesOnAs score (setup_of old) (m, result_of said) h next
     given said outcome is reply goes = inl (
       said_so said ∙ sym reply ∙ sym (ap (λ (o : Outcome). o.reply) is),
       goes ∙ ap (λ (o : Outcome). with_added h o.added) (sym is),
@@ -88,7 +88,7 @@ module _ {D : Type 0} (score : List ℕ → List ℕ) (disk : DiskOf D)
 
     served : (said : Said) → IsUndamagedSaid said
         → IsServed score (asked_of_store m) said (machine_of old h) (machine_of new next)
-        → GoesOnTo score (setup_of old) (m, result_of said) h next
+        → GoesOnAs score (setup_of old) (m, result_of said) h next
     served said undamaged how = ⊎_elim
         (λ gives. ⊎_elim
         (λ accepts. given said _ accepts.answer_is refl
@@ -119,7 +119,7 @@ module _ {D : Type 0} (score : List ℕ → List ℕ) (disk : DiskOf D)
 
   request_covered : (m : Operation) (reply : Result RMessage Why) (d d' : DrivenState D)
       (h next : History) → IsSound score disk d.core h → DoesRequest score disk m reply d d'
-      → GoesOnTo score (setup_of d.core) (m, reply) h next
+      → GoesOnAs score (setup_of d.core) (m, reply) h next
       → IsCovered (m, reply) next d'.core.log.durable
   request_covered m reply d d' h next sound it how = λ is.
       let is_sync : m ≡ sync = ap (λ (e : Exchange). e.0) is in
@@ -136,7 +136,7 @@ module _ {D : Type 0} (score : List ℕ → List ℕ) (disk : DiskOf D)
       → Goes score disk (setup_of d.core) (m, reply) h d'.core
   request_goes m reply d d' h sound it =
       let done = it.answers.serves h tells sound in
-      let how = subst (λ (r : Result RMessage Why). GoesOnTo score (setup_of d.core) (m, r) h done.0)
+      let how = subst (λ (r : Result RMessage Why). GoesOnAs score (setup_of d.core) (m, r) h done.0)
       it.says
       (served m h done.0 d.core d'.core it.answer.said (it.answers.undamaged h tells sound)
       (subst (λ (o : Operation). IsServed score o it.answer.said (machine_of d.core h)
@@ -187,7 +187,7 @@ module _ {D : Type 0} (score : List ℕ → List ℕ) (disk : DiskOf D)
         more.1,
         (
           first.next,
-          subst (λ (s : Setup). GoesOnTo score s call h first.next) same first.how,
+          subst (λ (s : Setup). GoesOnAs score s call h first.next) same first.how,
           stays_covered call first.next it.0.core.log.durable last.core.log.durable
               behind.core.store.durable first.covered,
           more.2,
@@ -212,9 +212,9 @@ module _ {D : Type 0} (score : List ℕ → List ℕ) (disk : DiskOf D)
       })
 
   one_only : (m : Operation) (reply : Result RMessage Why) (d d' : DrivenState D) (h : History)
-      → IsSound score disk d.core h → OnlyReads (m, reply)
+      → IsSound score disk d.core h → AddsNothing (m, reply)
       → DoesOne (store_on score disk) d m reply d' → ReadsOnly READS_MOST h d d'
-  one_only ping reply d d' h sound is it = reads_none READS_MOST h d d' sound it.1
+  one_only ping reply d d' h sound is it = absurd is
   one_only (read s kind count) reply d d' h sound is it =
       let went = request_goes (read s kind count) reply d d' h sound it in
       let asks : operation_of it.asked ≡ read s kind (min count MAX_BLOCK) = it.asks in
@@ -230,7 +230,7 @@ module _ {D : Type 0} (score : List ℕ → List ℕ) (disk : DiskOf D)
   one_only sync reply d d' h sound is it = absurd is
 
   pub calls_only : (calls : List Exchange) (d last : DrivenState D) (h : History)
-      → IsSound score disk d.core h → AllByRecursion OnlyReads calls
+      → IsSound score disk d.core h → AllByRecursion AddsNothing calls
       → DoesCalls (store_on score disk) d calls last
       → ReadsOnly (READS_MOST * length calls) h d last
   calls_only [] d last h sound all it = reads_none 0 h d last sound it

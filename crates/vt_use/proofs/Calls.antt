@@ -7,7 +7,7 @@ use Rattle.vt_local.specs.Local.{DoesLocal, LocalState}
 use Rattle.vt_tree.specs.Calls.{Call, get, put, sync, IsGet, asked_of}
 use Rattle.vt_tree.specs.Making.{Makes}
 use Rattle.vt_use.specs.LocalJobs.{DoesOnStore, exchanges_of, new_local}
-use Rattle.vt_use.specs.Stores.{Exchange, OnlyReads, StoreOf}
+use Rattle.vt_use.specs.Stores.{Exchange, AddsNothing, StoreOf}
 
 module _ {S : Type 0} (T : StoreOf S) where
   pub one_asked : (l l' : LocalState S) (call : Call) → (d : DoesLocal T l call l')
@@ -25,7 +25,7 @@ module _ {S : Type 0} (T : StoreOf S) where
 
   -- only for blocks, where it is called for nothing else
   pub only_reads : (calls : List Call) (l l' : LocalState S) (made : Makes (DoesLocal T) l calls l')
-      → AllByRecursion IsGet calls → AllByRecursion OnlyReads (exchanges_of T calls l l' made)
+      → AllByRecursion IsGet calls → AllByRecursion AddsNothing (exchanges_of T calls l l' made)
   only_reads [] l l' made gets = tt
   only_reads (get kind s answer ∷ calls) l l' made gets =
       (tt, only_reads calls made.0 l' made.2 gets.1)
@@ -38,7 +38,7 @@ module _ {S : Type 0} (T : StoreOf S) where
       → Makes (DoesLocal T) (new_local old) calls kept → Does calls (new_local old) kept
       → refused ≡ kept.refused → new ≡ kept.store
       → (asked : List Exchange) × DoesCalls T old asked new
-      × (AllByRecursion IsGet calls → AllByRecursion OnlyReads asked)
+      × (AllByRecursion IsGet calls → AllByRecursion AddsNothing asked)
       × DoesOnStore T Does refused asked old new
   on_store Does refused old new calls kept made does refused_is new_is = (
     exchanges_of T calls (new_local old) kept made,

@@ -24,7 +24,7 @@ use Rattle.vt_base.specs.Operations.{result_of}
 use Rattle.vt_requests.specs.Driven.{DrivenState, DoesRequest}
 use Rattle.vt_requests.specs.Ending.{EndsFor}
 use Rattle.vt_requests.proofs.Risen.{same_fell}
-use Rattle.vt_use.specs.Causes.{FailsFor, HasCause, TellsStops}
+use Rattle.vt_use.specs.Causes.{FailsFor, HasItsCause, TellsStops}
 use Rattle.vt_use.specs.Stores.{store_on}
 use Rattle.vt_use.proofs.Runs.{calls_run, one_runs}
 use Rattle.vt_use.proofs.Tells.{all_fit, rose_within, run_tells, tells_more, tells_same}
@@ -196,7 +196,7 @@ module _ {D : Type 0} (score : List ℕ → List ℕ) (disk : DiskOf D)
     pub all_told : (calls : List (Operation × Result RMessage Why)) (d last : DrivenState D)
         (new : CoreState D) → DoesCalls (store_on score disk) d calls last
         → TellsStops disk start d.core → TellsStops disk last.core new
-        → AllByRecursion (HasCause disk start new) calls
+        → AllByRecursion (HasItsCause disk start new) calls
     all_told [] d last new it before after = tt
     all_told ((m, Ok reply) ∷ calls) d last new it before after =
         let here = run_tells disk fits score d.core it.0.core

@@ -18,9 +18,9 @@ use Rattle.vt_core.specs.Sound.{IsSound}
 use Rattle.vt_requests.specs.Driven.{DoesRequest, DrivenState}
 use Rattle.vt_requests.proofs.Risen.{same_fell}
 use Rattle.vt_use.specs.Answers.{FailsForMemoryOnly}
-use Rattle.vt_use.specs.Causes.{FailsFor, HasCause, NoCallFails, TellsStops}
+use Rattle.vt_use.specs.Causes.{FailsFor, HasItsCause, NoCallFails, TellsStops}
 use Rattle.vt_use.specs.Stores.{Exchange, at_time, store_on}
-use Rattle.vt_use.specs.Uses.{Asks, ClosesIf}
+use Rattle.vt_use.specs.Uses.{AsksAndEnds, ClosesIf}
 use Rattle.vt_use.proofs.Answered.{one_goes}
 use Rattle.vt_use.proofs.Causes.{said_why}
 use Rattle.vt_use.proofs.Tells.{all_fit, rose_within}
@@ -75,7 +75,7 @@ module _ {D : Type 0} (disk : DiskOf D) (old new : CoreState D) (quiet : NoCallF
     by_memory IndexFull it sound = absurd it
     by_memory ArenasFull it sound = absurd it
 
-    all_need : (calls : List Exchange) → AllByRecursion (HasCause disk old new) calls
+    all_need : (calls : List Exchange) → AllByRecursion (HasItsCause disk old new) calls
         → AllByRecursion IsUndamaged calls → AllByRecursion FailsForMemoryOnly calls
     all_need [] causes sound = tt
     all_need ((m, Ok reply) ∷ calls) causes sound =
@@ -99,7 +99,7 @@ first_needs ((m, Err why) ∷ calls) all = ⊎_elim
 
 module _ {D : Type 0} (score : List ℕ → List ℕ) (disk : DiskOf D) (now : ℕ) (writes : Bool)
     (calls : List Exchange) (closed : Result (Unit {0}) Why) (old kept new : CoreState D)
-    (it : Asks score disk now writes calls closed old kept new)
+    (it : AsksAndEnds score disk now writes calls closed old kept new)
     (fits : (device : D) → disk.faults device < 2 ^ 64) (quiet : NoCallFails disk old new)
     (tells : IsTrue disk.tells) where
   pub calls_need : (h : History) → IsSound score disk old h → AllByRecursion FailsForMemoryOnly calls

@@ -11,13 +11,13 @@ use Rattle.vt_tree.specs.declared.error.BlockErr.{BlockErr}
 use Rattle.vt_tree.specs.Calls.{Call, get, put, sync}
 use Rattle.vt_tree.specs.Making.{Makes}
 use Rattle.vt_use.specs.LocalJobs.{DoesOnStore, exchanges_of, new_local}
-use Rattle.vt_use.specs.OneBlock.{ArePut, PutsOne, ReadsOne, WritesOne, answer_of, asks_block}
+use Rattle.vt_use.specs.OneBlock.{ArePut, PutsOne, ReadsOne, WritesOne, own_answer, asks_block}
 use Rattle.vt_use.specs.Stores.{Exchange, StoreOf}
 
 -- why a store said no last is its answer
 told_last : {T : Type 0} (err : BlockErr) (refused : Option Why) (why : Why) → refused ≡ Some why
-    → answer_of {T = T} (Err err) refused ≡ Err why
-told_last {T} err refused why is = ap (λ (o : Option Why). answer_of {T = T} (Err err) o) is
+    → own_answer {T = T} (Err err) refused ≡ Err why
+told_last {T} err refused why is = ap (λ (o : Option Why). own_answer {T = T} (Err err) o) is
 
 module _ {S : Type 0} (T : StoreOf S) where
   -- the store said no to the last call, for this reason
@@ -28,7 +28,7 @@ module _ {S : Type 0} (T : StoreOf S) where
   module _ (kind : ℕ) (s : List ℕ) where
     read_reply : (output : Result (List ℕ) BlockErr) (l mid l' : LocalState S)
         (d : DoesLocal T l (get kind s output) mid) → l' ≡ mid
-        → d.reply ≡ answered (λ (bytes : List ℕ). r_read bytes) (answer_of output l'.refused)
+        → d.reply ≡ answered (λ (bytes : List ℕ). r_read bytes) (own_answer output l'.refused)
     read_reply (Ok bytes) l mid l' d same = d.stands
     read_reply (Err err) l mid l' d same =
         let why = d.stands.0 in
@@ -40,7 +40,7 @@ module _ {S : Type 0} (T : StoreOf S) where
     one_read : (output : Result (List ℕ) BlockErr) (l l' : LocalState S)
         (made : Makes (DoesLocal T) l (get kind s output ∷ []) l')
         → exchanges_of T (get kind s output ∷ []) l l' made
-        ≡ asks_block kind s (answer_of output l'.refused)
+        ≡ asks_block kind s (own_answer output l'.refused)
     one_read output l l' made =
         ap (λ (r : Result RMessage Why). (read s kind MAX_BLOCK, r) ∷ [])
         (read_reply output l made.0 l' made.1 made.2)
@@ -48,14 +48,14 @@ module _ {S : Type 0} (T : StoreOf S) where
     pub read_asked : (output : Result (List ℕ) BlockErr) (refused : Option Why)
         (asked : List Exchange) (old new : S)
         → DoesOnStore T (λ calls l l'. ReadsOne kind s output calls) refused asked old new
-        → asked ≡ asks_block kind s (answer_of output refused)
+        → asked ≡ asks_block kind s (own_answer output refused)
     read_asked output refused asked old new it =
         it.exchanges_are
         ∙ subst (λ (calls : List Call). (made : Makes (DoesLocal T) (new_local old) calls it.kept)
         → exchanges_of T calls (new_local old) it.kept made
-        ≡ asks_block kind s (answer_of output it.kept.refused)) (sym it.does.0)
+        ≡ asks_block kind s (own_answer output it.kept.refused)) (sym it.does.0)
         (one_read output (new_local old) it.kept) it.made
-        ∙ ap (λ (o : Option Why). asks_block kind s (answer_of output o)) (sym it.refused_is)
+        ∙ ap (λ (o : Option Why). asks_block kind s (own_answer output o)) (sym it.refused_is)
 
   module _ (b : Block) where
     abbrev wrote : Result RMessage Why → Exchange
@@ -76,7 +76,7 @@ module _ {S : Type 0} (T : StoreOf S) where
 
     refused : (err : BlockErr) (l l' : LocalState S)
         (made : Makes (DoesLocal T) l (put b (Err err) ∷ []) l')
-        → ArePut b.kind b.bytes (answer_of (Err err) l'.refused)
+        → ArePut b.kind b.bytes (own_answer (Err err) l'.refused)
         (exchanges_of T (put b (Err err) ∷ []) l l' made)
     refused err l l' made =
         let why = made.1.stands.0 in
@@ -87,7 +87,7 @@ module _ {S : Type 0} (T : StoreOf S) where
 
     behind : (err : BlockErr) (given : Score) (l l' : LocalState S)
         (made : Makes (DoesLocal T) l (put b (Ok given) ∷ sync (Err err) ∷ []) l')
-        → ArePut b.kind b.bytes (answer_of (Err err) l'.refused)
+        → ArePut b.kind b.bytes (own_answer (Err err) l'.refused)
         (exchanges_of T (put b (Ok given) ∷ sync (Err err) ∷ []) l l' made)
     behind err given l l' made =
         let first : made.1.reply ≡ Ok (r_write given.0) = made.1.stands in
@@ -99,24 +99,24 @@ module _ {S : Type 0} (T : StoreOf S) where
 
     written : (output : Result Score BlockErr) (calls : List Call) (l l' : LocalState S)
         → PutsOne b output calls → (made : Makes (DoesLocal T) l calls l')
-        → ArePut b.kind b.bytes (answer_of output l'.refused) (exchanges_of T calls l l' made)
+        → ArePut b.kind b.bytes (own_answer output l'.refused) (exchanges_of T calls l l' made)
     written (Ok given) calls l l' is made =
         subst (λ (cs : List Call). (made : Makes (DoesLocal T) l cs l')
         → exchanges_of T cs l l' made ≡ wrote (Ok (r_write given.0)) ∷ (sync_all, Ok r_sync) ∷ [])
         (sym is) (both given l l') made
     written (Err err) calls l l' how made = ⊎_elim
         (λ is. subst (λ (cs : List Call). (made : Makes (DoesLocal T) l cs l')
-        → ArePut b.kind b.bytes (answer_of (Err err) l'.refused) (exchanges_of T cs l l' made))
+        → ArePut b.kind b.bytes (own_answer (Err err) l'.refused) (exchanges_of T cs l l' made))
         (sym is) (refused err l l') made)
         (λ more. subst (λ (cs : List Call). (made : Makes (DoesLocal T) l cs l')
-        → ArePut b.kind b.bytes (answer_of (Err err) l'.refused) (exchanges_of T cs l l' made))
+        → ArePut b.kind b.bytes (own_answer (Err err) l'.refused) (exchanges_of T cs l l' made))
         (sym more.1) (behind err more.0 l l') made)
         how
 
     pub written_asked : (score_of : List ℕ → List ℕ) (output : Result Score BlockErr)
         (why : Option Why) (asked : List Exchange) (old new : S)
         → DoesOnStore T (λ calls l l'. WritesOne score_of b output calls) why asked old new
-        → ArePut b.kind b.bytes (answer_of output why) asked
+        → ArePut b.kind b.bytes (own_answer output why) asked
     written_asked score_of output why asked old new it =
         rw (it.exchanges_are, it.refused_is)
         (written output it.calls (new_local old) it.kept it.does.0 it.made)

@@ -14,9 +14,9 @@ use Rattle.vt_requests.specs.Driven.{DrivenState}
 use Rattle.vt_requests.specs.Ending.{AreMarkedAt, Ends}
 use Rattle.vt_requests.proofs.WorkDone.{all_kept, keeps_on}
 use Rattle.vt_open.specs.Names.{HaveOneShape}
-use Rattle.vt_use.specs.Causes.{FailsFor, HasCause, TellsStops}
-use Rattle.vt_use.specs.Stores.{Exchange, OnlyReads, MakesRun, at_time, store_on}
-use Rattle.vt_use.specs.Uses.{Asks, ClosesIf, UsesCore}
+use Rattle.vt_use.specs.Causes.{FailsFor, HasItsCause, TellsStops}
+use Rattle.vt_use.specs.Stores.{Exchange, AddsNothing, MakesRun, at_time, store_on}
+use Rattle.vt_use.specs.Uses.{AsksAndEnds, ClosesIf, UsesCore}
 use Rattle.vt_use.proofs.Causes.{all_told, by_failure, if_closed, if_failure}
 use Rattle.vt_use.proofs.Keeps.{asked_keeps, asked_time}
 use Rattle.vt_use.proofs.Runs.{calls_run, run_more}
@@ -85,7 +85,7 @@ module _ {D : Type 0} (score : List ℕ → List ℕ) (disk : DiskOf D) where
 
   module _ (now : ℕ) (writes : Bool) (calls : List Exchange) (closed : Result (Unit {0}) Why)
       (old kept new : CoreState D)
-      (it : Asks score disk now writes calls closed old kept new) where
+      (it : AsksAndEnds score disk now writes calls closed old kept new) where
     asks_run : MakesRun score disk old kept
     asks_run = calls_run score disk (at_time now old) (at_time now kept) calls it.asked
 
@@ -124,7 +124,7 @@ module _ {D : Type 0} (score : List ℕ → List ℕ) (disk : DiskOf D) where
       pub end_cause : IfErr closed (λ why. FailsFor disk why old new)
       end_cause = of_end writes it.ends
 
-      pub each_cause : AllByRecursion (HasCause disk old new) calls
+      pub each_cause : AllByRecursion (HasItsCause disk old new) calls
       each_cause = all_told score disk fits old none calls (at_time now old) (at_time now kept) new
           it.asked (tells_same disk old old refl) end_tells
 
@@ -133,7 +133,7 @@ module _ {D : Type 0} (score : List ℕ → List ℕ) (disk : DiskOf D) where
   module _ (now : ℕ) (writes : Bool) (Does : List Exchange → (old new : DrivenState D) → Type 0)
       (old : CoreState D) (d : DrivenState D) (calls : List Exchange)
       (asked : DoesCalls (store_on score disk) (at_time now old) calls d)
-      (reads : writes ≡ false → AllByRecursion OnlyReads calls)
+      (reads : writes ≡ false → AllByRecursion AddsNothing calls)
       (does : Does calls (at_time now old) d) where
     pub used : (closed : Result (Unit {0}) Why) (new : CoreState D)
         → ClosesIf score disk writes closed d.core new → (added : ℕ)

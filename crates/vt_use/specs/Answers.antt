@@ -23,13 +23,13 @@ IsAnswer score c h m reply =
 
 -- The answer is the model's, and the history goes on with what that adds; or the store failed, and it
 -- stays.
-abbrev pub GoesOnTo : (List ℕ → List ℕ) → Setup → Exchange → (h next : History) → Type 0
-GoesOnTo score c exchange h next =
+abbrev pub GoesOnAs : (List ℕ → List ℕ) → Setup → Exchange → (h next : History) → Type 0
+GoesOnAs score c exchange h next =
     ((reply_in exchange.1 ≡ (answer score c h (asked_of_store exchange.0)).reply)
     × (next ≡ with_added h (answer score c h (asked_of_store exchange.0)).added))
     ⊎ (HasFailed exchange.1 × (next ≡ h))
 
--- where it is an answered sync, this history was durable behind it
+-- where it is an answered sync, this history is durable at the end
 abbrev pub IsCovered : Exchange → (next : History) → (durable : ℕ) → Type 0
 IsCovered exchange next durable = exchange ≡ (sync, Ok r_sync) → length next ≤ durable
 
@@ -39,7 +39,7 @@ abbrev pub AreModelAnswers : (List ℕ → List ℕ) → Setup → (h : History)
     → (last : History) → (durable : ℕ) → Type 0
 AreModelAnswers score c h [] last durable = last ≡ h
 AreModelAnswers score c h (exchange ∷ exchanges) last durable =
-    (next : History) × GoesOnTo score c exchange h next × IsCovered exchange next durable
+    (next : History) × GoesOnAs score c exchange h next × IsCovered exchange next durable
     × AreModelAnswers score c next exchanges last durable
 
 -- no failure is told but want of memory

@@ -32,6 +32,6 @@ FailsFor disk whys.NoMemory old new = ⊤
 FailsFor disk why old new = ⊥
 
 -- each failure that is told among these has its cause
-abbrev pub HasCause : {D : Type 0} → DiskOf D → (old new : CoreState D) → Exchange → Type 0
-HasCause disk old new exchange =
+abbrev pub HasItsCause : {D : Type 0} → DiskOf D → (old new : CoreState D) → Exchange → Type 0
+HasItsCause disk old new exchange =
     IfErr exchange.1 (λ why. tells_failure why ≡ true → FailsFor disk why old new)

@@ -35,10 +35,10 @@ WritesOne score_of b output calls =
 -- ---- of a store of this process
 
 -- its own answer, where it said no last for this reason, if it did
-abbrev pub answer_of : {T : Type 0} → Result T BlockErr → (last_refusal : Option Why) → Result T Why
-answer_of (Ok value) last_refusal = Ok value
-answer_of (Err err) (Some why) = Err why
-answer_of (Err err) None = Err NoMemory
+abbrev pub own_answer : {T : Type 0} → Result T BlockErr → (last_refusal : Option Why) → Result T Why
+own_answer (Ok value) last_refusal = Ok value
+own_answer (Err err) (Some why) = Err why
+own_answer (Err err) None = Err NoMemory
 
 -- it is asked for this block, and answers so
 abbrev pub asks_block : (kind : ℕ) (s : List ℕ) → Result (List ℕ) Why → List Exchange

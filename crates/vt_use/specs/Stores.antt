@@ -14,15 +14,16 @@ use Rattle.vt_requests.specs.Driven.{DrivenState, DoesRequest, HoldsOn, conditio
 abbrev pub Exchange : Type 0
 Exchange = Operation × Result RMessage Why
 
+-- it asks for a block
 abbrev IsReading : Operation → Type 0
-IsReading ping = ⊤
+IsReading ping = ⊥
 IsReading (read score kind count) = ⊤
 IsReading (write kind bytes) = ⊥
 IsReading sync = ⊥
 
 -- it adds nothing, and has nothing made durable
-abbrev pub OnlyReads : Exchange → Type 0
-OnlyReads exchange = IsReading exchange.0
+abbrev pub AddsNothing : Exchange → Type 0
+AddsNothing exchange = IsReading exchange.0
 
 -- a store on devices, as its first session asks it
 abbrev pub store_on : {D : Type 0} → (List ℕ → List ℕ) → DiskOf D → StoreOf (DrivenState D)

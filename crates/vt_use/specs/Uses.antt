@@ -21,7 +21,7 @@ use Rattle.vt_requests.specs.Ending.{Ends}
 use Rattle.vt_open.specs.Names.{AreUnder, HaveOneShape, files_of}
 use Rattle.vt_open.specs.Opening.{Opens}
 use Rattle.vt_open.specs.Taking.{AreHandedBack}
-use Rattle.vt_use.specs.Stores.{Exchange, OnlyReads, at_time, store_on}
+use Rattle.vt_use.specs.Stores.{Exchange, AddsNothing, at_time, store_on}
 
 -- ---- what is done
 
@@ -34,11 +34,11 @@ ClosesIf score disk false closed kept new = (closed ≡ Ok tt) × (new ≡ kept)
 
 -- A store was asked for these operations and for nothing else, and its use was ended where it may
 -- have been written to.
-pub record Asks {D : Type 0} (score : List ℕ → List ℕ) (disk : DiskOf D) (now : ℕ) (writes : Bool)
+pub record AsksAndEnds {D : Type 0} (score : List ℕ → List ℕ) (disk : DiskOf D) (now : ℕ) (writes : Bool)
     (exchanges : List Exchange) (closed : Result (Unit {0}) Why) (old kept new : CoreState D)
     : Type 0 where
   pub asked : DoesCalls (store_on score disk) (at_time now old) exchanges (at_time now kept)
-  pub reads : writes ≡ false → AllByRecursion OnlyReads exchanges
+  pub reads : writes ≡ false → AllByRecursion AddsNothing exchanges
   pub ends : ClosesIf score disk writes closed kept new
 
 -- This was done with a store: so many blocks are new in it.
@@ -47,7 +47,7 @@ pub record UsesCore {D : Type 0} (score : List ℕ → List ℕ) (disk : DiskOf 
     (closed : Result (Unit {0}) Why) (old new : CoreState D) : Type 0 where
   pub exchanges : List Exchange
   pub kept : CoreState D
-  pub asks : Asks score disk now writes exchanges closed old kept new
+  pub asks : AsksAndEnds score disk now writes exchanges closed old kept new
   pub does : Does exchanges (at_time now old) (at_time now kept)
   pub added_is : added ≡ history_len new - history_len old
 

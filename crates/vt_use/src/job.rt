@@ -3,7 +3,7 @@
 ghost use Rattle.std.specs.Prelude.{◌≡◌, Bool, false, List};
 ghost use Rattle.std.specs.List.{AllByRecursion};
 ghost use Rattle.vt_handler.specs.Taking.{DoesCalls};
-ghost use Rattle.vt_use.specs.Stores.{Exchange, OnlyReads, StoreOf};
+ghost use Rattle.vt_use.specs.Stores.{Exchange, AddsNothing, StoreOf};
 
 use std::alloc::Global;
 use vt_handler::Store;
@@ -34,6 +34,6 @@ pub trait Job<X> {
     fn run<T: Store>(&self, alloc: Global, store: T, beside: &mut X) -> (Self::Output, T)
         requires { fits T T.Store self.now beside.old }
         ensures { (exchanges : List Exchange) × DoesCalls T.Store store exchanges result.1
-            × (writes self.now ≡ false → AllByRecursion OnlyReads exchanges)
+            × (writes self.now ≡ false → AllByRecursion AddsNothing exchanges)
             × does T T.Store self.now result.0 beside.old beside.new exchanges store result.1 };
 }

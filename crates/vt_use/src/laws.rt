@@ -19,9 +19,9 @@ ghost use Rattle.vt_open.specs.Taking.{AreHandedBack};
 ghost use Rattle.vt_part.specs.Table.{Table};
 ghost use Rattle.vt_partitions.specs.Parts.{Standing};
 ghost use Rattle.vt_use.specs.Answers.{AreModelAnswers, FailsForMemoryOnly};
-ghost use Rattle.vt_use.specs.Causes.{FailsFor, HasCause, NoCallFails, TellsStops};
+ghost use Rattle.vt_use.specs.Causes.{FailsFor, HasItsCause, NoCallFails, TellsStops};
 ghost use Rattle.vt_use.specs.Stores.{Exchange, MakesRun};
-ghost use Rattle.vt_use.specs.Uses.{Asks, LeftByUse, LeftInStore};
+ghost use Rattle.vt_use.specs.Uses.{AsksAndEnds, LeftByUse, LeftInStore};
 
 use vt_core::{marks_are_read, stores_can_be_mounted};
 use vt_disk::Disk;
@@ -34,11 +34,11 @@ use vt_open::{opened_stores_recall, shapes_are_kept};
 pub fn calls_are_runs<D: Disk>()
     ensures run { (score : List ℕ → List ℕ) (now : ℕ) (writes : Bool) (exchanges : List Exchange)
         (closed : Result (Unit {0}) Why) (old kept new : CoreState D)
-        → Asks score D.Disk now writes exchanges closed old kept new
+        → AsksAndEnds score D.Disk now writes exchanges closed old kept new
         → MakesRun score D.Disk old new }
     ensures keeps { (score : List ℕ → List ℕ) (now : ℕ) (writes : Bool)
         (exchanges : List Exchange) (closed : Result (Unit {0}) Why) (old kept new : CoreState D)
-        → Asks score D.Disk now writes exchanges closed old kept new → KeepsAll D.Disk old new }
+        → AsksAndEnds score D.Disk now writes exchanges closed old kept new → KeepsAll D.Disk old new }
     ensures stops { (score : List ℕ → List ℕ) (old new : CoreState D)
         → MakesRun score D.Disk old new → TellsStops D.Disk old new }
 {}
@@ -48,17 +48,17 @@ pub fn calls_are_runs<D: Disk>()
 pub fn uses_have_causes<D: Disk>()
     ensures each { (score : List ℕ → List ℕ) (now : ℕ) (writes : Bool) (exchanges : List Exchange)
         (closed : Result (Unit {0}) Why) (old kept new : CoreState D)
-        → Asks score D.Disk now writes exchanges closed old kept new
+        → AsksAndEnds score D.Disk now writes exchanges closed old kept new
         → All (λ stop. stop ≡ None) (stops_of old)
-        → AllByRecursion (HasCause D.Disk old new) exchanges }
+        → AllByRecursion (HasItsCause D.Disk old new) exchanges }
     ensures first { (score : List ℕ → List ℕ) (now : ℕ) (writes : Bool)
         (exchanges : List Exchange) (closed : Result (Unit {0}) Why) (old kept new : CoreState D)
-        → Asks score D.Disk now writes exchanges closed old kept new
+        → AsksAndEnds score D.Disk now writes exchanges closed old kept new
         → All (λ stop. stop ≡ None) (stops_of old)
         → IfSome (first_told exchanges) (λ why. FailsFor D.Disk why old new) }
     ensures closed { (score : List ℕ → List ℕ) (now : ℕ) (writes : Bool)
         (exchanges : List Exchange) (closed : Result (Unit {0}) Why) (old kept new : CoreState D)
-        → Asks score D.Disk now writes exchanges closed old kept new
+        → AsksAndEnds score D.Disk now writes exchanges closed old kept new
         → All (λ stop. stop ≡ None) (stops_of old)
         → IfErr closed (λ why. FailsFor D.Disk why old new) }
 {}
@@ -68,37 +68,39 @@ pub fn uses_have_causes<D: Disk>()
 pub fn calls_are_answered<D: Disk>()
     ensures { (score : List ℕ → List ℕ) (now : ℕ) (writes : Bool) (exchanges : List Exchange)
         (closed : Result (Unit {0}) Why) (h : History) (old kept new : CoreState D)
-        → Asks score D.Disk now writes exchanges closed old kept new → IsTrue D.tells
+        → AsksAndEnds score D.Disk now writes exchanges closed old kept new → IsTrue D.tells
         → IsSound score D.Disk old h → (last : History) × IsSound score D.Disk kept last
         × AreModelAnswers score (setup_of old) h exchanges last kept.log.durable }
 {}
 
-/// Where no device counted a failed call, a use of a sound store needs memory alone.
+/// Where no part had stopped and no device counted a failed call, a use of a sound store needs memory
+/// alone.
 pub fn uses_need_memory<D: Disk>()
     ensures { (score : List ℕ → List ℕ) (now : ℕ) (writes : Bool) (exchanges : List Exchange)
         (closed : Result (Unit {0}) Why) (h : History) (old kept new : CoreState D)
-        → Asks score D.Disk now writes exchanges closed old kept new → IsTrue D.tells
+        → AsksAndEnds score D.Disk now writes exchanges closed old kept new → IsTrue D.tells
         → IsSound score D.Disk old h → NoCallFails D.Disk old new
         → AllByRecursion FailsForMemoryOnly exchanges × (closed ≡ Ok tt) }
 {}
 
-/// Where it is only read, a store holds what it held, and nothing but reads is made of its devices.
+/// Where it is only read, a sound store holds what it held, and nothing but reads is made of its
+/// devices.
 pub fn readers_leave_all<D: Disk>()
     ensures { (score : List ℕ → List ℕ) (now : ℕ) (exchanges : List Exchange)
         (closed : Result (Unit {0}) Why) (h : History) (old kept new : CoreState D)
-        → Asks score D.Disk now false exchanges closed old kept new → IsTrue D.tells
+        → AsksAndEnds score D.Disk now false exchanges closed old kept new → IsTrue D.tells
         → IsSound score D.Disk old h → IsSound score D.Disk new h
         × OnlyReadFrom D.Disk (READS_MOST * length exchanges) (all_of (devices_of old))
         (all_of (devices_of new)) }
 {}
 
 /// Whatever device calls failed, what is left of a store that held a history behind what it was
-/// asked stands for a prefix of that with each durable block, and where nothing failed at the end
-/// for all of it.
+/// asked stands for a prefix of that with each durable block, and where its use was ended and nothing
+/// failed in that for all of it.
 pub fn uses_leave<D: Disk>()
     ensures { (score : List ℕ → List ℕ) (now : ℕ) (writes : Bool) (exchanges : List Exchange)
         (closed : Result (Unit {0}) Why) (last : History) (old kept new : CoreState D)
-        → Asks score D.Disk now writes exchanges closed old kept new → IsTrue D.tells
+        → AsksAndEnds score D.Disk now writes exchanges closed old kept new → IsTrue D.tells
         → IsSound score D.Disk kept last
         → LeftByUse score D.Disk writes closed last old kept new }
 {
@@ -115,7 +117,7 @@ pub fn uses_leave_the_store<D: Disk>()
         (tables : List Table) (devices : PerDevice D) (c : Setup) (h g : History) (base : ℕ)
         → IsTrue told → IsTrue D.tells
         → Opens score D.Disk (IsTrue told) conf 1 old during opened
-        → Asks score D.Disk now writes exchanges closed opened kept left
+        → AsksAndEnds score D.Disk now writes exchanges closed opened kept left
         → HaveOneShape (devices_of left) (files_of conf)
         → AreHandedBack (IsTrue told) (all_of (files_of conf)) during new (all_of (devices_of left))
         → AreUnder old conf devices → IsLogOf score D.Disk tables devices c h g base
@@ -128,8 +130,9 @@ pub fn uses_leave_the_store<D: Disk>()
     uses_leave::<D>();
 }
 
-/// The answers of such a store are the model's, from the history on that its partitions read as; and
-/// what is left of it holds that, and behind it what they add.
+/// The answers of such a store are the model's, from the history on that its partitions read as, or
+/// the store failed; and what is left of it stands for a prefix of that and of what they add behind
+/// it, with each durable block.
 pub fn stores_are_used<D: Disk>()
     ensures { (score : List ℕ → List ℕ) (told : Bool) (conf : Conf) (now : ℕ) (writes : Bool)
         (exchanges : List Exchange) (closed : Result (Unit {0}) Why)
@@ -137,7 +140,7 @@ pub fn stores_are_used<D: Disk>()
         (tables : List Table) (devices : PerDevice D) (c : Setup) (h g : History) (base : ℕ)
         → IsTrue told → IsTrue D.tells
         → Opens score D.Disk (IsTrue told) conf 1 old during opened
-        → Asks score D.Disk now writes exchanges closed opened kept left
+        → AsksAndEnds score D.Disk now writes exchanges closed opened kept left
         → HaveOneShape (devices_of left) (files_of conf)
         → AreHandedBack (IsTrue told) (all_of (files_of conf)) during new (all_of (devices_of left))
         → AreUnder old conf devices → IsLogOf score D.Disk tables devices c h g base

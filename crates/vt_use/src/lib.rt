@@ -15,5 +15,5 @@ pub use laws::{
     calls_are_answered, calls_are_runs, readers_leave_all, stores_are_used, uses_have_causes,
     uses_leave, uses_leave_the_store, uses_need_memory,
 };
-pub use one_block::{ReadBlock, WriteBlock, answer_of, blocks_are_asked};
+pub use one_block::{ReadBlock, WriteBlock, blocks_are_asked, own_answer};
 pub use using::{Used, use_core, use_store};

@@ -7,7 +7,7 @@ ghost use Rattle.vt_model.specs.History.{Block};
 ghost use Rattle.vt_requests.specs.Driven.{DrivenState};
 ghost use Rattle.vt_tree.specs.declared.error.BlockErr.{BlockErr};
 ghost use Rattle.vt_use.specs.LocalJobs.{DoesOnStore};
-ghost use Rattle.vt_use.specs.OneBlock.{ArePut, ReadsOne, WritesOne, answer_of, asks_block};
+ghost use Rattle.vt_use.specs.OneBlock.{ArePut, ReadsOne, WritesOne, own_answer, asks_block};
 ghost use Rattle.vt_use.specs.Stores.{Exchange, store_on};
 
 use crate::block_job::BlockJob;
@@ -88,8 +88,8 @@ impl<'a> BlockJob<()> for WriteBlock<'a> {
 }
 
 /// What a store of this process answered itself, where it said no last for this reason, if it did.
-pub fn answer_of<T>(output: Result<T, BlockErr>, last_refusal: Option<Why>) -> Result<T, Why>
-    ensures { result ≡ answer_of output last_refusal }
+pub fn own_answer<T>(output: Result<T, BlockErr>, last_refusal: Option<Why>) -> Result<T, Why>
+    ensures { result ≡ own_answer output last_refusal }
 {
     match (output, last_refusal) {
         (Ok(value), _) => Ok(value),
@@ -105,10 +105,10 @@ pub fn blocks_are_asked<D: Disk>()
         (old new : DrivenState D)
         → DoesOnStore (store_on score D.Disk) (λ calls l l'. ReadsOne kind s output calls) refused
         exchanges old new
-        → exchanges ≡ asks_block kind s (answer_of output refused) }
+        → exchanges ≡ asks_block kind s (own_answer output refused) }
     ensures written { (score : List ℕ → List ℕ) (b : Block) (output : Result Score BlockErr)
         (refused : Option Why) (exchanges : List Exchange) (old new : DrivenState D)
         → DoesOnStore (store_on score D.Disk) (λ calls l l'. WritesOne score b output calls)
         refused exchanges old new
-        → ArePut b.kind b.bytes (answer_of output refused) exchanges }
+        → ArePut b.kind b.bytes (own_answer output refused) exchanges }
 {}

@@ -1,4 +1,4 @@
-//! Using a store.
+//! Using a store: it is opened, a job is done with it, and it is closed, whatever the job came to.
 
 ghost use Rattle.std.specs.Prelude.{◌≡◌, ◌+◌, ◌^◌, ◌<◌, IsTrue, IfErr, OnErr, OnOk, IfOk, length};
 ghost use Rattle.vt_core.specs.Machine.{WaitsForNone};

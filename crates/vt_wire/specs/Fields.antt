@@ -17,6 +17,7 @@ pub record IsText (bytes : List ℕ) : Type 0 where
 abbrev pub counted_field : List ℕ → List ℕ
 counted_field bytes = length bytes ∷ bytes
 
+-- so few bytes that a field of one byte counts them
 abbrev pub FitsCount : List ℕ → Type 0
 FitsCount bytes = length bytes < 256
 

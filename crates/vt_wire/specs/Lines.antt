@@ -25,6 +25,7 @@ abbrev pub with_first : ℕ → List (List ℕ) → List (List ℕ)
 with_first b [] = (b ∷ []) ∷ []
 with_first b (version ∷ later) = (b ∷ version) ∷ later
 
+-- the bytes cut at colons, up to the first hyphen
 abbrev pub cut_at_colons : List ℕ → List (List ℕ)
 cut_at_colons [] = [] ∷ []
 cut_at_colons (b ∷ bytes) =
@@ -36,9 +37,11 @@ cut_at_colons (b ∷ bytes) =
 abbrev pub versions : List ℕ → List (List ℕ)
 versions line = cut_at_colons (drop 6 line)
 
+-- whether a version is 02
 abbrev pub is_02 : List ℕ → Bool
 is_02 version = bytes_eq version (codes "02")
 
+-- whether a line of versions has 02 among them
 abbrev pub offers_02 : List ℕ → Bool
 offers_02 line = list_any is_02 (versions line)
 

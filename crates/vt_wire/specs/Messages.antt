@@ -9,6 +9,7 @@ use Rattle.vt_wire.specs.Frames.{framed, IsFrame}
 
 -- ---- T-messages
 
+-- the type of a request's frame, by venti(6)
 abbrev pub request_type : TMessage → ℕ
 request_type (t_ask ping) = 2
 request_type (t_hello version) = 4
@@ -97,6 +98,7 @@ FitsRequest (t_ask sync) = ⊤
 abbrev pub is_reply_type : ℕ → Bool
 is_reply_type t = t == 1 || t == 3 || t == 5 || t == 13 || t == 15 || t == 17
 
+-- the type of a reply's frame, by venti(6)
 abbrev pub reply_type : RMessage → ℕ
 reply_type (r_error text) = 1
 reply_type r_ping = 3
@@ -127,6 +129,7 @@ pub record SpellsWelcome (parameters : List ℕ) : Type 0 where
   pub sid_text : IsText sid
   pub spelled : parameters ≡ string sid ++ (cipher ∷ codec ∷ [])
 
+-- the bytes behind type and tag of a reply
 abbrev pub SpellsReplyParameters : RMessage → List ℕ → Type 0
 SpellsReplyParameters (r_error text) parameters = IsText text × (parameters ≡ string text)
 SpellsReplyParameters r_ping parameters = parameters ≡ []

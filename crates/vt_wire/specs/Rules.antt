@@ -3,6 +3,7 @@ use Rattle.std.specs.Prelude.{ℕ, List, codes}
 use Rattle.vt_wire.specs.declared.protocol_cause.ProtocolCause.{ProtocolCause}
 use Rattle.vt_wire.specs.declared.protocol_cause.ProtocolCause.TheVariants.{HelloExpected, HelloRepeated, VersionNotAgreed, BadMessage, UnknownMessage}
 
+-- the text that tells which rule was broken
 abbrev pub rule_words : ProtocolCause → List ℕ
 rule_words HelloExpected = codes "hello expected"
 rule_words HelloRepeated = codes "hello repeated"

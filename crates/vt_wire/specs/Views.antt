@@ -5,6 +5,7 @@ use Rattle.vt_wire.specs.declared.message.Request.TheVariants as requests
 use Rattle.vt_wire.specs.declared.message.Reply.{Reply}
 use Rattle.vt_wire.specs.declared.message.Reply.TheVariants as replies
 
+-- the request that one in memory is
 abbrev pub message_of : Request → TMessage
 message_of requests.Ping = t_ask ping
 message_of (requests.Hello version) = t_hello version.now
@@ -13,6 +14,7 @@ message_of (requests.Read score kind count) = t_ask (read score.0 kind count)
 message_of (requests.Write kind bytes) = t_ask (write kind bytes.now)
 message_of requests.Sync = t_ask sync
 
+-- the reply that one in memory is
 abbrev pub reply_of : Reply → RMessage
 reply_of replies.Ping = r_ping
 reply_of replies.Hello = r_hello

@@ -54,6 +54,8 @@ fn hello(parameters: &[u8]) -> Result<Request<'_>, WireBad>
     ensures { ReadsParameters 4 parameters.now result }
 {
     let (version, rest) = string_at(parameters, 0)?;
+    // (The numbers are those of the parameters, for a refusal. Of a hello only the version counts;
+    // the others have to be well formed.)
     let (_uid, rest) = string_at(rest, 1)?;
     let (_strength, rest) = array_at::<1>(rest, 2)?;
     let behind_crypto = behind_list(rest, 3)?;
@@ -68,6 +70,7 @@ fn read(parameters: &[u8]) -> Result<Request<'_>, WireBad>
 {
     let (score, rest) = array_at::<20>(parameters, 0)?;
     let ([kind], rest) = array_at::<1>(rest, 1)?;
+    // (the pad byte may be anything)
     let (_pad, rest) = array_at::<1>(rest, 2)?;
     let (count, rest) = array_at::<2>(rest, 3)?;
     at_end(rest, 4)?;

@@ -21,6 +21,7 @@ pub fn encode(tag: u8, reply: &Reply, buf: &mut [u8]) -> usize
     ensures written { take result buf.new ≡ spelled_reply tag (reply_of reply.now) }
     ensures behind { drop result buf.new ≡ drop result buf.old }
 {
+    // (the size counts type, tag and parameters, and not its own two bytes)
     let size = 2 + parameters_len(reply);
     let at = put_u16(buf, 0, size as u16);
     let at = put_u8(buf, at, type_of(reply));
@@ -50,6 +51,7 @@ fn parameters_len(reply: &Reply) -> usize
 {
     match reply {
         Reply::Ping | Reply::Sync => 0,
+        // (sid[s], rcrypto[1], rcodec[1]; a string has two bytes of length in front)
         Reply::Hello => 2 + SID.len() + 2,
         Reply::Read(bytes) => bytes.len(),
         Reply::Write(score) => score.0.len(),

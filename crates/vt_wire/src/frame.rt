@@ -1,4 +1,4 @@
-//! How messages are cut from what came.
+//! How messages are cut from what came: by the two bytes in front that count theirs.
 
 ghost use Rattle.std.specs.Prelude.{◌≡◌, ◌≤◌, ◌↔◌, length, take, drop, IsNone, IfSome};
 ghost use Rattle.vt_wire.specs.Frames.{size_width, frame_len, IsFrame, IsPartial};

@@ -7,7 +7,7 @@ ghost use Rattle.vt_wire.specs.Fields.{IsText, string, bytes_of, a_string, a_lis
 use crate::{MAX_STRING, WireBad};
 use vt_base::fields::u16_at;
 
-/// So many bytes.
+/// The parameter in front, which has so many bytes, and what stands behind it.
 pub(crate) fn array_at<const N: usize>(
     bytes: &[u8],
     number: u8,
@@ -64,7 +64,7 @@ pub(crate) fn at_end(bytes: &[u8], number: u8) -> Result<(), WireBad>
     }
 }
 
-/// A message without parameters.
+/// A message without parameters: any byte behind the tag is too much.
 pub(crate) fn alone<T: Copy>(parameters: &[u8], message: T) -> Result<T, WireBad>
     ensures ok { IfOk result (λ m. (m ≡ message) × (parameters.now ≡ [])) }
     ensures err { IfErr result (λ e. (e ≡ WireBad.Bad 0) × (parameters.now ≢ [])) }

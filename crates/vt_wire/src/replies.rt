@@ -48,7 +48,7 @@ fn reply_from(kind: u8, parameters: &[u8]) -> Result<Reply<'_>, WireBad>
     }
 }
 
-/// Rerror: error[s].
+/// Rerror: error[s], the text of the refusal.
 fn error(parameters: &[u8]) -> Result<Reply<'_>, WireBad>
     ensures { ReadsReply 1 parameters.now result }
 {
@@ -68,7 +68,7 @@ fn welcome(parameters: &[u8]) -> Result<Reply<'_>, WireBad>
     Ok(Reply::Hello)
 }
 
-/// Rwrite: score[20].
+/// Rwrite: score[20], that of the block.
 fn written(parameters: &[u8]) -> Result<Reply<'_>, WireBad>
     ensures { ReadsReply 15 parameters.now result }
 {

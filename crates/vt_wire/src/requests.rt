@@ -20,6 +20,7 @@ pub fn encode_request(tag: u8, request: &Request, buf: &mut [u8]) -> usize
     ensures written { take result buf.new ≡ asked tag (message_of request.now) }
     ensures behind { drop result buf.new ≡ drop result buf.old }
 {
+    // (the size counts type, tag and parameters, and not its own two bytes)
     let size = 2 + parameters_len(request);
     let at = put_u16(buf, 0, size as u16);
     let at = put_u8(buf, at, type_of(request));

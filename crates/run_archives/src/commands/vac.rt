@@ -1,5 +1,6 @@
 //! The command `vac CONF FOLDER`, with `-b BSIZE`: archives a folder into the store of a
 //! configuration.
+// Tests: crates/run_tests_archives/src/vac.rt.
 
 ghost use Rattle.std.specs.Prelude.{◌≡◌, ◌≤◌, ◌<◌, ◌+◌, ◌^◌, ℕ, List, length, IsTrue, Ok};
 ghost use Rattle.std.specs.Prelude.{IfErr, IfOk};

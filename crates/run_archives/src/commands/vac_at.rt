@@ -1,4 +1,5 @@
 //! The command `vac STORE FOLDER`, with `-b BSIZE`: archives a folder in a store, wherever that is.
+// Tests: crates/run_tests_archives/src/vac.rt, crates/run_tests_archives/src/vac_served.rt.
 
 ghost use Rattle.std.specs.Prelude.{ℕ, List};
 ghost use Rattle.run_base.specs.Change.{dialer_change, files_change, folders_change, parts_change, sink_change};

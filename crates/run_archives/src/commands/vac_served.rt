@@ -1,4 +1,5 @@
 //! The command `vac ADDRESS FOLDER`, with `-b BSIZE`: archives a folder at a server.
+// Tests: crates/run_tests_archives/src/vac_served.rt.
 
 ghost use Rattle.std.specs.Prelude.{◌≡◌, ◌≤◌, ℕ, List, IfErr, IfOk, IsTrue, Ok};
 ghost use Rattle.vt_base.specs.Faults.{CountsFault};

@@ -1,4 +1,5 @@
 //! The command `vacfs STORE SCORE`: an archive as a tree of files for a client that speaks 9P2000.
+// Tests: crates/run_tests_archives/src/vacfs.rt, crates/run_tests_archives/src/edges.rt.
 
 ghost use Rattle.std.specs.Prelude.{◌≡◌, ◌⊎◌, ◌+◌, ◌^◌, ◌<◌, Err, IsTrue, length};
 ghost use Rattle.vt_core.specs.Core.{devices_of};

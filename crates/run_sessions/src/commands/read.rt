@@ -1,4 +1,6 @@
 //! The command `read STORE SCORE TYPE`: one block of a store is printed.
+// Tests: crates/run_tests_sessions/src/read.rt, crates/run_tests_sessions/src/write.rt (over a
+// server).
 
 ghost use Rattle.run_base.specs.Change.{dialer_change, files_change, parts_change, sink_change};
 ghost use Rattle.run_sessions.specs.Read.{DoesRead, PrintsKept, PrintsMade, PrintsServed};

@@ -1,4 +1,5 @@
 //! The command `session :memory:`: one session over a store in memory.
+// Tests: crates/run_tests_sessions/src/session.rt.
 
 ghost use Rattle.std.specs.Prelude.{◌≡◌};
 ghost use Rattle.run_base.specs.Change.{PassesNothing, sink_change, source_change};

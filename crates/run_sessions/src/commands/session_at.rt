@@ -1,4 +1,5 @@
 //! The command `session STORE`: one session over a store, in memory or of a configuration.
+// Tests: crates/run_tests_sessions/src/session.rt, crates/run_tests_sessions/src/session_conf.rt.
 
 ghost use Rattle.run_base.specs.Change.{files_change, parts_change, sink_change, source_change};
 ghost use Rattle.run_sessions.specs.SessionAt.{DoesSessionAt};

@@ -1,4 +1,5 @@
 //! The command `session CONF`: one session over the store that a configuration names.
+// Tests: crates/run_tests_sessions/src/session_conf.rt.
 
 ghost use Rattle.std.specs.Prelude.{◌≡◌, ◌⊎◌, ◌+◌, ◌^◌, ◌<◌, IsTrue, length};
 ghost use Rattle.vt_core.specs.Core.{devices_of};

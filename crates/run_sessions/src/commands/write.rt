@@ -1,4 +1,6 @@
 //! The command `write STORE TYPE`: what comes in is one block of a store, whose score is printed.
+// Tests: crates/run_tests_sessions/src/read.rt, crates/run_tests_sessions/src/write.rt (over a
+// server).
 
 ghost use Rattle.std.specs.Prelude.{◌≡◌, ◌≤◌, ◌<◌, ◌++◌, ℕ, List, [], IfErr, IfOk, OnErr, IsTrue, length, take};
 ghost use Rattle.vt_base.specs.Faults.{HasCause};

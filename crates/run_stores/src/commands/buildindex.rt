@@ -1,5 +1,6 @@
 //! The command `buildindex CONF`: rebuilds the index of the store that a configuration names from its
 //! arenas.
+// Tests: crates/run_tests_stores/src/checkarenas.rt.
 
 ghost use Rattle.std.specs.Prelude.{◌≡◌, ◌+◌, ◌<◌, ◌^◌, length};
 ghost use Rattle.run_base.specs.Change.{files_change, parts_change, sink_change};

@@ -1,4 +1,5 @@
 //! The command `checkarenas CONF`: checks the arenas of the store that a configuration names.
+// Tests: crates/run_tests_stores/src/checkarenas.rt.
 
 ghost use Rattle.std.specs.Prelude.{◌≡◌, ◌+◌, ◌++◌, ◌<◌, ◌^◌, IsTrue, OnErr, OnOk, length};
 ghost use Rattle.vt_base.specs.Faults.{HasCause};
@@ -119,6 +120,7 @@ fn put_report<K: Sink>(sink: &mut K, report: &ArenaReport) -> Result<(), Failed>
     )
 }
 
+/// The word for an arena that takes no more blocks, and for one that does.
 fn state_text(sealed: bool) -> &'static [u8]
     ensures { result.now ≡ state_text sealed }
 {
@@ -145,6 +147,8 @@ fn first_reported_damage(reports: &[ArenaReport]) -> Option<Damage>
     }
 }
 
+/// How the command ends by the first damage that was found: by status 9, or by 0 where there is
+/// none.
 fn damage_outcome(first: Option<Damage>) -> Result<(), CommandError>
     ensures { result ≡ damage_outcome first }
 {

@@ -1,4 +1,5 @@
 //! The command `fmtbloom FILE SIZE POSITIONS`: makes a file a Bloom filter.
+// Tests: crates/run_tests_stores/src/formatting.rt.
 
 ghost use Rattle.std.specs.Prelude.{ℕ, IfErr, IfOk};
 ghost use Rattle.run_base.specs.Change.{parts_change, sink_change};
@@ -38,7 +39,7 @@ pub fn fmtbloom<P: Parts, K: Sink, T: Sink + Drop>(
     }
 }
 
-/// Prints the line of a filter.
+/// Prints `fmtbloom: N bytes, N positions`.
 fn print_filter<K: Sink>(sink: &mut K, bytes: u64, bits: u8) -> Result<(), CommandError>
     ensures { Prints (filter_line bytes bits) result (sink_change K.Sink sink.old sink.new) }
 {

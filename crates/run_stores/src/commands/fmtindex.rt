@@ -1,4 +1,5 @@
 //! The command `fmtindex CONF`: puts the sections that a configuration names to use as an index.
+// Tests: crates/run_tests_stores/src/formatting.rt.
 
 ghost use Rattle.std.specs.Prelude.{◌<◌, ◌^◌, length};
 ghost use Rattle.vt_format.specs.Index.{files_in_order};

@@ -1,4 +1,5 @@
 //! The command `fmtisect FILE NAME LENGTH`: makes a file an index section.
+// Tests: crates/run_tests_stores/src/formatting.rt.
 
 ghost use Rattle.std.specs.Prelude.{IfErr, IfOk};
 ghost use Rattle.run_base.specs.Change.{parts_change, sink_change};

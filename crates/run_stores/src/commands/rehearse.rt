@@ -1,4 +1,5 @@
 //! The command `rehearse SEED COUNT`: rehearses crashes of a store in memory.
+// Tests: crates/run_tests_stores/src/formatting.rt.
 
 ghost use Rattle.std.specs.Prelude.{◌≡◌, IfErr, IfOk};
 ghost use Rattle.run_base.specs.Change.{sink_change};

@@ -7,6 +7,7 @@ use Rattle.vt_base.specs.declared.why.Why.{Why}
 use Rattle.vt_handler.specs.Serving.{answered}
 use Rattle.vt_core.specs.Mounting.{AllStandFor}
 use Rattle.vt_use.specs.Answers.{IsAnswer}
+use Rattle.vt_use.specs.Uses.{AreMarkedOn}
 use Rattle.vt_single.specs.Single.{written_to}
 use Rattle.vt_single.proofs.Asks.{writes_asks}
 use Rattle.vt_single.proofs.Kept.{answers_so, done_so, puts_so}
@@ -35,7 +36,8 @@ returns g c score tells conf now kind bytes result old new tables devices setup 
       closed = it.closed;
       left = used.3;
       done = subst (λ (r : Result Score Why). OnOk r ((last ≡ written_to score place log kind bytes)
-          × AllStandFor score disk place tables used.3.back last (length last))) (sym it.result_is)
+          × (AreMarkedOn disk (length last) used.3.back
+          × AllStandFor score disk place tables used.3.back last (length last)))) (sym it.result_is)
           (done_so score place log kind bytes _ it.put it.closed last so.done
-          (λ well. (used.3.done refl well).1));
+          (λ well. used.3.done refl well));
     }

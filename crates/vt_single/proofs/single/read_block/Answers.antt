@@ -8,7 +8,7 @@ pub returns-clause-reads : goal.returns-clause-reads
 returns-clause-reads g c =
     let used = c.use_core-used in
     let output = used.result.0.output in
-    rw c.answer_of.ensures (read_used g.S.Scorer.score_of g.D.Disk output.1 used.result.0.added
+    rw c.own_answer.ensures (read_used g.S.Scorer.score_of g.D.Disk output.1 used.result.0.added
     used.result.0.closed c.args.core used.result.1 c.args.kind c.args.score.now.0 output.0
     used.ensures.uses)
 
@@ -16,5 +16,5 @@ pub returns-clause-most : goal.returns-clause-most
 returns-clause-most g c =
     let used = c.use_core-used in
     let output = used.result.0.output in
-    rw c.answer_of.ensures (answer_holds (λ (bytes : List ℕ). length bytes ≤ MAX_BLOCK)
+    rw c.own_answer.ensures (answer_holds (λ (bytes : List ℕ). length bytes ≤ MAX_BLOCK)
     output.0 output.1 used.ensures.uses.does.does.1)

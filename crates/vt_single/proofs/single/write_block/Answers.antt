@@ -11,13 +11,13 @@ returns-clause-writes g c =
     write_used g.S.Scorer.score_of g.D.Disk output.1 used.result.0.added used.result.0.closed
     c.args.core used.result.1 c.args.now (record { kind = c.args.kind; bytes = c.args.bytes.now })
     output.0 c.closed_behind.result used.ensures.uses
-    (rw (c.closed_behind.ensures, c.answer_of.ensures) refl)
+    (rw (c.closed_behind.ensures, c.own_answer.ensures) refl)
 
 pub returns-clause-scored : goal.returns-clause-scored
 returns-clause-scored g c =
     let used = c.use_core-used in
     let output = used.result.0.output in
-    rw (c.closed_behind.ensures, c.answer_of.ensures) (closed_holds
+    rw (c.closed_behind.ensures, c.own_answer.ensures) (closed_holds
     (λ (given : Score). given.0 ≡ g.S.Scorer.score_of c.args.bytes.now) _ _
     (answer_holds (λ (given : Score). given.0 ≡ g.S.Scorer.score_of c.args.bytes.now) output.0
     output.1 used.ensures.uses.does.does.1))

@@ -18,12 +18,12 @@ returns-in-Ok-clause-uses g c =
     (ReadsBlock score disk c.args.kind c.args.score.now.0)
     (parts.standing c.args.parts.now) (parts.standing c.use_store.new.parts)
     (parts.faults c.args.parts.now) (parts.faults c.use_store.new.parts)
-    c.answer_of.result c.as_stored.result c.as_stored.ensures (record {
+    c.own_answer.result c.as_stored.result c.as_stored.ensures (record {
       opened = uses.opened;
       left = uses.left;
       during = uses.during;
       opens = uses.opens;
-      does = rw c.answer_of.ensures (read_used score disk used.output.1 used.added used.closed
+      does = rw c.own_answer.ensures (read_used score disk used.output.1 used.added used.closed
           uses.opened uses.left c.args.kind c.args.score.now.0 used.output.0 uses.does);
       shape = uses.shape;
       given = uses.given;
@@ -32,7 +32,7 @@ returns-in-Ok-clause-uses g c =
 pub returns-in-Ok-clause-most : goal.returns-in-Ok-clause-most
 returns-in-Ok-clause-most g c =
     let output = c.in-Ok.used.output in
-    holds_as (λ (bytes : List ℕ). length bytes ≤ MAX_BLOCK) c.answer_of.result c.as_stored.result
+    holds_as (λ (bytes : List ℕ). length bytes ≤ MAX_BLOCK) c.own_answer.result c.as_stored.result
     c.as_stored.ensures
-    (rw c.answer_of.ensures (answer_holds (λ (bytes : List ℕ). length bytes ≤ MAX_BLOCK)
+    (rw c.own_answer.ensures (answer_holds (λ (bytes : List ℕ). length bytes ≤ MAX_BLOCK)
     output.0 output.1 c.in-Ok.ensures.uses.does.does.does.1))

@@ -25,7 +25,7 @@ returns-in-Ok-clause-uses g c =
       opens = uses.opens;
       does = write_used score disk used.output.1 used.added used.closed uses.opened uses.left
           c.args.now (record { kind = c.args.kind; bytes = c.args.bytes.now }) used.output.0
-          c.closed_behind.result uses.does (rw (c.closed_behind.ensures, c.answer_of.ensures) refl);
+          c.closed_behind.result uses.does (rw (c.closed_behind.ensures, c.own_answer.ensures) refl);
       shape = uses.shape;
       given = uses.given;
     }) c.in-Ok.ensures.faults
@@ -35,7 +35,7 @@ returns-in-Ok-clause-scored g c =
     let output = c.in-Ok.used.output in
     holds_as (λ (given : Score). given.0 ≡ g.S.Scorer.score_of c.args.bytes.now)
     c.closed_behind.result c.as_stored.result c.as_stored.ensures
-    (rw (c.closed_behind.ensures, c.answer_of.ensures) (closed_holds
+    (rw (c.closed_behind.ensures, c.own_answer.ensures) (closed_holds
     (λ (given : Score). given.0 ≡ g.S.Scorer.score_of c.args.bytes.now) _ _
     (answer_holds (λ (given : Score). given.0 ≡ g.S.Scorer.score_of c.args.bytes.now)
     output.0 output.1 c.in-Ok.ensures.uses.does.does.does.1)))
