@@ -82,7 +82,7 @@ fn disk(alloc: Global, len: u64, failing: &[u64]) -> Result<MemDisk<Listed>, Fai
 
 /// The partition of a disk.
 fn mount_part<D: Disk + Drop>(disk: D) -> Result<Part<D>, Fail>
-    ensures { IfOk result (λ part. (end_of (table_of part) ≤ D.size (disk_of part))
+    ensures { IfOk result (λ part. (arenas_end (table_of part) ≤ D.size (disk_of part))
         × ((table_of part).count ≤ 100)) }
 {
     let Ok(part) = vt_part::mount(disk) else {
@@ -105,7 +105,7 @@ fn formatted<D: Disk + Drop>(alloc: Global, disk: D, name: &[u8]) -> Result<D, F
 
 /// The partition that a disk is made.
 fn made_part<D: Disk + Drop>(alloc: Global, disk: D, name: &[u8]) -> Result<Part<D>, Fail>
-    ensures { IfOk result (λ part. (end_of (table_of part) ≤ D.size (disk_of part))
+    ensures { IfOk result (λ part. (arenas_end (table_of part) ≤ D.size (disk_of part))
         × ((table_of part).count ≤ 100)) }
 {
     let mut disk = disk;

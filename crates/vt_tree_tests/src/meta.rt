@@ -23,7 +23,7 @@ fn add(
     kind: RecordKind,
     numbers: [u32; 4],
 ) -> Result<(), AllocError>
-    requires { IsName name.now }
+    requires { IsItemName name.now }
 {
     let [entry, mode, mtime, qid] = numbers;
     let record = Record {

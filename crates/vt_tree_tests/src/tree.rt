@@ -292,7 +292,7 @@ enum Told {
     /// To a block of this depth and length that can't stand there.
     BadBlock(u8, usize),
     TooLong,
-    EntryError,
+    BadEntry,
     Refused,
     Other,
 }

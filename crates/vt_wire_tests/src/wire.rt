@@ -57,7 +57,7 @@ fn asks(tag: u8, request: &Request, want: &[u8]) -> bool
 /// Whether a reply under this tag is spelled so.
 fn replies(tag: u8, reply: &Reply, want: &[u8]) -> bool
     requires fits { FitsReply (reply_of reply.now) }
-    requires room { length (spelled tag (reply_of reply.now)) ≤ 64 }
+    requires room { length (spelled_reply tag (reply_of reply.now)) ≤ 64 }
 {
     let mut buf = [0xee; 64];
     let len = encode(tag, reply, &mut buf);
