@@ -45,16 +45,45 @@ def functions(crate, call):
 
 
 @functools.lru_cache(maxsize=None)
-def definitions(crate):
-    """The definitions of a crate's specs, its types and its traits, and those of the crates that it uses."""
-    found = set()
+def own_definitions(crate):
+    """The definitions of a crate's specs, its types and its traits, each with the names of the files that have it."""
+    found = {}
     for path in sources.files(f"{CRATES}/{crate}/specs", ".antt"):
         text = re.sub(r"--[^\n]*", "", sources.read(path))
         words = r"(?:(?:pub|abbrev|unfoldable|opaque|record|data)\s+)*"
-        found.update(re.findall(rf"(?m)^\s*{words}([^\s:(){{}},]+)\s*(?:[({{][^\n]*)?:(?=\s)", text))
+        for name in re.findall(rf"(?m)^\s*{words}([^\s:(){{}},]+)\s*(?:[({{][^\n]*)?:(?=\s)", text):
+            found.setdefault(name, set()).add(os.path.basename(path))
     for path in sources.files(f"{CRATES}/{crate}/src", ".rt"):
-        found.update(re.findall(r"(?m)^\s*(?:pub\s+)?(?:enum|struct|trait|type)\s+(\w+)", sources.read(path)))
-    return found.union(*[definitions(it) for it in sources.uses()[crate] if it in sources.uses()])
+        for name in re.findall(r"(?m)^\s*(?:pub\s+)?(?:enum|struct|trait|type)\s+(\w+)", sources.read(path)):
+            found.setdefault(name, set()).add(os.path.basename(path))
+    return found
+
+
+@functools.lru_cache(maxsize=None)
+def definitions(crate):
+    """The definitions of a crate's specs, its types and its traits, and those of the crates that it uses."""
+    below = [definitions(it) for it in sources.uses()[crate] if it in sources.uses()]
+    return set(own_definitions(crate)).union(*below)
+
+
+@functools.lru_cache(maxsize=None)
+def meanings():
+    """What docs/DEFINITIONS.md has in bold: the line, the names, the crates and the files of its definitions. The
+    crates are those that the brackets behind the names have, those of the heading where these have a file alone, and
+    without brackets those of the names in front."""
+    found, of_part = [], []
+    for number, line in enumerate(sources.read(os.path.join(TOP, "docs", "DEFINITIONS.md")).split("\n"), 1):
+        if line.startswith("#"):
+            of_part = quoted(line)
+        last = of_part
+        for it in re.finditer(r"\*\*([^*]+)\*\*(?:\s*\(([^)]*)\))?", line):
+            paths = re.findall(r"`([\w/]+\.(?:antt|rt))`", it[2] or "")
+            heads = [one.split("/")[0] for one in [*paths, *quoted(it[2] or "")]]
+            crates = [one for one in heads if one in sources.uses()]
+            files = [os.path.basename(one) for one in paths]
+            last = crates or (of_part if files else last)
+            found.append((number, it[1].split(", "), last, files))
+    return found
 
 
 class Documents:
@@ -153,15 +182,22 @@ class Documents:
             self.wrong += [f"{place}: {crate} has no law {law}" for law in laws if self.clauses(crate, law) is None]
 
     def defined(self):
-        """docs/DEFINITIONS.md: the names in bold, but for plain words, are definitions, and its files are there."""
-        known = set().union(*[definitions(it) for it in self.crates])
+        """docs/DEFINITIONS.md: the names in bold, but for plain words, are definitions of the crates and the files that
+        stand with them, and its files are there."""
+        for number, names, crates, files in meanings():
+            had = {}
+            for crate in crates:
+                for name, its in own_definitions(crate).items():
+                    had.setdefault(name, set()).update(its)
+            for name in (it.rpartition(".")[2] for it in names if re.search(r"[A-Z_]", it)):
+                its = had.get(name, set())
+                if not its or files and not its & set(files):
+                    place = ", ".join(files or crates)
+                    self.wrong.append(f"docs/DEFINITIONS.md:{number}: {place} doesn't define {name}")
         specs = [path for it in self.crates for path in sources.files(f"{CRATES}/{it}/specs", ".antt")]
         for number, line in enumerate(sources.read(os.path.join(TOP, "docs", "DEFINITIONS.md")).split("\n"), 1):
-            place = f"docs/DEFINITIONS.md:{number}"
-            names = [it for bold in re.findall(r"\*\*([^*]+)\*\*", line) for it in bold.split(", ")]
-            self.wrong += [f"{place}: no crate defines {it}" for it in names
-                           if re.search(r"[A-Z_]", it) and it.rpartition(".")[2] not in known]
-            self.wrong += [f"{place}: no crate has {it}" for it in re.findall(r"`([\w/]+\.antt)`", line)
+            self.wrong += [f"docs/DEFINITIONS.md:{number}: no crate has {it}"
+                           for it in re.findall(r"`([\w/]+\.antt)`", line)
                            if not any(path.endswith(f"/{it}") for path in specs)]
 
     def hops(self):

@@ -3,12 +3,14 @@
 A line of crates.txt that is `# NAME`, with one word, begins the layer NAME; the lines of its crates follow. The lowest
 layer comes first.
 """
+import functools
 import os
 import re
 
 from sources import TOP, uses
 
 
+@functools.lru_cache(maxsize=None)
 def layers():
     """The layers, the lowest first, each as its name and its crates. What stands above the first of them is under the
     name ''."""

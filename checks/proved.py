@@ -32,16 +32,21 @@ def ticked(names):
     return ", ".join(f"`{it}`" for it in dict.fromkeys(names))
 
 
+def whole(comment):
+    """A comment up to its first blank line, but for an aside in brackets."""
+    first = comment[:comment.index("")] if "" in comment else comment
+    return " ".join(it for it in first if not it.startswith("(")).replace("|", "or").replace("*", "")
+
+
 def sentence(comment):
     """The first sentence of a comment, but for an aside in brackets."""
-    text = " ".join(it for it in comment if not it.startswith("("))
-    return re.match(r"(.*?\.(?= [A-Z`]|$)|.*)", text)[1].replace("|", "or")
+    return re.match(r"(.*?\.(?= [A-Z`]|$)|.*)", whole(comment))[1]
 
 
 def words_for(function, clause, has_row):
-    """What is told of a clause that no row by hand names: what the comment above it says or, of a call that no row
-    names, the comment of the call."""
-    told = sentence(clause.comment) or (not has_row and sentence(function.comment))
+    """What is told of a clause that no row by hand names: the first sentence of the comment above it or, of a call that
+    no row names, the comment of the call, which is all that is said of its clauses."""
+    told = sentence(clause.comment) or (not has_row and whole(function.comment))
     return told or (STAYS if clause.is_frame() else PLAIN)
 
 

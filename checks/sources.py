@@ -76,8 +76,10 @@ class Clause:
 class Function:
     """A function: the head of its `impl` or `trait`, its clauses, and how long these and its body are."""
 
-    def __init__(self, file, item, owner):
+    def __init__(self, file, item, owner, block):
         self.file, self.owner, self.name, self.is_pub = file, owner, item["name"], bool(item["pub"])
+        # Where the block of its `impl` or its `trait` begins and ends.
+        self.block = block
         self.trait, self.subject = named_in(owner)
         self.line, self.comment = file.line(item.start("name")), file.comment(item.start("name"))
         self.clauses, self.contract_len, self.body_len = [], 0, 0
@@ -145,12 +147,13 @@ class File:
         return found
 
     def read_functions(self):
-        owner, until = "", 0
+        owner, begin, until = "", 0, 0
         for item in self.ITEMS.finditer(self.code):
             if item["owner"]:
-                owner, until = " ".join(item["owner"].split()), self.behind(item.end() - 1)
+                owner, begin, until = " ".join(item["owner"].split()), item.end(), self.behind(item.end() - 1)
             else:
-                yield Function(self, item, owner if item.start() < until else "")
+                is_in = item.start() < until
+                yield Function(self, item, owner if is_in else "", (begin, until) if is_in else (0, 0))
 
     def line(self, at):
         """The number of the line with this place."""
@@ -188,14 +191,20 @@ class File:
         return {pair[-1]: pair[0] for pair in pairs}
 
 
+@functools.lru_cache(maxsize=None)
+def file(path):
+    """A file of code, read once."""
+    return File(path)
+
+
 class Crate:
     """A crate: its functions outside of tests, and which of them others may call."""
 
     def __init__(self, name):
-        code = [File(path) for path in files(f"{CRATES}/{name}/src", ".rt")]
+        code = [file(path) for path in files(f"{CRATES}/{name}/src", ".rt")]
         lib = "".join(it.code for it in code if it.module == "lib")
         tests = re.findall(r"#\[cfg\(test\)\]\s*mod (\w+)", lib)
-        self.functions = [it for file in code if file.module not in tests for it in file.functions]
+        self.functions = [it for one in code if one.module not in tests for it in one.functions]
         self.open = {"lib", *re.findall(r"(?m)^pub mod (\w+);", lib)}
         self.exports = {it: "lib" for it in re.findall(r"(?m)^pub (?:struct|enum|trait|type) (\w+)", lib)}
         for module, many, one in re.findall(r"(?m)^pub use (?:\w+::)*(\w+)::(?:\{([^}]*)\}|(\w+));", lib):
