@@ -48,23 +48,24 @@ pub data Answer : Type 0 where
 
 -- ---- outcomes
 
--- it is replied so, and the view stays what it is
+-- The message is replied so, and the view stays what it is.
 abbrev pub stays : ViewState → RMessage → ViewOutcome
 stays known reply = record { reply = reply; known = known }
 
--- it is refused for this reason, and the view stays what it is
+-- The message is refused for this reason, and the view stays what it is.
 abbrev pub refuses : ViewState → RequestError → ViewOutcome
 refuses known why = stays known (r_error (refusal_words why))
 
--- the same, as an answer that reads no block
+-- An answer that reads no block: the message is refused for this reason, and the view stays what it
+-- is.
 abbrev pub refused_answer : ViewState → RequestError → Answer
 refused_answer known why = settled (refuses known why)
 
--- it is replied so, and the view has these fids
+-- The message is replied so, and the view has these fids.
 abbrev pub with_known : ViewState → List (ℕ × Fid) → RMessage → ViewOutcome
 with_known known fids reply = stays (record known { fids = fids }) reply
 
--- it is replied so, and this fid stands here
+-- The message is replied so, and this fid stands here.
 abbrev pub sets_fid : ViewState → (fid : ℕ) → Fid → RMessage → ViewOutcome
 sets_fid known fid f reply = with_known known (with_fid fid f known.fids) reply
 
@@ -146,7 +147,7 @@ to_open known msize fid mode f =
 
 -- ---- read(5)
 
--- of these files, the first that have room, each whole
+-- Of these files, the first that have room together, each whole.
 abbrev pub fitting : (room : ℕ) → List Node → List Node
 fitting room [] = []
 fitting room (node ∷ nodes) =

@@ -6,12 +6,12 @@ use Rattle.vac_read.specs.declared.node.Stored.TheVariants as stored
 use Rattle.vac_read.specs.Nodes.{AreNodeEntries, FitsToldItem}
 use Rattle.nine_wire.specs.Messages.{Qid, Stat, stat_bytes}
 
--- whether it is a folder
+-- Whether what an archive keeps is a folder.
 abbrev pub is_folder : Stored → Bool
 is_folder (stored.File e) = false
 is_folder (stored.Folder entries metadata) = true
 
--- its number in the archive, and whether it is a folder
+-- A file's qid: its number in the archive, and whether it is a folder.
 abbrev pub qid_of : Node → Qid
 qid_of node = record { folder = is_folder node.stored; path = node.qid }
 

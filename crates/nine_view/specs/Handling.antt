@@ -121,7 +121,8 @@ pub record SettlesFid (tag : ℕ) (old new : ViewState) (out : List ℕ) (result
       (λ bad. (bad ≡ NoMemory) × (new ≡ old))
   pub right : (map : BlockMap) → IsRightView map old → IsRightView map new
 
--- the same for an answer that sets a fid, which takes memory
+-- What a message comes to by an answer that is settled, or that sets a fid, for which there was
+-- memory or wasn't.
 abbrev pub SetsFid : (tag : ℕ) → (old new : ViewState) → (out : List ℕ) → Result ℕ AnswerError
     → Answer
     → Type 0

@@ -49,7 +49,7 @@ walked known fid qids (Ok at) = sets_fid known fid (unopened at) (r_walk qids)
 walked known fid [] (Err why) = refuses known why
 walked known fid (qid ∷ qids) (Err why) = stays known (r_walk (qid ∷ qids))
 
--- so it is told that the archive failed, and nothing else changes
+-- The message is told that the archive failed, and nothing else changes.
 abbrev pub fails : ViewState → VacBad → ViewOutcome
 fails known bad = stays known (r_error (failure_words (limit known) bad))
 
@@ -66,7 +66,7 @@ GivesOutcome map known (reads_folder fid f reading offset room) o =
     (files : List Node) × Lists map f.node.stored files
     × (o ≡ reads_files known fid f reading offset room files)
 
--- why it can't be told, beside want of memory; what is settled always can
+-- Why an answer can't be told, beside want of memory; what is settled always can.
 abbrev pub Lacks : BlockMap → Answer → VacBad → Type 0
 Lacks map (settled outcome) bad = ⊥
 Lacks map (sets fid f reply) bad = ⊥

@@ -94,8 +94,7 @@ IsAtEnd Closed left = left ≡ []
 IsAtEnd Cut left = left ≡ []
 IsAtEnd ended left = ⊤
 
--- a count of failed reads rose where a connection ended in a read fault, and only there; so a count
--- of failed writes
+-- A count of failed reads rose where a connection ended in a read fault, and only there.
 abbrev pub ReadCause : Ended → (old new : ℕ) → Type 0
 ReadCause ReadFault old new = HasRisen old new
 ReadCause ended old new = new ≡ old
@@ -105,12 +104,14 @@ abbrev pub WriteCause : Ended → (old new : ℕ) → Type 0
 WriteCause WriteFault old new = HasRisen old new
 WriteCause ended old new = new ≡ old
 
--- the same of one message
+-- What a call of one message does to the count of failed reads: it rose where the connection ended
+-- in a read fault, and only there.
 abbrev pub ReadsSo : {X : Type 0} → Result X Ended → (old new : ℕ) → Type 0
 ReadsSo (Ok done) old new = new ≡ old
 ReadsSo (Err ended) old new = ReadCause ended old new
 
--- the same of a call that may go on
+-- What a call that may go on does to the count of failed writes: it stays where the call goes on;
+-- else it rose where the connection ended in a write fault, and only there.
 abbrev pub WritesSo : {X : Type 0} → Result X Ended → (old new : ℕ) → Type 0
 WritesSo (Ok done) old new = new ≡ old
 WritesSo (Err ended) old new = WriteCause ended old new
@@ -145,7 +146,7 @@ abbrev pub SaysAllOr : Result (Unit {0}) Ended → List MessageTurn → (output 
 SaysAllOr (Ok done) turns output = output ≡ said_in turns
 SaysAllOr (Err ended) turns output = GoesOut ended turns output
 
--- where it ended at the input's end, nothing of that is left
+-- Where a session ended at the input's end, nothing of that is left.
 abbrev pub IsAtEndOr : Result (Unit {0}) Ended → (left : List ℕ) → Type 0
 IsAtEndOr (Ok done) left = ⊤
 IsAtEndOr (Err ended) left = IsAtEnd ended left

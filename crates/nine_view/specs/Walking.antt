@@ -48,7 +48,7 @@ MayWalk known fid newfid names (Err (Failed bad)) =
     (bad ≡ NoMemory) × ((words : List (List ℕ)) → length words ≡ names
     → (at : Place) × (of_fid known fid (to_walk known fid newfid words) ≡ to_names newfid at words))
 
--- why it can't be told where one name leads
+-- Why it can't be told where one name leads.
 abbrev pub StepIsLost : BlockMap → Place → (name : List ℕ) → VacBad → Type 0
 StepIsLost map at name bad =
     (bytes_eq name dots ≡ false) × IsUnfound map at.node.stored name bad

@@ -53,7 +53,8 @@ Walks map (Ok at) (name ∷ names) walk =
     (next : Result Place RequestError) × (rest : Walk)
     × StepsTo map at name next × Walks map next names rest × (walk ≡ further next rest)
 
--- why it can't be told where they lead: the folder in which the next one is looked for is broken
+-- Why it can't be told where these names lead: the folder in which the next one is looked for is
+-- broken.
 abbrev pub IsLost : BlockMap → Result Place RequestError → (names : List (List ℕ)) → VacBad → Type 0
 IsLost map (Err why) names bad = ⊥
 IsLost map (Ok at) [] bad = ⊥

@@ -24,6 +24,7 @@ impl From<RequestError> for AnswerError {
 
     ghost from_gives = { λ why denied. denied ≡ Refused why };
 
+    /// Why a message is refused, as it is.
     fn from(why: RequestError) -> Self {
         AnswerError::Refused(why)
     }
@@ -35,6 +36,7 @@ impl From<VacBad> for AnswerError {
 
     ghost from_gives = { λ bad denied. denied ≡ Failed bad };
 
+    /// Why the archive couldn't be read, as it is.
     fn from(bad: VacBad) -> Self {
         AnswerError::Failed(bad)
     }
@@ -47,6 +49,7 @@ impl From<AllocError> for AnswerError {
 
     ghost from_gives = { λ _ denied. denied ≡ Failed Memory };
 
+    /// Memory that wasn't there is a failure, and no refusal.
     fn from(_error: AllocError) -> Self {
         AnswerError::Failed(VacBad::NoMemory)
     }

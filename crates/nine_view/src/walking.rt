@@ -21,7 +21,7 @@ use vt_tree::Blocks;
 /// Where names lead.
 #[derive(Drop)]
 struct Walked {
-    /// Those of the files on the way.
+    /// The qids of the files on the way.
     qids: Vec<Qid>,
     end: Result<Place, RequestError>,
 }

@@ -51,7 +51,7 @@ impl Way {
         Ok(())
     }
 
-    /// The nearest folder, which is taken out.
+    /// The nearest folder, which is taken out; None where there is none.
     pub fn pop(&mut self) -> Option<Node>
         ensures { MatchOption result ((self.old ≡ []) × (self.new ≡ []))
             (λ node. self.old ≡ node ∷ self.new) }

@@ -138,7 +138,7 @@ stat_numbers s =
     little_bytes 2 0 ++ (little_bytes 4 0 ++ (qid_bytes s.qid ++ (little_bytes 4 s.mode
     ++ (little_bytes 4 s.mtime ++ (little_bytes 4 s.mtime ++ little_bytes 8 s.len)))))
 
--- and behind these name[s] uid[s] gid[s] muid[s]
+-- The fields of a stat: those of its numbers, and behind them name[s] uid[s] gid[s] muid[s].
 abbrev pub stat_fields : Stat → List ℕ
 stat_fields s =
     stat_numbers s ++ (string s.name ++ (string s.uid ++ (string s.gid ++ string s.uid)))

@@ -36,7 +36,7 @@ pub fn decode(message: &[u8]) -> Result<(u16, Request<'_>), NineError>
     }
 }
 
-/// The type, the tag and the parameters of a whole message.
+/// The type, the tag and the parameters of a whole message; None where the bytes are cut short.
 fn split_message(message: &[u8]) -> Option<(u8, u16, &[u8])>
     ensures found { IfSome result (λ r. IsFrame message.now r.0 r.1 r.2.now) }
     ensures none { IfNone result (IsCutShort message.now) }
@@ -69,7 +69,7 @@ fn is_request(kind: u8) -> bool
         || kind == 126
 }
 
-/// The request that a type and its parameters spell.
+/// The request that a type and its parameters spell, or None where they spell none.
 fn request_of(kind: u8, parameters: &[u8]) -> Option<Request<'_>>
     ensures found { IfSome result (λ m. SpellsBody (message_of m) kind parameters.now) }
     ensures none { IfNone result ((m : TMessage) → ¬ SpellsBody m kind parameters.now) }
@@ -106,7 +106,7 @@ fn at_end<'a>(value: Request<'a>, rest: &[u8]) -> Option<Request<'a>>
     if rest.is_empty() { Some(value) } else { None }
 }
 
-/// The parameters of a message that has a fid and nothing more.
+/// The parameters of a message that has a fid and nothing more; None where these aren't four bytes.
 fn alone(parameters: &[u8]) -> Option<u32>
     ensures found { IfSome result (λ fid. parameters.now ≡ little_bytes 4 fid) }
     ensures none { IfNone result (length parameters.now ≢ 4) }
@@ -115,7 +115,7 @@ fn alone(parameters: &[u8]) -> Option<u32>
     if rest.is_empty() { Some(fid) } else { None }
 }
 
-/// msize[4] version[s]
+/// msize[4] version[s]; None where the parameters aren't that, as in those below.
 fn version(parameters: &[u8]) -> Option<Request<'_>>
     ensures found { IfSome result (λ m. SpellsBody (message_of m) 100 parameters.now) }
     ensures none { IfNone result ((m : TMessage) → ¬ SpellsBody m 100 parameters.now) }

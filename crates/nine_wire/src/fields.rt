@@ -9,7 +9,8 @@ ghost use Rattle.nine_wire.specs.Writing.{WritesField};
 use byteorder::{ByteOrder, LittleEndian};
 use vt_base::fields::put;
 
-/// A number field of two bytes in front, and what stands behind it.
+/// A number field of two bytes in front, and what stands behind it; None where there are fewer
+/// bytes.
 pub(crate) fn u16_at(bytes: &[u8]) -> Option<(u16, &[u8])>
     ensures found { IfSome result (λ r. bytes.now ≡ little_bytes 2 r.0 ++ r.1.now) }
     ensures none { IfNone result (length bytes.now < 2) }
@@ -18,7 +19,8 @@ pub(crate) fn u16_at(bytes: &[u8]) -> Option<(u16, &[u8])>
     Some((LittleEndian::read_u16(field), rest))
 }
 
-/// A number field of four bytes in front, and what stands behind it.
+/// A number field of four bytes in front, and what stands behind it; None where there are fewer
+/// bytes.
 pub(crate) fn u32_at(bytes: &[u8]) -> Option<(u32, &[u8])>
     ensures found { IfSome result (λ r. bytes.now ≡ little_bytes 4 r.0 ++ r.1.now) }
     ensures none { IfNone result (length bytes.now < 4) }
@@ -27,7 +29,8 @@ pub(crate) fn u32_at(bytes: &[u8]) -> Option<(u32, &[u8])>
     Some((LittleEndian::read_u32(field), rest))
 }
 
-/// A number field of eight bytes in front, and what stands behind it.
+/// A number field of eight bytes in front, and what stands behind it; None where there are fewer
+/// bytes.
 pub(crate) fn u64_at(bytes: &[u8]) -> Option<(u64, &[u8])>
     ensures found { IfSome result (λ r. bytes.now ≡ little_bytes 8 r.0 ++ r.1.now) }
     ensures none { IfNone result (length bytes.now < 8) }
@@ -36,7 +39,8 @@ pub(crate) fn u64_at(bytes: &[u8]) -> Option<(u64, &[u8])>
     Some((LittleEndian::read_u64(field), rest))
 }
 
-/// A string in front, which has two bytes of length, and what stands behind it.
+/// A string in front, which has two bytes of length, and what stands behind it; None where there
+/// are fewer bytes than that counts.
 pub(crate) fn string_at(bytes: &[u8]) -> Option<(&[u8], &[u8])>
     ensures short { IfSome result (λ r. IsString r.0.now) }
     ensures found { IfSome result (λ r. bytes.now ≡ string r.0.now ++ r.1.now) }

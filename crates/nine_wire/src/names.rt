@@ -61,7 +61,7 @@ impl<'a> Names<'a> {
     }
 }
 
-/// So many names, where they and nothing more are these bytes.
+/// So many names, where they and nothing more are these bytes; else None.
 pub(crate) fn names_of(count: u16, bytes: &[u8]) -> Option<Names<'_>>
     ensures found { IfSome result (λ names. (length names ≡ count) × SpellNames names bytes.now) }
     ensures none { IfNone result ((names : List (List ℕ)) →

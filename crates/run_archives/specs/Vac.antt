@@ -93,7 +93,7 @@ HandsOutNone folders FolderFault = HasRisen folders.faults folders.faults'
 HandsOutNone folders NoMemory = folders.faults' ≡ folders.faults
 HandsOutNone folders failure = ⊥
 
--- there is none of this name, and no partition was handed out
+-- There is no folder of this name, and no partition was handed out.
 pub record FindsNoFolder {P D : Type 0} (failure : CommandError) (folders : FoldersChange)
     (parts : PartsChange P D) : Type 0 where
   pub none : HandsOutNone folders failure
@@ -134,7 +134,7 @@ pub record Archives {I P D : Type 0} (score : List ℕ → List ℕ) (disk : Dis
   pub reads : ReadsConf file conf files
   pub stores : StoresFolder score disk name conf bsize (Ok stored) folders parts
 
--- it is told why there is none, and nothing is printed
+-- It is told why there is no archive, and nothing is printed.
 pub record TellsNone {I P D K : Type 0} (score : List ℕ → List ℕ) (disk : DiskOf D)
     (file name : List ℕ) (size_word : Option (List ℕ)) (preface : List ℕ) (outcome : CommandOutcome)
     (files : FilesChange I) (folders : FoldersChange) (parts : PartsChange P D)
@@ -158,7 +158,7 @@ pub record TellsArchived {I P D K : Type 0} (score : List ℕ → List ℕ) (dis
   pub left_out : preface ≡ skipped_lines stored.archived.skipped
   pub printed : Prints (archive_line stored.archived.score.0) outcome sink
 
--- its folder was stored, or it is told why not
+-- What `vac` does over a configuration: the folder was stored, or it is told why not.
 abbrev pub DoesVac : {I P D K : Type 0} → (List ℕ → List ℕ) → DiskOf D → (file name : List ℕ)
     → (size_word : Option (List ℕ)) → (preface : List ℕ) → CommandOutcome → FilesChange I
     → FoldersChange → PartsChange P D → StreamChange K → Type 0
@@ -168,7 +168,7 @@ DoesVac score disk file name size_word preface outcome files folders parts sink 
 
 -- ---- what follows
 
--- where the store was opened, this holds, and else that
+-- Where the store was opened the first of two things holds, and else the second.
 abbrev pub WhereStored : (stored unopened : Type 0) → Result StoredArchive ArchiveError → Type 0
 WhereStored stored unopened (Ok made) = stored
 WhereStored stored unopened (Err (bads.Unopened bad)) = unopened

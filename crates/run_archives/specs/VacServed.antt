@@ -41,7 +41,7 @@ pub record SendsNamed {N L : Type 0} (link : LinkOf L) (score : List ℕ → Lis
       (as_asked result)
   pub fault : CountsFault is_folder_fault result folders.faults folders.faults'
 
--- there is none of this name, and no link was made
+-- There is no folder of this name, and no link was made.
 pub record FindsNoneToSend {N L : Type 0} (failure : CommandError) (folders : FoldersChange)
     (dialer : DialerChange N L) : Type 0 where
   pub none : HandsOutNone folders failure
@@ -66,7 +66,7 @@ ArchivesNoneAt link score address name size_word failure folders dialer =
     ⊎ ((bsize : ℕ) × AsksForSize size_word bsize
     × SendsNone link score address name bsize failure folders dialer)
 
--- it is told why there is none, and nothing is printed
+-- It is told why there is no archive, and nothing is printed.
 pub record TellsNoneSent {N L K : Type 0} (link : LinkOf L) (score : List ℕ → List ℕ)
     (address : Address) (name : List ℕ) (size_word : Option (List ℕ)) (preface : List ℕ)
     (outcome : CommandOutcome) (folders : FoldersChange) (dialer : DialerChange N L)
@@ -92,7 +92,7 @@ pub record TellsSent {N L K : Type 0} (link : LinkOf L) (score : List ℕ → Li
   pub left_out : preface ≡ skipped_lines sent.archived.skipped
   pub printed : Prints (archive_line sent.archived.score.0) outcome sink
 
--- its folder was archived there, or it is told why not
+-- What `vac` does at a server: the folder was archived there, or it is told why not.
 abbrev pub DoesVacServed : {N L K : Type 0} → LinkOf L → (List ℕ → List ℕ) → Address
     → (name : List ℕ) → (size_word : Option (List ℕ)) → (preface : List ℕ) → CommandOutcome
     → FoldersChange → DialerChange N L → StreamChange K → Type 0

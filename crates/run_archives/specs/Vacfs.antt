@@ -142,7 +142,7 @@ ViewsPlace score_of disk link store s outcome source sink files parts dialer (Se
 ViewsPlace score_of disk link store s outcome source sink files parts dialer InFile =
     ViewsKept score_of disk store s outcome source sink files parts × NoneDialled dialer
 
--- its word is no score, or the archive of that score was served
+-- What `vacfs` does: its word is no score, or the archive of that score was served.
 abbrev pub DoesVacfs : {R K I P D N L : Type 0} → (List ℕ → List ℕ) → DiskOf D → LinkOf L
     → (store score_word : List ℕ) → CommandOutcome → StreamChange R → StreamChange K → FilesChange I
     → PartsChange P D → DialerChange N L → Type 0

@@ -107,10 +107,12 @@ impl<F: Folder, K: Sink + Drop> Folder for Watched<F, K> {
 
     ghost faults_fit = { λ watched. F.faults_fit (watched_folder watched) };
 
+    /// Lists what stands at the path of the folder that is watched.
     fn list(&mut self, alloc: Global, path: &[Text]) -> Result<Listing, OutErr> {
         self.folder.list(alloc, path)
     }
 
+    /// Reads a file of the folder that is watched, and counts the bytes that came.
     fn read(&mut self, path: &[Text], at: u64, buf: &mut [u8]) -> Result<usize, Failed> {
         let len = self.folder.read(path, at, buf)?;
         self.count(at, len);

@@ -32,11 +32,11 @@ use Rattle.run_base.specs.Served.{failure_for}
 abbrev pub IsByte : (word : List ℕ) → ℕ → Type 0
 IsByte word n = (n ≤ 255) × (word ≡ decimal n)
 
--- it is the number of a block type
+-- The word is the number of a block type.
 abbrev pub SaysType : (word : List ℕ) → (kind : ℕ) → Type 0
 SaysType word kind = IsByte word kind × IsKind kind
 
--- why it isn't: it is no such number, or one of no type
+-- Why a word isn't the number of a block type: it is no number of 8 bits, or one of no type.
 abbrev pub SaysNoType : (word : List ℕ) → CommandError → Type 0
 SaysNoType word failure =
     (((n : ℕ) → ¬ IsByte word n) × (failure ≡ BadNumber (wrong_digit word)))
@@ -72,7 +72,7 @@ refusal_for (whys.Stopped call) = failure_for (whys.Stopped call)
 refusal_for (whys.Damaged site want found) = failure_for (whys.Damaged site want found)
 refusal_for whys.NoMemory = failure_for whys.NoMemory
 
--- why the store of a configuration wasn't opened, or what it said
+-- Why the store of a configuration wasn't opened, or what it refused with.
 abbrev pub IsStoredRefusal : (file : List ℕ) → Conf → StoredError → CommandError → Type 0
 IsStoredRefusal file conf (stored.Unopened bad) failure = IsOpenRefusal file conf bad failure
 IsStoredRefusal file conf (stored.Refused why) failure = failure ≡ refusal_for why
@@ -98,13 +98,14 @@ pub record DoesStored {K P D T : Type 0} (score : List ℕ → List ℕ) (disk :
 
 -- ---- in memory
 
--- it is the model's answer over the store in memory, which has no block, or want of memory
+-- The answer is the model's over the store in memory, which has no block, or want of memory.
 abbrev pub AnswersOfEmptyStore : (score : List ℕ → List ℕ) → Operation → Result RMessage Why
     → Type 0
 AnswersOfEmptyStore score m reply =
     (reply_in reply ≡ (answer score memory_setup [] m).reply) ⊎ (reply ≡ Err whys.NoMemory)
 
--- why it may fail: no call of a disk fails, and where it is damaged, two values differ
+-- Why the store in memory may fail: no call of a disk fails, and where it is damaged, two values
+-- differ.
 abbrev pub FailsInMemory : Why → Type 0
 FailsInMemory whys.DiskFault = ⊥
 FailsInMemory (whys.Stopped call) = ⊥

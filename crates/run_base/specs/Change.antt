@@ -173,7 +173,7 @@ pub record MakesNothing {P D K : Type 0} (parts : PartsChange P D) (sink : Strea
   pub unused : NoneHandedOut parts
   pub unwritten : IsUntouched sink
 
--- nor was a file read, or a link made
+-- Nothing was written, no partition was handed out, no file was read, and no link was made.
 pub record UsesNothing {I P D N L K : Type 0} (files : FilesChange I) (parts : PartsChange P D)
     (dialer : DialerChange N L) (sink : StreamChange K) : Type 0 where
   pub unopened : NoneRead files

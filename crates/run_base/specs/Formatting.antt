@@ -21,7 +21,7 @@ IsRefusalOf file (mount_bad.Disagree part field found want) failure =
 IsRefusalOf file mount_bad.NoMemory failure = failure ≡ NoMemory
 IsRefusalOf file bad failure = ⊥
 
--- it is one of these
+-- The refusal is one that a single partition may get.
 abbrev pub IsOfOneFile : MountBad → Type 0
 IsOfOneFile (mount_bad.DuplicateName first second) = ⊥
 IsOfOneFile (mount_bad.Damaged site want found) = ⊥

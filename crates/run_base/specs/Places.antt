@@ -11,14 +11,14 @@ use Rattle.run_base.specs.Errors.{CommandOutcome}
 abbrev pub in_memory : List ℕ
 in_memory = codes ":memory:"
 
--- It is that name, or spells an address (venti(8)); any other word is the name of a configuration's
--- file.
+-- A word names a place: `:memory:` the store in memory, what spells an address a server (venti(8)),
+-- and any other word the file of a configuration.
 abbrev pub NamesPlace : (word : List ℕ) → Place → Type 0
 NamesPlace word Memory = word ≡ in_memory
 NamesPlace word (Server address) = SpellsAddress address word
 NamesPlace word Conf = (word ≢ in_memory) × ((address : Address) → ¬ SpellsAddress address word)
 
--- it ends so, and nothing is done
+-- The command ends so, and nothing is done.
 pub record EndsIdle (end outcome : CommandOutcome) (Idle : Type 0) : Type 0 where
   pub is : outcome ≡ end
   pub idle : Idle

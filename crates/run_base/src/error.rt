@@ -64,6 +64,7 @@ pub enum CommandError {
     /// A folder couldn't be had, or a call of it failed.
     FolderFault,
     WriteFault,
+    /// Memory ran out.
     NoMemory,
     /// What stands on a disk is damaged: another value was found than was wanted.
     Damaged {

@@ -19,7 +19,7 @@ use vt_memdisk::MemDisk;
 use vt_shard::Sizes;
 use vt_single::{blocks_are_kept, blocks_are_read, failures_have_causes, read_block, write_block};
 
-/// Its shape.
+/// The shape of the store in memory.
 const MEMORY: Shape = Shape {
     arenas: 1,
     arena_len: 1_048_576,

@@ -66,6 +66,7 @@ impl<K: Sink> Shown<K> {
 }
 
 impl<K: Sink> Progress for Shown<K> {
+    /// Shows how much is done, as `count` does.
     fn report(&mut self, done: u64, all: u64) {
         self.count(done, all);
     }

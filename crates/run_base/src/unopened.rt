@@ -27,7 +27,8 @@ pub fn told<T: Sink + Drop>(
     told_on(alloc, &mut shown, file, conf, bad)
 }
 
-/// The same, where the terminal shows how far a command has come.
+/// Why a store wasn't opened, told as `told` does, where the terminal shows how far a command has
+/// come.
 pub fn told_on<T: Sink>(
     alloc: Global,
     shown: &mut Shown<T>,

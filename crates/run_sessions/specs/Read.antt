@@ -20,12 +20,12 @@ use Rattle.run_base.specs.Members.{LinkOf}
 use Rattle.run_base.specs.Places.{AtPlace}
 use Rattle.run_base.specs.Servers.{AsksAt}
 
--- its words are a score and a type
+-- The words of `read` are a score and a type.
 pub record SaysBlock (score_word type_word s : List ℕ) (kind : ℕ) : Type 0 where
   pub score_is : SpellsScore s score_word
   pub type_is : SaysType type_word kind
 
--- the first of them that isn't
+-- The first of the words of `read` that isn't what it has to be, a score and a type.
 abbrev pub SaysNoBlock : (score_word type_word : List ℕ) → CommandError → Type 0
 SaysNoBlock score_word type_word failure =
     SaysNoScore score_word failure
@@ -86,7 +86,7 @@ PrintsBlock score disk link store s kind outcome files parts dialer sink (Server
 PrintsBlock score disk link store s kind outcome files parts dialer sink InFile =
     PrintsKept score disk store s kind outcome files parts sink × NoneDialled dialer
 
--- its words were refused, or the block that they ask for was printed
+-- What `read` does: its words were refused, or the block that they ask for was printed.
 abbrev pub DoesRead : {I P D N L K : Type 0} → (List ℕ → List ℕ) → DiskOf D → LinkOf L
     → (store score_word type_word : List ℕ) → CommandOutcome → FilesChange I → PartsChange P D
     → DialerChange N L → StreamChange K → Type 0

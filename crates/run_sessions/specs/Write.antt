@@ -144,7 +144,7 @@ WritesInput score disk link store kind outcome source sink files parts dialer (S
 WritesInput score disk link store kind outcome source sink files parts dialer InFile =
     KeepsInput score disk store kind outcome source sink files parts × NoneDialled dialer
 
--- its word was refused, or what came in was written as a block of its type
+-- What `write` does: its word was refused, or what came in was written as a block of its type.
 abbrev pub DoesWrite : {R K I P D N L : Type 0} → (List ℕ → List ℕ) → DiskOf D → LinkOf L
     → (store type_word : List ℕ) → CommandOutcome → StreamChange R → StreamChange K → FilesChange I
     → PartsChange P D → DialerChange N L → Type 0

@@ -37,8 +37,8 @@ abbrev pub IsRebuildRefusal : (file : List ℕ) → Conf → MaintainError Rebui
 IsRebuildRefusal file conf (Unopened bad) failure = IsOpenRefusal file conf bad failure
 IsRebuildRefusal file conf (Ended bad) failure = failure ≡ rebuild_failure bad
 
--- It is rebuilt, and the count of its blocks is printed, or it is told why not, and nothing is
--- printed.
+-- The index of the configuration's store is rebuilt, and the count of its blocks is printed, or it
+-- is told why not, and nothing is printed.
 pub record RebuildsConf {K P D : Type 0} (score : List ℕ → List ℕ) (disk : DiskOf D)
     (file : List ℕ) (conf : Conf) (outcome : CommandOutcome) (parts : PartsChange P D)
     (sink : StreamChange K)

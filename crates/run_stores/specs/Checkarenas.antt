@@ -41,7 +41,7 @@ arena_line report = concat (codes "arena " ∷ decimal report.number ∷ codes "
     ∷ decimal report.clumps ∷ codes " clumps, " ∷ decimal report.used ∷ codes " bytes, "
     ∷ state_text report.sealed ∷ codes ", " ∷ result_text report.damage ∷ codes "\n" ∷ [])
 
--- those of all arenas, in order
+-- The lines of all arenas, in order.
 abbrev pub arena_lines : List ArenaReport → List ℕ
 arena_lines reports = concat (map arena_line reports)
 
@@ -52,7 +52,7 @@ abbrev pub first_reported_damage : List ArenaReport → Option Damage
 first_reported_damage [] = None
 first_reported_damage (report ∷ reports) = option_or report.damage (first_reported_damage reports)
 
--- it is told as the outcome
+-- Damage, if there is any, is told as the outcome.
 abbrev pub damage_outcome : Option Damage → CommandOutcome
 damage_outcome None = Ok tt
 damage_outcome (Some damage) = Err (Damaged damage.want damage.found)

@@ -13,7 +13,7 @@ use Rattle.run_base.specs.Errors.{CommandOutcome}
 use Rattle.run_base.specs.Formatting.{FormatsFile, RefusesWord}
 use Rattle.run_stores.specs.Words.{IsLength, SaysArenaSize}
 
--- its words are a name, a length and the size of each arena
+-- The words of `fmtarenas` are a name, a length and the size of each arena.
 pub record AsksForArenas (name length arena_size : List ℕ) (len size : ℕ) : Type 0 where
   pub name_is : IsPartName name
   pub len_is : IsLength length len
@@ -35,7 +35,8 @@ arenas_line name size count =
     concat (codes "fmtarenas " ∷ name ∷ codes ": " ∷ decimal count ∷ codes " arenas of "
     ∷ decimal size ∷ codes " bytes\n" ∷ [])
 
--- its words were refused, or the file was made a partition of arenas, of this name
+-- What `fmtarenas` does: its words were refused, or the file was made a partition of arenas, of
+-- this name.
 abbrev pub DoesFmtarenas : {P D K : Type 0} → DiskOf D → (file name length arena_size : List ℕ)
     → CommandOutcome → PartsChange P D → StreamChange K → Type 0
 DoesFmtarenas disk file name length arena_size outcome parts sink =

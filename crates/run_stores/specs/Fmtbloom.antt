@@ -12,7 +12,7 @@ use Rattle.run_base.specs.Errors.{CommandOutcome}
 use Rattle.run_base.specs.Formatting.{FormatsFile, RefusesWord}
 use Rattle.run_stores.specs.Words.{SaysSize, SaysPositions}
 
--- its words are the size of a filter of 2^m bits, and how many of them a score has
+-- The words of `fmtbloom` are the size of a filter of 2^m bits, and how many of them a score has.
 pub record AsksForFilter (size positions : List ℕ) (m bytes bits : ℕ) : Type 0 where
   pub size_is : SaysSize size m bytes
   pub positions_is : SaysPositions positions bits
@@ -30,7 +30,7 @@ filter_line bytes bits =
     concat (codes "fmtbloom: " ∷ decimal bytes ∷ codes " bytes, " ∷ decimal bits
     ∷ codes " positions\n" ∷ [])
 
--- its words were refused, or the file was made a filter
+-- What `fmtbloom` does: its words were refused, or the file was made a filter.
 abbrev pub DoesFmtbloom : {P D K : Type 0} → DiskOf D → (file size positions : List ℕ)
     → CommandOutcome
     → PartsChange P D → StreamChange K → Type 0

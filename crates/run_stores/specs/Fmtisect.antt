@@ -13,7 +13,7 @@ use Rattle.run_base.specs.Errors.{CommandOutcome}
 use Rattle.run_base.specs.Formatting.{FormatsFile, RefusesWord}
 use Rattle.run_stores.specs.Words.{IsLength}
 
--- its words are a name and a length
+-- The words of `fmtisect` are a name and a length.
 pub record AsksForSection (name length : List ℕ) (len : ℕ) : Type 0 where
   pub name_is : IsPartName name
   pub len_is : IsLength length len
@@ -30,7 +30,7 @@ abbrev pub section_line : (name : List ℕ) → (count : ℕ) → List ℕ
 section_line name count =
     concat (codes "fmtisect " ∷ name ∷ codes ": " ∷ decimal count ∷ codes " buckets\n" ∷ [])
 
--- its words were refused, or the file was made a section, of this name
+-- What `fmtisect` does: its words were refused, or the file was made a section, of this name.
 abbrev pub DoesFmtisect : {P D K : Type 0} → DiskOf D → (file name length : List ℕ) → CommandOutcome
     → PartsChange P D → StreamChange K → Type 0
 DoesFmtisect disk file name length outcome parts sink =

@@ -12,7 +12,7 @@ use Rattle.run_base.specs.Errors.{CommandOutcome}
 use Rattle.run_base.specs.Formatting.{Prints, RefusesWord}
 use Rattle.run_stores.specs.Words.{SaysCount, SaysSeed}
 
--- its words are a seed and a count of rounds
+-- The words of `rehearse` are a seed and a count of rounds.
 pub record AsksToRehearse (seed count : List ℕ) (x rounds : ℕ) : Type 0 where
   pub seed_is : SaysSeed seed x
   pub count_is : SaysCount count rounds
@@ -50,7 +50,7 @@ Rehearses seed rounds outcome sink =
     × Prints (summary_text s) outcome sink)
     ⊎ ((outcome ≡ Err NoMemory) × IsUntouched sink)
 
--- its words were refused, or the store was rehearsed
+-- What `rehearse` does: its words were refused, or the store was rehearsed.
 abbrev pub DoesRehearse : {K : Type 0} → (seed count : List ℕ) → CommandOutcome → StreamChange K
     → Type 0
 DoesRehearse seed count outcome sink =

@@ -80,7 +80,7 @@ impl<'a> Found<'a> {
 }
 
 /// The record in front of these bytes, at this place and behind one of this name, and what stands
-/// behind it.
+/// behind it. It is refused by the first of its fields that can't stand there.
 fn record_in_front<'a>(
     bytes: &'a [u8],
     at: usize,
@@ -111,6 +111,7 @@ fn record_in_front<'a>(
 }
 
 /// The name in front of these bytes, at this place and behind this one, and what stands behind it.
+/// It is refused where it can't stand there.
 fn name_in_front<'a>(
     bytes: &'a [u8],
     at: usize,
@@ -179,6 +180,7 @@ fn is_next(last: Option<&[u8]>, name: &[u8]) -> bool
 }
 
 /// The kind and the numbers in front of these bytes, at this place, and what stands behind them.
+/// They are refused by the first that can't stand there.
 fn numbers_in_front(bytes: &[u8], at: usize) -> Result<(&[u8; 21], &[u8]), MetaErr>
     requires { at + length bytes.now < 2 ^ 63 }
     ensures kind { IfOk result (λ r. slice_index r.0.now 0 ≤ 1) }
@@ -196,7 +198,8 @@ fn numbers_in_front(bytes: &[u8], at: usize) -> Result<(&[u8; 21], &[u8]), MetaE
     bytes.split_first_chunk().ok_or(cut(bytes, at))
 }
 
-/// The uid or gid in front of these bytes, at this place, and what stands behind it.
+/// The uid or gid in front of these bytes, at this place, and what stands behind it. It is refused
+/// where it can't stand there.
 fn owner_in_front(bytes: &[u8], at: usize) -> Result<(&[u8], &[u8]), MetaErr>
     requires { at + length bytes.now < 2 ^ 63 }
     ensures most { IfOk result (λ r. length r.0.now ≤ MAX_NAME) }

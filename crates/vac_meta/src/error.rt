@@ -7,6 +7,7 @@ use std::alloc::{AllocError, AllocFailed};
 pub enum MetaErr {
     /// What stands at this place, counted from the first byte, can't stand in a folder's metadata.
     Bad { at: usize, why: RecordCause },
+    /// Memory ran out.
     NoMemory,
 }
 
@@ -33,6 +34,7 @@ impl From<AllocError> for MetaErr {
 
     ghost from_gives = { λ _ err. err ≡ NoMemory };
 
+    /// Memory that wasn't there is `NoMemory`.
     fn from(_error: AllocError) -> Self {
         MetaErr::NoMemory
     }
@@ -44,6 +46,7 @@ impl<T: Drop> From<AllocFailed<T>> for MetaErr {
 
     ghost from_gives = { λ _ err. err ≡ NoMemory };
 
+    /// Memory that wasn't there is `NoMemory`; what should have gone there is dropped.
     fn from(_error: AllocFailed<T>) -> Self {
         MetaErr::NoMemory
     }

@@ -84,7 +84,7 @@ HaveTimes (folder about inside others) =
     (about.mtime < 2 ^ 32) × HaveTimes inside × HaveTimes others
 HaveTimes (other about others) = HaveTimes others
 
--- it can be archived at this block size
+-- The folder can be archived at this block size.
 pub record IsArchivable (bsize : ℕ) (items : Items Facts) : Type 0 where
   pub least : MIN_BLOCK_SIZE ≤ bsize
   pub most : bsize ≤ MAX_BLOCK_SIZE

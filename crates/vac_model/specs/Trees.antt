@@ -30,7 +30,7 @@ pub record HasEntry (map : BlockMap) (stream : Entry) (i : ℕ) (e : Entry) : Ty
   pub allowed : IsTreeEntry e
   pub spelled : SpellsEntry e bytes
 
--- it is that of a file with these bytes
+-- Entry i of a directory's stream is that of a file with these bytes.
 pub record HasFile (map : BlockMap) (stream : Entry) (i : ℕ) (bytes : List ℕ) : Type 0 where
   pub entry : Entry
   pub there : HasEntry map stream i entry

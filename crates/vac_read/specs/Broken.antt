@@ -99,7 +99,7 @@ LacksRecords map entries metadata bad =
 abbrev pub entry_field : (before : List Record) → Record → ℕ
 entry_field before r = length (all_spelled before) + length (string r.name) + 1
 
--- of these records, with the entries of this stream, the first whose entries aren't told
+-- Of these records, with the entries of this stream, this is the first whose entries aren't told.
 pub record LacksNode (map : BlockMap) (entries : Entry) (records : List Record) (bad : VacBad)
     : Type 0 where
   pub before : List Record

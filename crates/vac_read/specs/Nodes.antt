@@ -36,7 +36,7 @@ pub record FitsToldItem (item : Item) : Type 0 where
   pub gid : length item.gid ≤ MAX_NAME
   pub mode : item.mode < 2 ^ 9
 
--- it may stand in a directory, and is a directory's itself, or not
+-- The entry may stand in a directory, and is a directory's itself, or not.
 abbrev pub IsDirectory : Entry → Type 0
 IsDirectory e = IsTreeEntry e × (e.is_dir ≡ true)
 

@@ -20,7 +20,7 @@ pub(crate) struct Directory {
     stream: Entry,
     /// Where the leaf begins, and what of it is there.
     start: u64,
-    /// None of it, where no leaf was read yet.
+    /// The leaf that was read last; none of it, where none was read yet.
     leaf: Bytes,
 }
 

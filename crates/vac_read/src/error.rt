@@ -12,6 +12,7 @@ pub enum VacBad {
     Root { field: RootField },
     /// What stands at this place of a folder's metadata can't stand there.
     Meta { at: usize },
+    /// Memory ran out.
     NoMemory,
 }
 
@@ -32,6 +33,7 @@ impl From<BlockErr> for VacBad {
 
     ghost from_gives = { λ refusal bad. bad ≡ Tree (Block refusal) };
 
+    /// What the store of blocks answered is a failure of a tree.
     fn from(refusal: BlockErr) -> Self {
         VacBad::Tree(TreeErr::Block(refusal))
     }
@@ -43,6 +45,7 @@ impl From<TreeErr> for VacBad {
 
     ghost from_gives = { λ err bad. bad ≡ Tree err };
 
+    /// A failure of a tree, as it is; want of memory there stays one of the tree.
     fn from(err: TreeErr) -> Self {
         VacBad::Tree(err)
     }
@@ -55,6 +58,7 @@ impl From<EntryError> for VacBad {
 
     ghost from_gives = { λ entry bad. bad ≡ Tree (trees.BadEntry entry) };
 
+    /// An entry that can't stand in a tree is a failure of a tree.
     fn from(entry: EntryError) -> Self {
         VacBad::Tree(TreeErr::BadEntry(entry))
     }
@@ -67,6 +71,7 @@ impl From<vt_tree::RootError> for VacBad {
 
     ghost from_gives = { λ field bad. bad ≡ Root (field_of field) };
 
+    /// The field of the root that is none: `Root`, with its own name for the field.
     fn from(field: vt_tree::RootError) -> Self {
         VacBad::Root {
             field: match field {
@@ -83,6 +88,7 @@ impl From<AllocError> for VacBad {
 
     ghost from_gives = { λ _ bad. bad ≡ NoMemory };
 
+    /// Memory that wasn't there is `NoMemory`.
     fn from(_error: AllocError) -> Self {
         VacBad::NoMemory
     }
@@ -94,6 +100,7 @@ impl<T: Drop> From<AllocFailed<T>> for VacBad {
 
     ghost from_gives = { λ _ bad. bad ≡ NoMemory };
 
+    /// Memory that wasn't there is `NoMemory`; what should have gone there is dropped.
     fn from(_error: AllocFailed<T>) -> Self {
         VacBad::NoMemory
     }

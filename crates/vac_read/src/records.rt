@@ -40,7 +40,7 @@ pub(crate) fn records_of<B: Blocks>(
     }
 }
 
-/// The record of this name, and its place in the metadata.
+/// The record of this name, and its place in the metadata; None where no record has it.
 pub(crate) fn find_named(records: Records, name: &[u8]) -> Option<(Record, usize)>
     requires each { AllByRecursion IsRecord records }
     requires short { length (all_spelled records) < 2 ^ 63 }

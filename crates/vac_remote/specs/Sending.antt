@@ -40,7 +40,7 @@ abbrev pub came_to : Result Archived VacErr → (refused : Option ClientErr) →
 came_to (Ok a) refused sent = Ok (record { archived = a; sent = sent })
 came_to (Err err) refused sent = Err (send_error err refused)
 
--- whether it tells of a failed call of the folder
+-- Whether an error tells of a failed call of the folder.
 abbrev pub is_folder_fault : SendError → Bool
 is_folder_fault (Folder FolderFault) = Bool.true
 is_folder_fault bad = Bool.false

@@ -27,6 +27,7 @@ impl From<RemoteError> for SendError {
 
     ghost from_gives = { λ bad sent_bad. sent_bad ≡ Server bad };
 
+    /// What the server answered, or why it wasn't reached, as it is.
     fn from(bad: RemoteError) -> Self {
         SendError::Server(bad)
     }

@@ -27,7 +27,8 @@ abbrev pub UsesFor : {D : Type 0} → (List ℕ → List ℕ) → DiskOf D → (
 UsesFor score disk told conf now bsize is_seen result old new =
     Uses score disk told conf (ArchivesInto score disk now bsize is_seen result) old new
 
--- That was done, with this result; or the store wasn't opened, for its cause.
+-- The folder was archived into the store that was opened, with this result; or the store wasn't
+-- opened, for its cause.
 abbrev pub ArchivesStored : {D : Type 0} → (List ℕ → List ℕ) → DiskOf D → (told : Type 0) → Conf
     → (now bsize : ℕ) → (is_seen : Items Facts → Type 0) → (old new : List ℕ → Standing D)
     → (faults faults' : ℕ) → Result StoredArchive ArchiveError → Type 0

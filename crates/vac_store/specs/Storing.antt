@@ -42,15 +42,15 @@ abbrev pub told : VacErr → Option Why → ArchiveError
 told (Tree (trees.Block err)) (Some why) = Refused why
 told err refused = Folder err
 
--- what it comes to, where so many blocks are new and the store's use ended so: what failed first is
--- told
+-- What archiving into a store comes to, where so many blocks are new and the store's use ended so:
+-- what failed first is told.
 abbrev pub came_to : Result Archived VacErr → (refused : Option Why) → (added : ℕ)
     → (closed : Result (Unit {0}) Why) → Result StoredArchive ArchiveError
 came_to (Ok a) refused added (Ok done) = Ok (record { archived = a; added = added })
 came_to (Ok a) refused added (Err why) = Err (Refused why)
 came_to (Err err) refused added closed = Err (told err refused)
 
--- whether it tells of a failed call of the folder
+-- Whether an error tells of a failed call of the folder.
 abbrev pub is_folder_fault : ArchiveError → Bool
 is_folder_fault (Folder FolderFault) = Bool.true
 is_folder_fault bad = Bool.false

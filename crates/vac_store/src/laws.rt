@@ -58,8 +58,8 @@ pub fn archives_are_kept<D: Disk>()
     uses_leave::<D>();
 }
 
-/// The same of the store of a configuration, where every combination of the images of its partitions
-/// stands for a prefix of one legal history.
+/// What is archived into the store of a configuration stands in it, where every combination of the
+/// images of its partitions stands for a prefix of one legal history, whatever calls failed.
 pub fn stores_keep_archives<D: Disk>()
     ensures { (score : List ℕ → List ℕ) (told : Bool) (conf : Conf) (now bsize : ℕ) (tells : Bool)
         (held : Items Facts) (result : Result StoredArchive ArchiveError)

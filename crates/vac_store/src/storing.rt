@@ -36,10 +36,12 @@ impl<F: Folder> BlockJob<F> for ArchiveFolder {
 
     ghost writes = { λ it. true };
 
+    /// It writes.
     fn writes(&self) -> bool {
         true
     }
 
+    /// Archives the folder in blocks of its size.
     fn run<B: Blocks>(
         &self,
         alloc: Global,

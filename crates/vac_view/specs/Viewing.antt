@@ -71,7 +71,7 @@ pub record ServesArchive {S : Type 0} (does : S → Call → S → Type 0)
   pub reads : ReadCause served.ended p.read_faults p.read_faults'
   pub writes : WriteCause served.ended p.write_faults p.write_faults'
 
--- it was, or it couldn't be opened
+-- The archive was shown over the link, or it couldn't be opened.
 abbrev pub ViewsArchive : {S : Type 0} → (does : S → Call → S → Type 0)
     → (holds : S → Maps → Type 0) → (score_of : List ℕ → List ℕ) → (score : List ℕ) → Passed
     → Result Served VacBad → (s s' : S) → Type 0

@@ -36,10 +36,12 @@ impl<L: Link> BlockJob<L> for ViewArchive {
 
     ghost writes = { λ it. false };
 
+    /// It only reads.
     fn writes(&self) -> bool {
         false
     }
 
+    /// Serves the archive of its score over the link.
     fn run<B: Blocks>(
         &self,
         alloc: Global,

@@ -86,7 +86,7 @@ abbrev pub of_call : OutErr → VacErr
 of_call Failed = FolderFault
 of_call outs.NoMemory = NoMemory
 
--- whether it tells of a failed call of the folder
+-- Whether an error tells of a failed call of the folder.
 abbrev pub is_folder_fault : VacErr → Bool
 is_folder_fault FolderFault = true
 is_folder_fault (Tree err) = false

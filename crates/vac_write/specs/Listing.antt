@@ -75,7 +75,7 @@ if_kept File x y = x
 if_kept Folder x y = x
 if_kept Other x y = y
 
--- the same, if it is a file or a folder
+-- What holds of an item if it is a file or a folder; of others nothing is asked.
 abbrev pub IfKept : ItemKind → Type 0 → Type 0
 IfKept File p = p
 IfKept Folder p = p

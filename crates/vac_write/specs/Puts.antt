@@ -16,7 +16,7 @@ pub record PutsBlocks {S : Type 0} (does : S → Call → S → Type 0) (s s' : 
   pub accepted : refusals_of calls ≡ []
   pub puts : map asked_of calls ≡ map write_of_block blocks
 
--- it is the answer to a call of the store, or want of memory
+-- The error is the answer to a call of the store, or want of memory.
 abbrev pub IsOfStore : VacErr → Type 0
 IsOfStore FolderFault = ⊥
 IsOfStore (Tree (trees.Block err)) = ⊤
@@ -29,8 +29,8 @@ IsOfStore (BadName path) = ⊥
 IsOfStore (TooDeep path) = ⊥
 IsOfStore NoMemory = ⊤
 
--- It was given up: of these blocks the first were put, and nothing else was asked for. No call was
--- refused but the last, where that is told.
+-- What puts blocks was given up: of these blocks the first were put, and nothing else was asked
+-- for. No call was refused but the last, where that is told.
 pub record GivesUpBlocks {S : Type 0} (does : S → Call → S → Type 0) (s s' : S)
     (blocks : List Block) (err : VacErr) : Type 0 where
   pub calls : List Call

@@ -87,7 +87,7 @@ file_is path items have = of (file_at path items) (bytes_at path items have)
     }
     of (Some bytes) is = is
 
--- and so is what is left of it behind a place
+-- what is left of a file behind a place is of bytes, too
 pub left_bytes : (path : List (List ℕ)) (items : Items Facts) → HaveBytes items
     → (at : ℕ) → AreBytes (drop at (bytes_at_path path items))
 left_bytes path items have at i =

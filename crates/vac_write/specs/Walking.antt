@@ -77,7 +77,7 @@ pub record ArchivesPart {S : Type 0} (does : S → Call → S → Type 0) (score
   pub bsize : new.bsize ≡ old.bsize
   pub put : PutsBlocks does s s' (blocks_of score_of old.bsize (numbered old.qid (kept part)))
 
--- They were given up: of these blocks the first were put, and nothing else was asked for.
+-- The items were given up: of these blocks the first were put, and nothing else was asked for.
 pub record GivesUpPart {S : Type 0} (does : S → Call → S → Type 0) (score_of : List ℕ → List ℕ)
     (s s' : S) (old : Walk) (part : Items Facts) (err : VacErr) : Type 0 where
   pub cause : IsGivenUpAs err
@@ -130,7 +130,7 @@ pub record WritesStreams {S : Type 0} (does : S → Call → S → Type 0) (scor
 abbrev pub top_of : FolderEntries → List ℕ
 top_of e = tree_entry_bytes e.entries ++ tree_entry_bytes e.metadata
 
--- that block, and the root that names it
+-- The block of the top folder's two entries, and the root that names it.
 abbrev pub root_blocks : (score_of : List ℕ → List ℕ) → (bsize : ℕ) → (top : List ℕ) → List Block
 root_blocks score_of bsize top =
     (record { kind = 2; bytes = top })
@@ -158,7 +158,7 @@ pub record ArchivesItems {S : Type 0} (does : S → Call → S → Type 0)
   pub bsize : new.bsize ≡ old.bsize
   pub put : PutsBlocks does s s' (all_blocks score_of old.bsize (archived_from old.qid seen))
 
--- It was given up: of these blocks the first were put, and nothing else was asked for.
+-- The folder was given up: of these blocks the first were put, and nothing else was asked for.
 pub record GivesUpItems {S : Type 0} (does : S → Call → S → Type 0)
     (score_of : List ℕ → List ℕ) (s s' : S) (tells : Bool) (held : Items Facts) (old : Walk)
     (err : VacErr) : Type 0 where

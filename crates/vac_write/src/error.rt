@@ -18,6 +18,7 @@ pub enum VacErr {
     BadName(Text),
     /// The folder at this path lies more than 256 folders below the top.
     TooDeep(Text),
+    /// Memory ran out.
     NoMemory,
 }
 
@@ -28,6 +29,7 @@ impl From<BlockErr> for VacErr {
 
     ghost from_gives = { λ refusal err. err ≡ Tree (Block refusal) };
 
+    /// What the store of blocks answered is a failure of a tree.
     fn from(refusal: BlockErr) -> Self {
         VacErr::Tree(TreeErr::Block(refusal))
     }
@@ -39,6 +41,8 @@ impl From<TreeErr> for VacErr {
 
     ghost from_gives = { λ failure err. err ≡ of_stream failure };
 
+    /// Why a stream was given up: a failed read of its source, which is a file of the folder, is
+    /// `FolderFault`, want of memory `NoMemory`, and all else a failure of a tree.
     fn from(failure: TreeErr) -> Self {
         match failure {
             TreeErr::SourceFault => VacErr::FolderFault,
@@ -54,6 +58,7 @@ impl From<OutErr> for VacErr {
 
     ghost from_gives = { λ failure err. err ≡ of_call failure };
 
+    /// A failed call of the folder is `FolderFault`, and want of memory `NoMemory`.
     fn from(failure: OutErr) -> Self {
         match failure {
             OutErr::Failed => VacErr::FolderFault,
@@ -68,6 +73,7 @@ impl From<AllocError> for VacErr {
 
     ghost from_gives = { λ _ err. err ≡ NoMemory };
 
+    /// Memory that wasn't there is `NoMemory`.
     fn from(_error: AllocError) -> Self {
         VacErr::NoMemory
     }
@@ -79,6 +85,7 @@ impl<T: Drop> From<AllocFailed<T>> for VacErr {
 
     ghost from_gives = { λ _ err. err ≡ NoMemory };
 
+    /// Memory that wasn't there is `NoMemory`; what should have gone there is dropped.
     fn from(_error: AllocFailed<T>) -> Self {
         VacErr::NoMemory
     }

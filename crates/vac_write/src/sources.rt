@@ -92,6 +92,7 @@ impl<'a> Source for SliceSource<'a> {
 
     ghost faults_fit = { λ _. Prim.omega arith };
 
+    /// Gives the next bytes of the slice, as many as the buffer has room for.
     fn take(&mut self, buf: &mut [u8]) -> Result<usize, Failed> {
         let left = &self.bytes[self.at..];
         let n = left.len().min(buf.len());

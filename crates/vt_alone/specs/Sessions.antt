@@ -33,7 +33,7 @@ use Rattle.vt_alone.specs.declared.serving.StoreServed.{StoreServed}
 
 -- ---- a session
 
--- what its devices tell of their faults over a while
+-- What the devices of a store tell of their faults over a while.
 abbrev pub faults_over : {D : Type 0} → DiskOf D → (old new : CoreState D) → Faults
 faults_over disk old new = record {
   before = each_of disk.faults old;

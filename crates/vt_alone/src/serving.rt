@@ -91,10 +91,12 @@ impl<C: Client> Job<C> for ServeSession {
 
     ghost writes = { λ it. true };
 
+    /// It writes, since a client may.
     fn writes(&self) -> bool {
         true
     }
 
+    /// Serves the session of the client.
     fn run<T: Store>(
         &self,
         alloc: Global,

@@ -79,7 +79,8 @@ commit_pieces blocks = blocks + min 1 blocks
 abbrev pub pieces : ArenaState → ℕ
 pieces a = commit_pieces (length a.staged)
 
--- The calls behind them are the four of the head's change.
+-- How many device calls a commit takes: one for each staged clump and, where there are any, one for
+-- their directory, and behind them the four of the head's change.
 abbrev pub commit_calls : ArenaState → ℕ
 commit_calls a = pieces a + 4
 

@@ -69,7 +69,7 @@ pub record IsAtBlock (before : List Stored) (s : Stored) (at : At) : Type 0 wher
   pub index : at.index ≡ length before + 1
   pub end : at.end ≡ used_of before + block_room (length s.block)
 
--- what it gives of that block
+-- What a walk of the directory gives of a block.
 pub record IsInfoOfBlock (number : ℕ) (before : List Stored) (s : Stored) (info : Info)
     : Type 0 where
   pub kind : info.key.kind ≡ s.kind

@@ -23,7 +23,7 @@ bad_value number len version numbered sealed taken =
     else if nat_lt (arena_room len) taken then Some (Torn Used taken (arena_room len))
     else None
 
--- and of its fields
+-- The first test of the fields of a head that fails, for an arena of this number and length.
 abbrev pub first_bad_head : (number len : ℕ) → (fields : List ℕ) → Option ArenaBad
 first_bad_head number len fields =
     if not (bytes_eq (take 4 fields) (codes "VARN")) then Some NotFormatted
@@ -41,7 +41,8 @@ FindsArena number len fields (Err (Torn field found want)) =
 FindsArena number len fields (Err Fault) = ⊤
 FindsArena number len fields (Err NoMemory) = ⊥
 
--- and what mounting does; memory runs out only where no test fails
+-- What mounting an arena does where these are the fields of its current head; memory runs out only
+-- where no test fails.
 abbrev pub MountsArena : (number len : ℕ) → (fields : List ℕ) → Result ArenaState ArenaBad → Type 0
 MountsArena number len fields (Ok a) =
     (first_bad_head number len fields ≡ None) × (fields_of a.head ≡ fields)

@@ -30,7 +30,7 @@ clumps_of stored = flat_map clump_bytes stored
 abbrev pub directory_of : List Stored → List ℕ
 directory_of stored = flat_map arena_entry (reverse stored)
 
--- how many bytes the clumps are
+-- How many bytes the clumps of these blocks are.
 abbrev pub used_of : List Stored → ℕ
 used_of stored = sum_by block_room (lengths_of stored)
 
@@ -48,7 +48,7 @@ pub record Content : Type 0 where
 abbrev pub empty : Content
 empty = record { sealed = Bool.false; stored = [] }
 
--- its head
+-- The head of the arena of this number that holds this.
 abbrev pub arena_head : (score_of : List ℕ → List ℕ) → (number : ℕ) → Content → ArenaHead
 arena_head score_of number a = record {
   version = 1;
@@ -84,7 +84,7 @@ pub record HasBlocks (region : Region) (stored : List Stored) (file : List ℕ) 
   pub clumps : BytesStandAt (region.start + ARENA_HEAD_LEN) (clumps_of stored) file
   pub directory : BytesStandAt (directory_place region (length stored)) (directory_of stored) file
 
--- each of them is a block with its score, and an arena of this length has room for them
+-- Each of the blocks is one with its score, and an arena of this length has room for all of them.
 pub record IsArenaContent (score_of : List ℕ → List ℕ) (len : ℕ) (a : Content) : Type 0 where
   pub stored : All (IsStoredBlock score_of) a.stored
   pub fit : Fit len a.stored

@@ -16,7 +16,7 @@ block_room n = clump_len (alone 0) 0 n
 abbrev pub directory_room : (blocks : ℕ) → ℕ
 directory_room blocks = directory_len (alone 0) 0 blocks
 
--- what an arena of this length has for both
+-- What an arena of this length has for clumps and directory together.
 abbrev pub arena_room : (len : ℕ) → ℕ
 arena_room len = room_of (alone len) 0
 

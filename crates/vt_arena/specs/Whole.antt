@@ -28,7 +28,7 @@ state_of a = record {
 abbrev pub staged_room : List Packed → ℕ
 staged_room staged = sum_by (λ p. block_room p.len) staged
 
--- their directory, in which the last entry stands first
+-- The directory of staged clumps, in which the last entry stands first.
 abbrev pub staged_directory : List Packed → List ℕ
 staged_directory staged =
     flat_map (λ p. entry_bytes p.kind p.len p.score.0) (reverse staged)

@@ -24,7 +24,7 @@ const LINK_LEN: usize = 20 + DIRECTORY_ENTRY_LEN;
 /// each time.
 #[derive(Drop)]
 pub struct Arena {
-    /// Its number in its partition.
+    /// The arena's number in its partition.
     pub(crate) number: u32,
     /// How many bytes its region has.
     pub(crate) len: u64,

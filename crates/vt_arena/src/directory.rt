@@ -43,7 +43,8 @@ impl At {
 /// the arena's number in its partition, and its number in the arena, from 0. The walk moves to the
 /// block before. The head is the arena's, as committed.
 ///
-/// It makes one read, of that entry.
+/// It makes one read, of that entry. An entry that can't stand there is damage, and a failed read a
+/// fault.
 pub fn info<D: Disk>(
     disk: &mut D,
     region: Region,

@@ -26,6 +26,7 @@ pub enum ArenaBad {
         found: u128,
         want: u128,
     },
+    /// Memory ran out.
     NoMemory,
 }
 
@@ -35,6 +36,7 @@ pub enum ReadBad {
     /// A call of the disk failed, and its count of faults rose.
     Fault,
     Damaged { want: FieldValue, found: FieldValue },
+    /// Memory ran out.
     NoMemory,
 }
 

@@ -53,7 +53,8 @@ impl ArenaHead {
         put(frame, at, &self.chain.0);
     }
 
-    /// The head that these fields spell, for an arena of this number and length.
+    /// The head that these fields spell, for an arena of this number and length. They are refused
+    /// by the first test that fails.
     pub(crate) fn decode(
         fields: &[u8; FIELDS_LEN],
         number: u32,
@@ -87,7 +88,7 @@ impl ArenaHead {
     }
 }
 
-/// Tests a head whose byte for `sealed` is this one.
+/// Tests a head whose byte for `sealed` is this one. It is refused by the first test that fails.
 fn check(head: &ArenaHead, sealed: u8, number: u32, len: u64) -> Result<(), ArenaBad>
     ensures refused { let taken = head.now.used + directory_room head.now.clumps in
         let bad = bad_value number len head.now.version head.now.number sealed taken in

@@ -86,7 +86,8 @@ pub fn has_header(len: u64, offset: u64) -> bool
     offset >= ARENA_HEAD_LEN as u64 && len >= header_len && offset <= len - header_len
 }
 
-/// Reads a header and the block behind it, cut at the region's end.
+/// Reads a header and the block behind it, cut at the region's end. Bytes that are no clump are
+/// refused by the first test that fails; else a read failed, or memory ran out.
 fn read_clump<D: Disk>(
     alloc: Global,
     disk: &mut D,
@@ -140,7 +141,8 @@ fn header_of(bytes: &[u8]) -> [u8; CLUMP_HEADER_LEN]
     header
 }
 
-/// Reads so many bytes from this place of a region on, or up to the region's end.
+/// Reads so many bytes from this place of a region on, or up to the region's end. It fails where
+/// the read does, or memory runs out.
 fn read_bytes<D: Disk>(
     alloc: Global,
     disk: &mut D,

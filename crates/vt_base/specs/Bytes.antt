@@ -6,7 +6,7 @@ use Rattle.std.proofs.Common.{arith}
 abbrev pub AreBytes : List ℕ → Type 0
 AreBytes bytes = (i : ℕ) → slice_index bytes i < 256
 
--- no bytes are bytes
+-- An empty list is one of bytes.
 pub AreBytes-none : AreBytes []
 AreBytes-none i = omega arith
 

@@ -24,7 +24,8 @@ abbrev pub TellsFault : {T E : Type 0} → (is_fault : E → Bool) → Result T 
 TellsFault is_fault result rose stayed =
     MatchResult result (λ _. stayed) (λ bad. MatchBool (is_fault bad) rose stayed)
 
--- the same by one count of failed calls
+-- A fault is told exactly where this count of failed calls rose, and it stayed wherever none is
+-- told.
 abbrev pub CountsFault : {T E : Type 0} → (is_fault : E → Bool) → Result T E → (old new : ℕ) → Type 0
 CountsFault is_fault result old new =
     TellsFault is_fault result (HasRisen old new) (new ≡ old)

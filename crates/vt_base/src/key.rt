@@ -25,6 +25,7 @@ impl Ord for Key {
 
     ghost matches_eq = { Prim.search (comparing, rules) };
 
+    /// By score, and then by type.
     fn cmp(&self, other: &Key) -> Ordering {
         self.score
             .cmp(&other.score)
@@ -39,6 +40,7 @@ impl PartialOrd for Key {
     ghost laws = { partial_order_from_own_ties
         (Prim.search (comparing, rules)) (Prim.search (comparing, rules)) };
 
+    /// The same order, which two keys always have.
     fn partial_cmp(&self, other: &Key) -> Option<Ordering> {
         Some(self.cmp(other))
     }

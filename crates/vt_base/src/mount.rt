@@ -74,5 +74,6 @@ pub enum MountBad {
         want: FieldValue,
         found: FieldValue,
     },
+    /// Memory ran out.
     NoMemory,
 }

@@ -29,7 +29,8 @@ pub fn score_text(alloc: Global, score: &Score) -> Result<Text, AllocError>
 }
 
 /// The score of a text: 40 digits in either case and nothing more, behind a label and a colon or
-/// without them, as `vac:` (vac(1)).
+/// without them, as `vac:` (vac(1)). Any other text is refused with the place of its first wrong
+/// byte.
 pub fn parse_score(text: &[u8]) -> Result<Score, BadScore>
     ensures ok { IfOk result (λ score. SpellsScore score.0 text.now) }
     ensures only { (score : List ℕ) → SpellsScore score text.now → IsOkAnd result (λ s. s.0 ≡ score) }

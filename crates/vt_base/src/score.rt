@@ -39,10 +39,12 @@ impl<S: Scorer> Scorer for &S {
 
     ghost score_bytes = { S.score_bytes };
 
+    /// The score by the scorer that is lent.
     fn score(&self, block: &[u8]) -> Score {
         (**self).score(block)
     }
 
+    /// The zero score of the scorer that is lent.
     fn zero_score(&self) -> Score {
         (**self).zero_score()
     }
@@ -67,10 +69,12 @@ impl Scorer for Sha1Scorer {
 
     ghost score_bytes = { λ block _. bytes-sha1 block };
 
+    /// The SHA-1 of the block (FIPS 180-4).
     fn score(&self, block: &[u8]) -> Score {
         Score(sha1::Sha1::digest(block))
     }
 
+    /// The SHA-1 of no bytes, which isn't computed anew.
     fn zero_score(&self) -> Score {
         NO_BYTES
     }
@@ -90,6 +94,7 @@ impl Scorer for ShortScorer {
 
     ghost score_bytes = { bytes-short_score };
 
+    /// The block's first byte, if it has one, and zeros.
     fn score(&self, block: &[u8]) -> Score {
         let mut bytes = [0; 20];
         if let Some(first) = block.first() {

@@ -54,6 +54,7 @@ pub enum Why {
         want: FieldValue,
         found: FieldValue,
     },
+    /// Memory ran out.
     NoMemory,
 }
 

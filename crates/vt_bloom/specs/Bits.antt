@@ -22,7 +22,7 @@ pub record IsFilter (filter : Filter) : Type 0 where
   pub counts : AreCounts filter.m filter.k
   pub whole : 64 * length filter.words ≡ 2 ^ filter.m
 
--- none of them is set
+-- A filter of 2^m bits with k positions for a score, none of which is set.
 abbrev pub clear_of : (m k : ℕ) → Filter
 clear_of m k = record { m = m; k = k; words = replicate (2 ^ (m - 6)) 0 }
 
@@ -48,7 +48,7 @@ IsSet filter p = IsSetIn filter.words p
 abbrev pub IsPosition : Filter → (score : List ℕ) → (p : ℕ) → Type 0
 IsPosition filter score p = (i : ℕ) × (i < filter.k) × (p ≡ position_of filter.m score i)
 
--- all of its bits are set
+-- All bits of the score are set.
 abbrev pub HasBitsOf : Filter → (score : List ℕ) → Type 0
 HasBitsOf filter score = (i : ℕ) → i < filter.k → IsSet filter (position_of filter.m score i)
 

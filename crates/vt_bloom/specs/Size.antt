@@ -13,15 +13,15 @@ pub record IsFilterSize (m size : ℕ) : Type 0 where
   pub most : m ≤ 23
   pub bytes : size ≡ filter_size m
 
--- a frame has a block and then the bits
+-- How many bytes a frame of a filter has: a block, and then the bits.
 abbrev pub filter_frame_len : (m : ℕ) → ℕ
 filter_frame_len m = BLOCK_LEN + filter_size m
 
--- two frames, and a block for the selector
+-- How many bytes a filter takes: two frames, and a block for the selector.
 abbrev pub filter_len : (m : ℕ) → ℕ
 filter_len m = 2 * filter_frame_len m + BLOCK_LEN
 
--- they stand at the device's start
+-- The region of a filter's frames and selector, which stand at the device's start.
 abbrev pub filter_region : (m : ℕ) → Region
 filter_region m = record { start = 0; len = filter_len m }
 

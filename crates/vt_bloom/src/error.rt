@@ -24,6 +24,7 @@ pub enum BloomError {
     /// What was found in a field can't stand there. What was wanted is the one value that can or,
     /// where there are several, the largest.
     Torn { field: Field, found: u64, want: u64 },
+    /// Memory ran out.
     NoMemory,
 }
 
@@ -33,6 +34,7 @@ impl From<Failed> for BloomError {
 
     ghost from_gives = { λ _ bad. bad ≡ BloomError.Fault };
 
+    /// A failed call of the device is `Fault`.
     fn from(_failed: Failed) -> Self {
         BloomError::Fault
     }
@@ -44,6 +46,7 @@ impl From<AllocError> for BloomError {
 
     ghost from_gives = { λ _ bad. bad ≡ BloomError.NoMemory };
 
+    /// Memory that wasn't there is `NoMemory`.
     fn from(_error: AllocError) -> Self {
         BloomError::NoMemory
     }

@@ -52,7 +52,7 @@ fn encode_head(m: u8, k: u8, mark: u64, head: &mut [u8])
 }
 
 /// What the head of a frame says, on a device with room for 2^m bits: how many bits a score has,
-/// and the mark.
+/// and the mark. They are refused by the first test that fails.
 pub fn decode_head(frame: &[u8], m: u8) -> Result<(u8, u64), BloomError>
     requires long { BLOCK_LEN ≤ length frame.now }
     requires least { 16 ≤ m }

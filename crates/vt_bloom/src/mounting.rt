@@ -97,7 +97,8 @@ struct Found {
     bits: Bits,
 }
 
-/// Finds the filter of a device.
+/// Finds the filter of a device. It is refused by the first test that fails; else a call of the
+/// device failed, or memory ran out.
 fn find<D: Disk>(alloc: Global, disk: &mut D) -> Result<Found, BloomError>
     ensures found { IfOk result (λ it. IsTrue D.tells
         → HasSaved (record { filter = it.bits; mark = it.mark }) (D.bytes disk.old)) }

@@ -29,7 +29,7 @@ pub enum BucketBad {
 }
 
 /// The bucket of this number, from a frame of 8,192 bytes. The whole frame is tested before an
-/// entry is used.
+/// entry is used. It is refused by the first test that fails.
 pub fn decode(frame: &[u8], number: u32) -> Result<Bucket, BucketBad>
     requires { length frame.now ≡ FRAME_LEN }
     ensures number { IfOk result (λ bucket. number_of_bucket bucket ≡ number) }
@@ -50,7 +50,8 @@ pub fn decode(frame: &[u8], number: u32) -> Result<Bucket, BucketBad>
     }
 }
 
-/// Tests the head of a frame, and gives the count of entries.
+/// Tests the head of a frame, and gives the count of entries. It is refused by the first test that
+/// fails.
 fn decode_head(frame: &[u8], number: u32) -> Result<u16, BucketBad>
     requires { length frame.now ≡ FRAME_LEN }
     ensures magic { OnOk result (HasMagic frame.now) }

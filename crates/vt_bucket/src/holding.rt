@@ -46,7 +46,7 @@ impl Bucket {
         &self.table[..self.len]
     }
 
-    /// The entry of this key.
+    /// The entry of this key, or None where the bucket has none.
     pub fn find(&self, key: &Key) -> Option<Entry>
         ensures found { IfSome result (λ entry. Contains (bucket_entries self.now) entry
             × (entry.key ≡ key.now)) }
@@ -59,7 +59,7 @@ impl Bucket {
         }
     }
 
-    /// Puts an entry in, in place of one of its key.
+    /// Puts an entry in, in place of one of its key. Full says that there is no room for it.
     pub fn with(&mut self, entry: Entry) -> Result<(), Full>
         ensures put { OnOk result
             (PutsEntry (bucket_entries self.old) entry (bucket_entries self.new)) }

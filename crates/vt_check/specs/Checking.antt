@@ -45,7 +45,7 @@ area_of region file =
 abbrev pub clumps_at : Region → (n : ℕ) → (file : List ℕ) → List (List ℕ)
 clumps_at region n file = clumps_in n (area_of region file)
 
--- and so many entries of its directory, from entry i on
+-- So many entries of an arena's directory, from entry i on.
 abbrev pub entries_at : Region → (i n : ℕ) → (file : List ℕ) → List (List ℕ)
 entries_at region i zero file = []
 entries_at region i (suc n) file = last_entry region (i + 1) file ∷ entries_at region (i + 1) n file
@@ -158,7 +158,7 @@ pub record AreReports {D : Type 0} (l : LogState D) (reports : List ArenaReport)
   pub each : (i : ℕ) (found : Found) (report : ArenaReport) → slice_get l.heads i ≡ Some found
       → slice_get reports i ≡ Some report → IsReportOf i found.head report
 
--- Each tells of what its disk reads as.
+-- Each report tells of what the disk of its arena reads as.
 abbrev pub AreTold : {D : Type 0} → (List ℕ → List ℕ) → DiskOf D → LogState D → List ArenaReport
     → Type 0
 AreTold score disk l reports = (i : ℕ) (r : ArenaRegion) (found : Found) (file : List ℕ)

@@ -41,6 +41,7 @@ const _: () = prove!(BYTES_AT_ONCE == 8_388_608);
 pub enum CheckErr {
     /// A call of a disk failed, and its count of faults rose.
     Fault,
+    /// Memory ran out.
     NoMemory,
 }
 
@@ -202,7 +203,7 @@ fn end_of(head: &ArenaHead, followed: &Followed) -> Option<Damage>
 struct Room {
     /// The bytes of clumps, as many as are read at once.
     clumps: Vec<u8>,
-    /// Their directory entries, the last of which stands first.
+    /// The directory entries of the clumps, the last of which stands first.
     entries: Vec<u8>,
     /// Where each clump begins and ends, with its entry.
     cuts: Vec<Cut>,

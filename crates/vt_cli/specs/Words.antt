@@ -220,7 +220,7 @@ Asks words (Faulty text) =
     × ((string_bytes text ≡ [])
     ⊎ IsAmong DisplayHelpOnMissingArgumentOrSubcommand (fault_of venti words))
 
--- they ask for nothing that the program knows
+-- The words ask for nothing that the program knows.
 abbrev pub AsksForNothing : Asked → Type 0
 AsksForNothing (Faulty text) = ⊤
 AsksForNothing asked = ⊥

@@ -25,7 +25,7 @@ pub record ClientState (L : Type 0) : Type 0 where
 
 -- ---- what is wanted of a server
 
--- the block of a type and score
+-- What a read asks for: the block of a type and score.
 abbrev pub wanted_block : (score : List ℕ) (kind : ℕ) → Wanted (List ℕ)
 wanted_block score kind = record {
   request = t_ask (read score kind MAX_BLOCK);
@@ -33,7 +33,7 @@ wanted_block score kind = record {
   score = Some score;
 }
 
--- that it takes a block in, and tells its score
+-- What a write asks for: that the server takes a block in, and tells its score.
 abbrev pub taking_in : (score_of : List ℕ → List ℕ) → (kind : ℕ) (bytes : List ℕ) → Wanted Score
 taking_in score_of kind bytes = record {
   request = t_ask (write kind bytes);
@@ -41,7 +41,7 @@ taking_in score_of kind bytes = record {
   score = Some (score_of bytes);
 }
 
--- that it commits what it took in
+-- What a sync asks for: that the server commits what it took in.
 abbrev pub committing : Wanted (Unit {0})
 committing = record { request = t_ask sync; reply = λ done. r_sync; score = None }
 
@@ -64,7 +64,7 @@ abbrev pub spent_by : {T : Type 0} → Result T ClientErr → Bool
 spent_by (Ok value) = false
 spent_by (Err err) = spends err
 
--- whether it tells of a failed read
+-- Whether an error of a client tells of a failed read.
 abbrev pub is_read_fault : ClientErr → Bool
 is_read_fault errs.ReadFault = true
 is_read_fault (errs.Remote text) = false
@@ -76,7 +76,7 @@ is_read_fault (errs.BadReply place) = false
 is_read_fault errs.NoVersion = false
 is_read_fault errs.Spent = false
 
--- whether it tells of a failed write
+-- Whether an error of a client tells of a failed write.
 abbrev pub is_write_fault : ClientErr → Bool
 is_write_fault errs.WriteFault = true
 is_write_fault (errs.Remote text) = false

@@ -25,7 +25,7 @@ pub record IsLineSo (line : List ℕ) (what : Line) : Type 0 where
 abbrev pub OffersVersion : (has : Bool) (line : List ℕ) → Type 0
 OffersVersion has line = (len : ℕ) × IsLineSo line (Whole len has)
 
--- it is no line, or none that offers the version that this client speaks
+-- What came is no line, or none that offers the version that this client speaks.
 abbrev pub LacksVersion : (line : List ℕ) → Type 0
 LacksVersion line = OffersVersion false line ⊎ ((place : ℕ) × IsLineSo line (Bad place))
 

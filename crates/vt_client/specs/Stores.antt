@@ -26,7 +26,7 @@ err_of (errs.WrongScore want found) = blocks.WrongScore want found
 err_of errs.Spent = blocks.Refused (codes "client spent")
 err_of errs.NoMemory = blocks.NoMemory
 
--- it is told with a text
+-- The refusal is told with a text.
 abbrev pub HasText : ClientErr → Type 0
 HasText (errs.Remote text) = ⊤
 HasText errs.ReadFault = ⊥
@@ -38,7 +38,7 @@ HasText (errs.WrongScore want found) = ⊥
 HasText errs.Spent = ⊤
 HasText errs.NoMemory = ⊥
 
--- it is told so, or memory ran out for its text
+-- The refusal is told so, or memory ran out for its text.
 abbrev pub IsToldAs : ClientErr → BlockErr → Type 0
 IsToldAs why err = (err ≡ err_of why) ⊎ (HasText why × (err ≡ blocks.NoMemory))
 

@@ -26,7 +26,7 @@ IsOfTaking errs.NoVersion = ⊥
 IsOfTaking errs.Spent = ⊥
 IsOfTaking errs.NoMemory = ⊥
 
--- or the request wasn't written
+-- The link failed while bytes were taken, or they ended, or the request wasn't written.
 abbrev pub IsOfExchange : ClientErr → Type 0
 IsOfExchange errs.ReadFault = ⊤
 IsOfExchange errs.Cut = ⊤
@@ -38,7 +38,8 @@ IsOfExchange errs.NoVersion = ⊥
 IsOfExchange errs.Spent = ⊥
 IsOfExchange errs.NoMemory = ⊥
 
--- or the line that came doesn't do
+-- Why a greeting ends at the line: the link failed while bytes were taken, or they ended, or the
+-- line that came doesn't do.
 abbrev pub IsOfLine : ClientErr → Type 0
 IsOfLine errs.ReadFault = ⊤
 IsOfLine errs.Cut = ⊤
@@ -111,7 +112,7 @@ pub record StopsInLine (before after : Traffic) (err : ClientErr) : Type 0 where
   pub moves : MovesBytes before after [] part
   pub ends : EndsWithNothingLeft after err
 
--- it is whole, and offers version 02
+-- Whether a line is whole, and offers version 02.
 abbrev pub offers_version : Line → Bool
 offers_version (Whole len has) = has
 offers_version More = false

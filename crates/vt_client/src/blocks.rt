@@ -16,6 +16,7 @@ impl<L: Link, S: Scorer + Drop> Scorer for Client<L, S> {
 
     ghost score_bytes = { S.score_bytes };
 
+    /// The score by its scorer.
     fn score(&self, block: &[u8]) -> Score {
         self.scorer.score(block)
     }
@@ -89,6 +90,8 @@ impl<L: Link, S: Scorer + Drop> Blocks for Client<L, S> {
 
     ghost counting = { λ c c' call does. does.counts };
 
+    /// Asks the server for the block, as `Client::get`. A refusal is counted, and why the first was
+    /// is kept.
     fn get(&mut self, alloc: Global, kind: Kind, score: &Score) -> Result<Bytes, BlockErr> {
         match Client::get(self, alloc, kind, score) {
             Ok(bytes) => Ok(bytes),
@@ -96,6 +99,8 @@ impl<L: Link, S: Scorer + Drop> Blocks for Client<L, S> {
         }
     }
 
+    /// Sends the block to the server, as `Client::put`, and counts it where it was taken in. A
+    /// refusal is counted, and why the first was is kept.
     fn put(&mut self, alloc: Global, kind: Kind, bytes: &[u8]) -> Result<Score, BlockErr> {
         match Client::put(self, alloc, kind, bytes) {
             Ok(score) => {
@@ -106,6 +111,8 @@ impl<L: Link, S: Scorer + Drop> Blocks for Client<L, S> {
         }
     }
 
+    /// Asks the server to commit all, as `Client::sync`. A refusal is counted, and why the first
+    /// was is kept.
     fn sync(&mut self, alloc: Global) -> Result<(), BlockErr> {
         match Client::sync(self, alloc) {
             Ok(()) => Ok(()),

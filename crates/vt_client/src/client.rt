@@ -35,13 +35,14 @@ pub struct Client<L: Link, S: Scorer> {
     tag: u8,
     /// Whether something went wrong on the link, so that nothing more is asked over it.
     spent: bool,
-    /// How many calls of the link failed.
+    /// How many calls of this client as a store of blocks were answered with a fault of the link.
     pub(crate) faults: u64,
-    /// How many answers were refusals for another reason than want of memory.
+    /// How many such calls were refused for another reason than a fault or want of memory.
     pub(crate) refusals: u64,
-    /// Why the last such answer was one.
+    /// Why the first such call failed or was refused, want of memory included, since that was last
+    /// taken out.
     pub(crate) refused: Option<ClientErr>,
-    /// How many blocks the server took in.
+    /// How many blocks the server took in by such calls.
     pub(crate) sent: u64,
     ghost buf_len: { length buf.items ≡ 65537 },
 }

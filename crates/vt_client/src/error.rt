@@ -24,6 +24,7 @@ pub enum ClientErr {
     WrongScore { want: Score, found: Score },
     /// An earlier call has ended the exchange of requests and replies.
     Spent,
+    /// Memory ran out.
     NoMemory,
 }
 
@@ -53,6 +54,7 @@ impl From<AllocError> for ClientErr {
 
     ghost from_gives = { λ _ err. err ≡ NoMemory };
 
+    /// Memory that wasn't there is `NoMemory`.
     fn from(_error: AllocError) -> Self {
         ClientErr::NoMemory
     }

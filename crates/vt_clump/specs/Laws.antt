@@ -4,7 +4,7 @@ use Rattle.vt_base.specs.Bytes.{AreBytes}
 use Rattle.vt_clump.specs.Faults.{first_bad_clump}
 use Rattle.vt_clump.specs.Spelling.{Stored, IsStoredBlock, clump_len, clump_bytes, stored_in, BeginsWithClump}
 
--- no bytes begin with two clumps
+-- No bytes begin with two clumps.
 abbrev pub IsUnambiguous : Type 0
 IsUnambiguous = (score_of : List ℕ → List ℕ) (s t : Stored) (bytes : List ℕ)
     → BeginsWithClump score_of s bytes → BeginsWithClump score_of t bytes → s ≡ t
@@ -14,7 +14,7 @@ abbrev pub PassesClumps : Type 0
 PassesClumps = (score_of : List ℕ → List ℕ) (s : Stored) (bytes : List ℕ)
     → BeginsWithClump score_of s bytes → first_bad_clump score_of bytes ≡ None
 
--- and nowhere else
+-- Where the bytes don't begin with a clump, a test fails.
 abbrev pub PassesClumpsOnly : Type 0
 PassesClumpsOnly = (score_of : List ℕ → List ℕ) (bytes : List ℕ) → AreBytes bytes
     → first_bad_clump score_of bytes ≡ None → BeginsWithClump score_of (stored_in bytes) bytes

@@ -56,7 +56,7 @@ impl Header {
         bytes
     }
 
-    /// The header that the bytes of a clump begin with.
+    /// The header that the bytes of a clump begin with. It is refused by the first test that fails.
     pub fn decode(bytes: &[u8]) -> Result<Header, ClumpBad>
         ensures refused { FailsWith (bad_header bytes.now) result }
         ensures kind { IfOk result (λ header. header.kind ≡ (stored_in bytes.now).kind) }
@@ -68,6 +68,7 @@ impl Header {
     }
 
     /// The header that these bytes begin with, of a clump that has `room` bytes behind its header.
+    /// It is refused by the first test that fails.
     pub fn decode_before(bytes: &[u8], room: usize) -> Result<Header, ClumpBad>
         ensures refused { FailsWith (bad_fields bytes.now room) result }
         ensures kind { IfOk result (λ header. header.kind ≡ (stored_in bytes.now).kind) }
@@ -111,7 +112,8 @@ fn check_encoding(encoding: u8) -> Result<(), ClumpBad>
     }
 }
 
-/// Tests the sizes of a clump with so many bytes behind its header.
+/// Tests the sizes of a clump with so many bytes behind its header. The first that can't be is
+/// told.
 fn check_sizes(size: u16, uncsize: u16, room: usize) -> Result<(), ClumpBad>
     ensures { FailsWith (bad_size size uncsize room) result }
 {

@@ -43,6 +43,7 @@ pub enum ClumpBad {
     Size { want: u16, found: u16 },
     /// The block has another score than its header says.
     Score { want: Score, found: Score },
+    /// Memory ran out.
     NoMemory,
 }
 
@@ -81,7 +82,7 @@ pub fn unpack_block<S: Scorer>(
     Ok(clump_of(&header, block))
 }
 
-/// Tests the score of a block.
+/// Tests the score of a block. Another one is told, with the score that the header names.
 fn check_score<S: Scorer>(want: Score, block: &[u8], scorer: &S) -> Result<(), ClumpBad>
     ensures { FailsWith (other_score want.0 (S.score_of block.now)) result }
 {

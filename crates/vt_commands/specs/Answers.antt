@@ -29,6 +29,6 @@ TellsReply (r_error text) outcome sink =
     × (sink.after ≡ sink.before)
 TellsReply reply outcome sink = ⊥
 
--- that, or want of memory
+-- The reply is told, or want of memory.
 abbrev pub TellsReplyOrMemory : {K : Type 0} → RMessage → CommandOutcome → StreamChange K → Type 0
 TellsReplyOrMemory reply outcome sink = (outcome ≡ Err NoMemory) ⊎ TellsReply reply outcome sink

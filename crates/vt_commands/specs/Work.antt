@@ -16,7 +16,7 @@ pub record Work (R K I P D N L : Type 0) : Type 0 where
   pub dialer : DialerChange N L
   pub folders : FoldersChange
 
--- the same by the members of what was handed in
+-- What a run did to all that it was handed, by the members of that.
 abbrev pub work_of : {R K F I P D G E N L C T : Type 0} → SourceOf R → SinkOf K → FilesOf I
     → PartsOf P D → FoldersOf G E → DialerOf N L → LinkOf L
     → (before after : Outside R K F I P N G C T) → Work R K I P D N L
@@ -29,7 +29,7 @@ work_of source sink files parts folders dialer link before after = record {
   folders = folders_change folders before.folders after.folders;
 }
 
--- what it is that a command may tell of, if it is lent all of that
+-- What a command may tell of as a cause, if it is lent all that a run was handed.
 abbrev pub lent_causes : {R K I P D N L : Type 0} → DiskOf D → Work R K I P D N L → Causes
 lent_causes disk work = with_source work.source (with_sink work.sink (with_files work.files
     (with_parts disk work.parts (with_dialer work.dialer (with_folders work.folders no_cause)))))

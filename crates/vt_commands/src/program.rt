@@ -61,7 +61,7 @@ pub fn run<
     run_with(rt, alloc, words, host, &Sha1Scorer)
 }
 
-/// The same, with scores by any scorer.
+/// Runs a command as `run` does, with scores by any scorer.
 pub fn run_with<
     R: Source,
     K: Sink,

@@ -26,19 +26,19 @@ abbrev pub takes_value : Keyword → Bool
 takes_value Queuewrites = false
 takes_value keyword = true
 
--- whether that is a size
+-- Whether the value of the keyword is a size.
 abbrev pub takes_size : Keyword → Bool
 takes_size Mem = true
 takes_size Icmem = true
 takes_size Bcmem = true
 takes_size keyword = false
 
--- whether it is an address that is read
+-- Whether the value of the keyword is an address.
 abbrev pub takes_address : Keyword → Bool
 takes_address Addr = true
 takes_address keyword = false
 
--- whether it names one file of several
+-- Whether a keyword names one file of several.
 abbrev pub is_file : Keyword → Bool
 is_file Arenas = true
 is_file Isect = true

@@ -10,7 +10,7 @@ lines_of text = slice_split (λ b. b == 10) text
 abbrev pub is_blank : ℕ → Bool
 is_blank b = b == 32 || b == 9
 
--- whether it is no word
+-- Whether a piece of a line is no word.
 abbrev pub is_empty : List ℕ → Bool
 is_empty word = length word == 0
 

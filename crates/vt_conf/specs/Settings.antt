@@ -22,7 +22,7 @@ pub record IsValue (keyword : Keyword) (value : List ℕ) : Type 0 where
   pub size : takes_size keyword ≡ true → IsSizeText value
   pub address : takes_address keyword ≡ true → IsAddress value
 
--- why it is none
+-- Why the value is none that the keyword may have.
 abbrev pub LacksValue : Keyword → (value : List ℕ) → ConfCause → Type 0
 LacksValue keyword value BadSize = (takes_size keyword ≡ true) × ¬ IsSizeText value
 LacksValue keyword value BadAddress = (takes_address keyword ≡ true) × ¬ IsAddress value

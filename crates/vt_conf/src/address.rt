@@ -43,7 +43,7 @@ pub(crate) fn is_address(text: &[u8]) -> bool
     split_address(text).is_some()
 }
 
-/// The text of the host of an address, and its port.
+/// The text of the host of an address, and its port; None where the text is no `tcp!HOST!PORT`.
 fn split_address(text: &[u8]) -> Option<(&[u8], u16)>
     ensures parts { IfSome result (λ parts. SpellsParts parts.0.now parts.1 text.now) }
     ensures only { (host : List ℕ) (port : ℕ) → SpellsParts host port text.now
@@ -75,7 +75,7 @@ fn host_of(alloc: Global, text: &[u8]) -> Result<Option<Text>, AllocError>
     Ok(Some(Text::copy_of(alloc, text)?))
 }
 
-/// The port that this text names.
+/// The port that this text names, or None where it names none.
 fn port_of(text: &[u8]) -> Option<u16>
     ensures port { IfSome result (λ port. IsPort port text.now) }
     ensures only { (port : ℕ) → IsPort port text.now → result ≡ Some port }

@@ -44,6 +44,7 @@ pub struct ConfBad {
 #[derive(Clone, Copy, Debug, PartialEq, Eq)]
 pub enum ConfErr {
     Bad(ConfBad),
+    /// Memory ran out.
     NoMemory,
 }
 
@@ -53,6 +54,7 @@ impl From<AllocError> for ConfErr {
 
     ghost from_gives = { λ _ e. e ≡ NoMemory };
 
+    /// Memory that wasn't there is `NoMemory`.
     fn from(_error: AllocError) -> Self {
         ConfErr::NoMemory
     }
@@ -64,6 +66,7 @@ impl<T: Drop> From<AllocFailed<T>> for ConfErr {
 
     ghost from_gives = { λ _ e. e ≡ NoMemory };
 
+    /// Memory that wasn't there is `NoMemory`; what should have gone there is dropped.
     fn from(_error: AllocFailed<T>) -> Self {
         ConfErr::NoMemory
     }
@@ -75,6 +78,7 @@ impl From<ConfBad> for ConfErr {
 
     ghost from_gives = { λ bad e. e ≡ Bad bad };
 
+    /// What is wrong with the text, as it is.
     fn from(bad: ConfBad) -> Self {
         ConfErr::Bad(bad)
     }

@@ -16,7 +16,8 @@ pub struct NumberError {
 }
 
 /// The number of a word of the command line: decimal digits, without a sign and without zeros in
-/// front, from `least` to `most`.
+/// front, from `least` to `most`. Any other word is refused with the place of its first wrong byte,
+/// or 0 where its number isn't allowed.
 pub fn parse_number(text: &[u8], least: u64, most: u64) -> Result<u64, NumberError>
     ensures ok { IfOk result (λ n. text.now ≡ decimal n) }
     ensures least { IfOk result (λ n. least ≤ n) }
@@ -32,7 +33,8 @@ pub fn parse_number(text: &[u8], least: u64, most: u64) -> Result<u64, NumberErr
     }
 }
 
-/// The number whose decimal digits these are, where it fits.
+/// The number whose decimal digits these are; None where the text is no number, or its number
+/// doesn't fit 64 bits.
 pub(crate) fn number(text: &[u8]) -> Option<u64>
     ensures value { IfSome result (λ n. text.now ≡ decimal n) }
     ensures only { (n : ℕ) → n < 2 ^ 64 → text.now ≡ decimal n → result ≡ Some n }

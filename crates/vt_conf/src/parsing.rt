@@ -54,7 +54,7 @@ fn test_text(text: &[u8]) -> Result<(), ConfBad>
     Ok(())
 }
 
-/// Whether each line of a text is UTF-8.
+/// Whether each line of a text is UTF-8. The first that isn't is refused with its number.
 fn test_utf8(text: &[u8]) -> Result<(), ConfBad>
     ensures ok { OnOk result (All IsUtf8 (lines_of text.now)) }
     ensures bad { IfErr result (λ bad. (bad.why ≡ ConfCause.NotUtf8)
@@ -76,7 +76,8 @@ fn test_utf8(text: &[u8]) -> Result<(), ConfBad>
     Ok(())
 }
 
-/// What the lines of a text set.
+/// What the lines of a text set. The first that says nothing is refused with its number and the
+/// cause.
 fn read_settings(alloc: Global, text: &[u8]) -> Result<Vec<Setting>, ConfErr>
     requires { IsConfText text.now }
     ensures ok { IfOk result (λ settings. AreSettings text.now settings.items) }

@@ -57,7 +57,7 @@ fn test_value(keyword: Keyword, value: &[u8]) -> Result<(), ConfCause>
     }
 }
 
-/// Whether a text says a size.
+/// Whether a text says a size. One that doesn't is refused for that.
 fn test_size(text: &[u8]) -> Result<(), ConfCause>
     ensures ok { OnOk result (IsSizeText text.now) }
     ensures bad { IfErr result (λ why. (why ≡ ConfCause.BadSize) × ¬ IsSizeText text.now) }
@@ -68,7 +68,7 @@ fn test_size(text: &[u8]) -> Result<(), ConfCause>
     }
 }
 
-/// Whether a text says an address.
+/// Whether a text says an address. One that doesn't is refused for that.
 fn test_address(text: &[u8]) -> Result<(), ConfCause>
     ensures ok { OnOk result (IsAddress text.now) }
     ensures bad { IfErr result (λ why. (why ≡ ConfCause.BadAddress) × ¬ IsAddress text.now) }

@@ -18,7 +18,7 @@ pub fn parse_size(text: &[u8]) -> Option<u64>
     }
 }
 
-/// So many units as these digits say, where that is a size.
+/// So many units as these digits say; None where that is no number, or no size.
 fn sized(digits: &[u8], unit: u64) -> Option<u64>
     requires { 0 < unit }
     ensures size { IfSome result (λ size. (n : ℕ) × (digits.now ≡ decimal n) × (n < 2 ^ 64)
@@ -30,7 +30,7 @@ fn sized(digits: &[u8], unit: u64) -> Option<u64>
     n.checked_mul(unit).filter(|size| *size < 1 << 63)
 }
 
-/// What the letter at a size's end stands for.
+/// What the letter at a size's end stands for, or None where it stands for nothing.
 fn unit(letter: u8) -> Option<u64>
     ensures value { result ≡ unit_of letter }
     ensures some { IfSome result (λ unit. 0 < unit) }

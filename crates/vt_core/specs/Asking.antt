@@ -41,7 +41,7 @@ says said k = SaidOut (record { said = said; at = history_len k })
 
 -- ---- the answer to a sync that waits
 
--- it is synced exactly where its blocks are durable and the log goes on
+-- A session's sync is answered as done exactly where its blocks are durable and the log goes on.
 abbrev pub EndsSync : {D : Type 0} → (session at : ℕ) → Said → (old new : CoreState D) → Type 0
 EndsSync session at Synced old new =
     WaitsAt old.waiting session at × (old.log.stopped ≡ None) × (at ≤ old.log.durable)
@@ -128,7 +128,7 @@ pub record AddsBlock {D : Type 0} (score : List ℕ → List ℕ) (key : Key) (b
   pub time : (stored_of packed).time ≡ now
   pub adds : AddsPacked packed old new
 
--- and its score's bits are set
+-- The block of this key is added, with this time, and the bits of its score are set.
 pub record AddsBlockAndBits {D : Type 0} (score : List ℕ
     → List ℕ) (key : Key) (bytes : List ℕ) (now : ℕ)
     (tested : StoreParts D) (out : Out) (old new : CoreState D) : Type 0 where

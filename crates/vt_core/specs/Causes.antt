@@ -32,7 +32,7 @@ CountsOut (SaidOut a) old new = CountsSaid a.said old new
 CountsOut (Failed why) old new = CountsWhy why old new
 CountsOut out old new = new ≡ old
 
--- it tells of no damage
+-- The refusal tells of no damage.
 abbrev pub IsUndamagedWhy : Why → Type 0
 IsUndamagedWhy (Damaged site want found) = ⊥
 IsUndamagedWhy why = ⊤

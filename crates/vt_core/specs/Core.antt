@@ -26,7 +26,7 @@ pub record CoreState (D : Type 0) : Type 0 where
 abbrev pub history_len : {D : Type 0} → CoreState D → ℕ
 history_len k = front k.log
 
--- what it was opened with, as the model has it
+-- What a store was opened with, as the model has it.
 abbrev pub setup_of : {D : Type 0} → CoreState D → Setup
 setup_of k = record {
   arenas = (setup_of_log k.log).arenas;

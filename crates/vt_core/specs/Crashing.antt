@@ -63,7 +63,8 @@ pub record Recovers {D : Type 0} (score : List ℕ → List ℕ) (disk : DiskOf 
   pub sessions : ℕ
   pub mounts : MountsStore score disk tables devices sizes sessions again
 
--- nothing is under way, or an event is
+-- What a store is at a moment, or is on the way to: what it was, where nothing is under way, or
+-- what the event under way makes of it.
 abbrev pub MayTurnInto : {D : Type 0} → (List ℕ → List ℕ) → DiskOf D → (old during : CoreState D)
     → Type 0
 MayTurnInto score disk old during = (during ≡ old)
@@ -84,7 +85,7 @@ Lives {D} score disk (crashes ∷ acts) old new =
     (during : CoreState D) × (mid : CoreState D) × MayTurnInto score disk old during
     × Recovers score disk old during mid × Lives score disk acts mid new
 
--- and the machine's
+-- A life of the machine, from one state to another: events and crashes, one after another.
 abbrev pub LivesMachine : (List ℕ → List ℕ) → List Act → (old new : Machine) → Type 0
 LivesMachine score [] old new = new ≡ old
 LivesMachine score (happens event out ∷ acts) old new =

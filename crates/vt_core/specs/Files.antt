@@ -10,7 +10,8 @@ pub record PerDevice (X : Type 0) : Type 0 where
   pub sections : List X
   pub filter : List X
 
--- all of them, in this order
+-- The things of all devices, in this order: those of the partitions, of the sections, and of the
+-- filter.
 abbrev pub all_of : {X : Type 0} → PerDevice X → List X
 all_of each = each.partitions ++ each.sections ++ each.filter
 
@@ -25,7 +26,8 @@ pub record AreImages {D : Type 0} (disk : DiskOf D) (devices : PerDevice D) (fil
   pub sections : AreImagesOf disk devices.sections files.sections
   pub filter : AreImagesOf disk devices.filter files.filter
 
--- and which a crash may leave of it at a moment within a call that turns the ones into the others
+-- One file for each device, which a crash may leave of it at a moment within a call that turns the
+-- ones into the others.
 pub record AreWithinCall {D : Type 0} (disk : DiskOf D) (old new : PerDevice D)
     (files : DeviceFiles)
     : Type 0 where

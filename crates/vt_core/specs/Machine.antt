@@ -52,7 +52,7 @@ pub record Syncs (session number : ℕ) (old new : Machine) : Type 0 where
   pub waits : WaitsAt old.waiting session number
   pub new_is : new ≡ with_waiting session None (record old { synced = max old.synced number })
 
--- it waits no more
+-- The session waits no more.
 pub record GivesUp (session number : ℕ) (old new : Machine) : Type 0 where
   pub waits : WaitsAt old.waiting session number
   pub new_is : new ≡ with_waiting session None old

@@ -47,7 +47,7 @@ devices_in devices = record {
 abbrev pub tables_in : {D : Type 0} → Devices D → List Table
 tables_in devices = tables_of devices.parts.items
 
--- those that there are afterwards, whatever the answer
+-- The devices that there are after mounting, whatever the answer.
 abbrev pub devices_after : {D : Type 0} → Result (CoreState D) (MountBad × Devices D) → PerDevice D
 devices_after (Ok core) = devices_of core
 devices_after (Err refusal) = devices_in refusal.1
@@ -66,7 +66,7 @@ EachStands score disk c tables least devices h =
     (files : DeviceFiles) → AreImages disk devices files
     → StandForPrefix score c tables least files h
 
--- or for the first n blocks of it
+-- Every combination of images stands for the first n blocks of one history.
 abbrev pub AllStandFor : {D : Type 0} → (List ℕ → List ℕ) → DiskOf D → Setup → List Table
     → PerDevice D → History → (n : ℕ) → Type 0
 AllStandFor score disk c tables devices h n = (files : DeviceFiles) → AreImages disk devices files

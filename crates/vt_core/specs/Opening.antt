@@ -72,7 +72,7 @@ TestsMarks {D} part sections bloom len (Ok done) =
 TestsMarks {D} part sections bloom len (Err bad) = (of : ℕ) × (mark : ℕ)
     × IsMarkOf part sections bloom of mark × (len < mark) × (bad ≡ Disagree of Mark mark len)
 
--- all of these tests, in order
+-- All tests of the parts of a store, in order.
 abbrev pub TestsParts : {D U : Type 0} → (part : ℕ) → List (SectionState D)
     → Option (BloomState D) → (len : ℕ) → Result U MountBad → Type 0
 TestsParts part sections bloom len (Ok done) =
@@ -94,7 +94,8 @@ pub record IsBeside {D : Type 0} (disk : DiskOf D) (part len : ℕ) (devices : L
   pub tests : TestsParts {U = ⊤} part b.sections.items b.bloom len (Ok tt)
   pub room : HasRoomForDevices (length devices) b.room
 
--- why they are refused: one of the devices is, or one of the tests fails
+-- Why the sections and the filter of these devices are refused: one of the devices is, or one of
+-- the tests fails.
 abbrev pub RefusesBeside : {D : Type 0} → DiskOf D → (part len : ℕ) → List D → Option D → MountBad
     → Type 0
 RefusesBeside {D} disk part len devices filter bad =

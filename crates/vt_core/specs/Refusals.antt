@@ -70,7 +70,7 @@ pub record IsTally (limit first : ℕ) (counts : List ℕ) (t : Tally) : Type 0 
   pub past : MatchOption t.past (sum counts ≤ limit)
       (λ part. (i : ℕ) × (part ≡ first + i) × IsFirstPast limit counts i)
 
--- their sum passes no limit, or a part is refused with which it does
+-- The sum of the counts of all parts passes no limit, or a part is refused with which it does.
 abbrev pub PassesOrRefuses : (field : MountField) → (limit first : ℕ) → (counts : List ℕ)
     → Result ℕ MountBad → Type 0
 PassesOrRefuses field limit first counts (Ok n) = (n ≡ sum counts) × (sum counts ≤ limit)

@@ -46,7 +46,7 @@ pub record TestsBlock {D : Type 0} (score : List ℕ → List ℕ) (disk : DiskO
       → score bytes ≢ score [] → JudgesWrite score (setup_of old) h key bytes verdict
   pub new_is : new ≡ with_parts (shard_of old key.score.0) after old
 
--- it is added to these parts of a store, of which this is the shard
+-- The block is added to these parts of a store, of which this is the shard.
 pub record AddsStored {D : Type 0} (score : List ℕ → List ℕ) (key : Key) (bytes : List ℕ)
     (now shard : ℕ) (parts : StoreParts D) (out : Out) (old new : CoreState D) : Type 0 where
   pub room : ¬ HasNoRoom parts

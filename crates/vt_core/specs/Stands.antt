@@ -40,7 +40,7 @@ pub record StandsFor (score : List ℕ
   pub filter : (i : ℕ) (file : List ℕ) → slice_get files.filter i ≡ Some file
       → FilterStandsFor score (take n h) file
 
--- they do for a prefix of the history that has this many blocks at least
+-- The files stand for a prefix of the history that has this many blocks at least.
 pub record StandForPrefix (score : List ℕ → List ℕ) (c : Setup) (tables : List Table) (least : ℕ)
     (files : DeviceFiles) (h : History) : Type 0 where
   pub n : ℕ

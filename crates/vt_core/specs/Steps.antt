@@ -66,7 +66,8 @@ pub record KeepsStore {D : Type 0} (disk : DiskOf D) (old new : CoreState D) : T
   pub durable : old.log.durable ≤ new.log.durable
   pub synced : old.synced ≤ new.synced
 
--- and an event accepts one block at most, and has only those synced that were durable before it
+-- What a store was mounted with stays, no block and no promise is lost, an event accepts one block
+-- at most, and only blocks that were durable before it become synced.
 pub record StoreGoesOn {D : Type 0} (disk : DiskOf D) (old new : CoreState D) : Type 0 where
   pub store : KeepsStore disk old new
   pub one_more : history_len new ≤ history_len old + 1
@@ -98,7 +99,7 @@ Runs {D} score disk (event ∷ events) (out ∷ outs) old new =
 Runs score disk [] (out ∷ outs) old new = ⊥
 Runs score disk (event ∷ events) [] old new = ⊥
 
--- and one of the machine
+-- A run of the machine, from one of its states to another.
 abbrev pub RunsMachine : (List ℕ → List ℕ) → List Event → List Out → (old new : Machine) → Type 0
 RunsMachine score [] [] old new = new ≡ old
 RunsMachine score (event ∷ events) (out ∷ outs) old new =

@@ -86,7 +86,8 @@ abbrev pub SavesOne : {D : Type 0} → (bits : Filter) → (durable : ℕ) → O
 SavesOne bits durable out old new =
     (IsSaved durable old × (out ≡ Nothing) × (new ≡ old)) ⊎ Saves bits durable out old new
 
--- the same where there may be no device for it
+-- The filter, if there is a device for it, is saved as far as the log is durable, or one call of
+-- its save was made.
 abbrev pub SavesIn : {D : Type 0} → (bits : Filter) → (durable : ℕ) → Out
     → (old new : Option (BloomState D)) → Type 0
 SavesIn bits durable out None new = (out ≡ Nothing) × (new ≡ None)
@@ -147,7 +148,8 @@ abbrev pub DropsLump : {D : Type 0} → Out → (before after : ShardState D) �
 DropsLump out before after = IsMovedWhere (length before.lumps.entries) out
     × (after ≡ record before { lumps = without_last before.lumps })
 
--- and the index entry of that kind that was written back, and never a dirty one
+-- The index entry was dropped that was used least recently, of those that were written back, and
+-- never a dirty one.
 abbrev pub DropsEntry : {D : Type 0} → Out → (before after : ShardState D) → Type 0
 DropsEntry out before after = IsMovedWhere (length before.index.clean) out
     × (after ≡ record before {

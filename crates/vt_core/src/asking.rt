@@ -101,7 +101,8 @@ impl<D: Disk, S: Scorer> Core<D, S> {
         self.find_on::<Brand>(alloc, key, Blank::new(1))
     }
 
-    /// The same on a new ledger, in which steps are counted in contracts alone (`vt_base`).
+    /// Looks for a key as `find` does, on a new ledger, in which steps are counted in contracts
+    /// alone (`vt_base`).
     fn find_on<L: Ledger>(
         &mut self,
         alloc: Global,
@@ -194,7 +195,8 @@ impl<D: Disk, S: Scorer> Core<D, S> {
         self.test_on::<Brand>(alloc, shard, key, block, Blank::new(1))
     }
 
-    /// The same on a new ledger, in which steps are counted in contracts alone (`vt_base`).
+    /// Tests a write as `test` does, on a new ledger, in which steps are counted in contracts alone
+    /// (`vt_base`).
     fn test_on<L: Ledger>(
         &mut self,
         alloc: Global,

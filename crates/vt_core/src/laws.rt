@@ -71,8 +71,8 @@ pub fn runs_are_runs_of_the_machine<D: Disk>()
         × IsSound score D.Disk new next }
 {}
 
-/// And so is one with crashes: what was accepted is never other than a prefix of what it was, with
-/// all that a sync covered.
+/// A run of events with crashes is one of the machine, too: what was accepted is never other than a
+/// prefix of what it was, with all that a sync covered.
 pub fn lives_are_lives_of_the_machine<D: Disk>()
     ensures { (score : List ℕ → List ℕ) (acts : List Act) (old new : CoreState D) (h : History)
         → IsTrue D.tells → IsSound score D.Disk old h → Lives score D.Disk acts old new

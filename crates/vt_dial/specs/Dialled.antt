@@ -3,8 +3,8 @@ use Rattle.std.specs.Prelude.{◌≡◌, IsTrue, []}
 use Rattle.vt_conf.specs.declared.address.Address.{Address}
 use Rattle.vt_dial.specs.Members.{LinkOf}
 
--- None was made yet; one was made to this address, and is out; it was taken back, and is this one;
--- or more was done than make one and take it back.
+-- What became of a dialer's link: none was made yet; one was made to this address, and is out; it
+-- was taken back, and is this one; or more was done than make one and take it back.
 pub data Dialled (L : Type 0) : Type 0 where
   nobody : Dialled L
   out : Address → Dialled L

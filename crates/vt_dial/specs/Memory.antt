@@ -18,6 +18,6 @@ dialled_of dialer = dialled_at (server_of dialer) dialer.place
 abbrev pub waiting_of : MemDialer → Option MemLink
 waiting_of dialer = waiting_in dialer.place
 
--- how many of its calls have failed
+-- How many calls of a dialer in memory have failed.
 abbrev pub dialer_faults : MemDialer → ℕ
 dialer_faults dialer = dialer.faults

@@ -67,7 +67,7 @@ impl MemDialer {
         self.faults
     }
 
-    /// The link that waits at this address, which then is out.
+    /// The link that waits at this address, which then is out; None where none waits there.
     fn lend(&mut self, address: &Address) -> Option<MemLink>
         ensures link { MatchOption result
             ((address.now ≢ server_of self.old) ⊎ (waiting_of self.old ≡ None))
@@ -133,6 +133,7 @@ impl Dialer for MemDialer {
         Err(Failed)
     }
 
+    /// Takes back the link that is out; where none is, nothing more is told of it.
     fn done(&mut self, link: MemLink)
         ensures back { dialled_of self.new ≡ with_back link (dialled_of self.old) }
         ensures faults { dialer_faults self.new ≡ dialer_faults self.old }

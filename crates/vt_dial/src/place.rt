@@ -21,7 +21,7 @@ impl Place {
     ghost use Rattle.vt_dial.specs.declared.place.Place.TheVariants.{Out};
     ghost use Rattle.vt_dial.specs.Places.{waiting_in};
 
-    /// The link that waits, which then is out.
+    /// The link that waits, which then is out; None where none waits.
     pub fn take(&mut self) -> Option<MemLink>
         ensures link { result ≡ waiting_in self.old }
         ensures left { MatchOption result (self.new ≡ self.old) (λ _. self.new ≡ Out) }

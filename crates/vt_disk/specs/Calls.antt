@@ -5,8 +5,8 @@ use Rattle.vt_disk.specs.Disk.{SameBut, AreAmong, Only, ChangesAt}
 use Rattle.vt_disk.specs.Members.{DiskOf}
 use Rattle.vt_disk.specs.Region.{Inside}
 
--- it holds what it held, a crash leaves no more of it, and at most so many calls were made: reads
--- and syncs
+-- The disk holds what it held, a crash leaves no more of it, and at most so many calls were made:
+-- reads and syncs.
 pub record OnlyReads {D : Type 0} (disk : DiskOf D) (most : ℕ) (old new : D) : Type 0 where
   pub bytes : disk.bytes new ≡ disk.bytes old
   pub images : AreAmong (disk.images new) (disk.images old)

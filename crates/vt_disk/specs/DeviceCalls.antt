@@ -22,7 +22,7 @@ abbrev pub call_of : Call → DeviceCall
 call_of (Write start chunk) = write start chunk.now
 call_of Sync = sync
 
--- it lies on a disk of this size
+-- What the call touches lies on a disk of this size.
 abbrev pub CallFits : DeviceCall → (size : ℕ) → Type 0
 CallFits (write start chunk) size = start + length chunk ≤ size
 CallFits sync size = Unit
@@ -45,8 +45,8 @@ call_counted calls = record calls { made = one_more calls.made }
 abbrev pub stopped_at : CallCount → CallCount
 stopped_at calls = record { made = one_more calls.made; stopped = Some calls.made }
 
--- None had failed, and this call was made, and no other. Where it succeeds it did what it is to do;
--- where it fails it may have changed any of what it touches.
+-- No call had failed, and this one was made, and no other. Where it succeeds it did what it is to
+-- do; where it fails it may have changed any of what it touches.
 pub record CallMade {D T E : Type 0} (disk : DiskOf D) (call : DeviceCall) (result : Result T E)
     (old new : CallCount) (before after : D) : Type 0 where
   pub runs : old.stopped ≡ None

@@ -22,7 +22,7 @@ part start n file = take n (drop start file)
 abbrev pub with_bytes : {A : Type 0} → (start : ℕ) → (chunk file : List A) → List A
 with_bytes start chunk file = take start file ++ chunk ++ drop (start + length chunk) file
 
--- the same length, and the same bytes but where P holds
+-- The file has the same length, and the same bytes but where P holds.
 pub record SameBut (P : ℕ → Type 0) (old new : List ℕ) : Type 0 where
   pub same_length : length new ≡ length old
   pub others : (i : ℕ) → ¬ P i → slice_index new i ≡ slice_index old i

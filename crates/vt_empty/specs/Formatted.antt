@@ -9,7 +9,7 @@ use Rattle.vt_format.specs.Usage.{head_in}
 use Rattle.vt_isect.specs.Layout.{IsSection, buckets_in}
 use Rattle.vt_part.specs.Table.{Table}
 
--- each of these partitions has its table, and is alone a log without blocks
+-- Each of these partitions has its table, and is alone a log without blocks.
 abbrev pub AreEmptyLogs : {D : Type 0} → DiskOf D → List Table → List D → Type 0
 AreEmptyLogs disk tables devices =
     AllZip (λ t device. (c : List ℕ) → disk.images device c → IsEmptyLog t c) tables devices

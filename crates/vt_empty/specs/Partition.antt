@@ -6,7 +6,7 @@ use Rattle.vt_part.specs.declared.part.Part.{Part}
 use Rattle.vt_part.specs.Parts.{disk_of, table_of}
 use Rattle.vt_part.specs.Table.{arenas_end, table_for}
 
--- it stands on a disk of this size, and has as many arenas as that has room for
+-- The partition stands on a disk of this size, and has as many arenas as that has room for.
 pub record IsFreshPart {D : Type 0} (disk : DiskOf D) (size arena_len : ℕ) (part : Part D) : Type 0
   where
     pub table : table_of part ≡ table_for (codes "arenas") size arena_len

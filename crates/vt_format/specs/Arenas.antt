@@ -15,7 +15,7 @@ pub record IsEmptyLog (t : Table) (file : List ℕ) : Type 0 where
   pub partition : IsPartition t file
   pub log : (score_of : List ℕ → List ℕ) → IsLog score_of (layout_of (t ∷ [])) (file ∷ []) [] 0
 
--- It has as many arenas of this size as it has room for, all without blocks, whatever a crash
+-- The disk has as many arenas of this size as it has room for, all without blocks, whatever a crash
 -- leaves.
 pub record BecomesArenas {D : Type 0} (disk : DiskOf D) (name : List ℕ) (arena_size count : ℕ)
     (old new : D) : Type 0 where
@@ -32,9 +32,9 @@ RefusesTable (TooSmall part len need) = (part ≡ 0) × (len < need)
 RefusesTable (Disagree part field found want) = (part ≡ 0) × (found ≢ want)
 RefusesTable bad = ⊥
 
--- It is refused where it has no room for an arena, and is as it was; or one of its calls failed, or
--- memory ran out. A disk that doesn't tell what it holds may also give back another table than was
--- written, which is then refused.
+-- The disk is refused where it has no room for an arena, and is as it was; or one of its calls
+-- failed, or memory ran out. A disk that doesn't tell what it holds may also give back another
+-- table than was written, which is then refused.
 abbrev pub RefusesArenaFormat : {D : Type 0} → DiskOf D → (arena_size : ℕ) → MountBad
     → (old new : D)
     → Type 0

@@ -9,15 +9,15 @@ use Rattle.vt_bloom.specs.Size.{IsLargest, filter_region}
 use Rattle.vt_disk.specs.Calls.{IsSynced, WritesWithin}
 use Rattle.vt_disk.specs.Members.{DiskOf}
 
--- It has a filter of 2^m bits, the most that it has room for, of which each score has k: none is
--- set, and the mark is 0, whatever a crash leaves.
+-- The device has a filter of 2^m bits, the most that it has room for, of which each score has k:
+-- none is set, and the mark is 0, whatever a crash leaves.
 pub record BecomesFilter {D : Type 0} (disk : DiskOf D) (m k : ℕ) (old new : D) : Type 0 where
   pub largest : IsLargest (disk.size old) m
   pub saved : IsTrue disk.tells → (c : List ℕ) → disk.images new c → HasSaved (empty_of m k) c
   pub settled : IsSynced disk new
 
--- It is refused where its length wants another size of filter, and is as it was; so it is where
--- memory runs out; or one of its calls failed.
+-- The device is refused where its length wants another size of filter, and is as it was; so it is
+-- where memory runs out; or one of its calls failed.
 abbrev pub RefusesFilter : {D : Type 0} → DiskOf D → (m : ℕ) → MountBad → (old new : D) → Type 0
 RefusesFilter disk m bad old new =
     ((want : ℕ) × IsLargest (disk.size old) want × (m ≢ want) × (bad ≡ Disagree 0 M m want)

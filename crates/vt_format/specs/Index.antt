@@ -56,8 +56,8 @@ HasNoFault (Err (Fault part)) = ⊥
 HasNoFault (Err (Refused bad)) = ⊤
 HasNoFault (Err (Stopped part)) = ⊥
 
--- It is as long as it was, and where nothing is written it has its bytes and its images. A fault of
--- it is told.
+-- A partition is left as long as it was, and where nothing is written it has its bytes and its
+-- images. A fault of it is told.
 pub record IsPartLeft {D : Type 0} (disk : DiskOf D) (result : Result Index IndexError)
     (old new : D)
     : Type 0 where
@@ -90,7 +90,7 @@ pub record PutsSectionToUse {D : Type 0} (disk : DiskOf D) (first count total : 
   pub settled : Only (disk.bytes after) (disk.images after)
   pub calls : disk.calls after ≤ disk.calls before + (2 * count + 27)
 
--- so are the sections of these files, one behind the other, to the last bucket of all
+-- The sections of these files are in use, one behind the other, to the last bucket of all.
 abbrev pub ArePutToUse : {D : Type 0} → DiskOf D → (old new : List ℕ → Standing D)
     → (first total : ℕ) → List PartFile → Type 0
 ArePutToUse disk old new first total [] = total ≡ first
@@ -116,7 +116,7 @@ pub record StopsSection {D : Type 0} (disk : DiskOf D) (first count total number
       → LeavesMidway name head first count total (disk.images before) file
   pub stays : part < number → StaysThere disk old new
 
--- so it is with the sections of these files, one behind the other, to the last bucket of all
+-- What became of each of the sections of these files where a call failed of one of them.
 abbrev pub StopsSections : {D : Type 0} → DiskOf D → (old new : List ℕ → Standing D)
     → (first total number part : ℕ) → List PartFile → Type 0
 StopsSections disk old new first total number part [] = total ≡ first
@@ -125,7 +125,7 @@ StopsSections disk old new first total number part (file ∷ files) =
     × StopsSection disk first count total number part (old file.name) (new file.name)
     × StopsSections disk old new (first + count) total (number + 1) part files
 
--- where it stopped, and what the partitions are then
+-- Where formatting an index stopped, and what the partitions are then.
 abbrev pub StopsIndex : {D : Type 0} → DiskOf D → (old new : List ℕ → Standing D)
     → (first total number : ℕ) → List PartFile → IndexError → Type 0
 StopsIndex disk old new first total number files (Fault part) = ⊤
@@ -135,7 +135,8 @@ StopsIndex disk old new first total number files (Stopped part) =
 
 -- ---- why it isn't done
 
--- it is done, or stopped, only where nothing is refused, and refused for the first cause
+-- Formatting the index is done, or stopped, only where nothing is refused, and refused for the
+-- first cause.
 abbrev pub AnswersFor : (found : Option MountBad → Type 0) → Result Index IndexError → Type 0
 AnswersFor found (Ok it) = found None
 AnswersFor found (Err (Fault part)) = ⊤

@@ -154,7 +154,7 @@ RefusesDisk disk number Refuses (Refused bad) old new =
     × (IsTrue disk.tells → (bad ≡ mount_bad.NoMemory) ⊎ Refuses bad)
 RefusesDisk disk number Refuses (Stopped part) old new = ⊥
 
--- it is opened as a partition of arenas
+-- The device is opened as a partition of arenas.
 pub record IsOpenedAs {D : Type 0} (disk : DiskOf D) (before : ℕ) (d : D) (part : Part D)
     : Type 0 where
   pub reads : OnlyReads disk 1 d (disk_of part)
@@ -170,7 +170,7 @@ OpensArenas disk number before d (Ok part) = IsOpenedAs disk before d part
 OpensArenas disk number before d (Err refusal) = OnlyReads disk 1 d refusal.1
     × RefusesDisk disk number (RefusesArenaPart disk number before d) refusal.0 d refusal.1
 
--- it is opened as a section
+-- The device is opened as a section.
 pub record IsOpenedSection {D : Type 0} (disk : DiskOf D) (before : ℕ) (d : D) (t : SectionState D)
     : Type 0 where
   pub opened : IsOpened disk t
@@ -189,7 +189,7 @@ OpensSection disk number before d (Ok t) = IsOpenedSection disk before d t
 OpensSection disk number before d (Err refusal) = OnlyReads disk 3 d refusal.1
     × RefusesDisk disk number (RefusesSection disk number before d) refusal.0 d refusal.1
 
--- it is opened as a filter
+-- The device is opened as a filter.
 abbrev pub OpensSavedFilter : {D : Type 0} → DiskOf D → (number : ℕ) → (d : D)
     → Result (BloomState D) (IndexError × D) → Type 0
 OpensSavedFilter disk number d (Ok filter) = OnlyReads disk 3 d filter.disk

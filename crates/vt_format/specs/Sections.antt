@@ -12,8 +12,8 @@ use Rattle.vt_isect.specs.Head.{IsHeadFrame}
 use Rattle.vt_isect.specs.Layout.{buckets_in, formatted, head_place}
 use Rattle.vt_twin.specs.Frames.{current_frame}
 
--- It is a section of this name that isn't in use, of as many buckets as it has room for: whatever a
--- crash leaves says state 0 and mark 0.
+-- The disk is a section of this name that isn't in use, of as many buckets as it has room for:
+-- whatever a crash leaves says state 0 and mark 0.
 pub record BecomesSection {D : Type 0} (disk : DiskOf D) (name : List ℕ) (count : ℕ)
     (old new : D) : Type 0 where
   pub room : LEAST_LEN ≤ disk.size old
@@ -22,7 +22,8 @@ pub record BecomesSection {D : Type 0} (disk : DiskOf D) (name : List ℕ) (coun
       → IsHeadFrame (filled NAME_LEN name) (formatted count) (current_frame head_place FRAME_LEN c)
   pub settled : IsSynced disk new
 
--- It is refused where it has no room for a bucket, and is as it was; or one of its calls failed.
+-- The disk is refused where it has no room for a bucket, and is as it was; or one of its calls
+-- failed.
 abbrev pub RefusesSection : {D : Type 0} → DiskOf D → MountBad → (old new : D) → Type 0
 RefusesSection disk bad old new =
     ((disk.size old < LEAST_LEN) × (bad ≡ TooSmall 0 (disk.size old) LEAST_LEN) × (new ≡ old))

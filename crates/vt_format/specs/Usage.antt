@@ -35,7 +35,8 @@ LeavesMidway name old first count total images file =
     ⊎ IsHeadFrame name (head_in 2 first count total) (current_frame head_place FRAME_LEN file)
     ⊎ IsSection name (head_in 1 first count total) count (λ n. []) file
 
--- so it is with the images of the section's disk
+-- Whatever a crash leaves of the section's disk is a section midway: with its old head over its old
+-- buckets, with a head that says that it is being built, or in use.
 abbrev pub IsMidway : {D : Type 0} → DiskOf D → (first total : ℕ) → (old new : SectionState D)
     → Type 0
 IsMidway disk first total old new = (file : List ℕ) → disk.images new.disk file
@@ -59,8 +60,8 @@ abbrev pub CallsForBuckets : {D : Type 0} → DiskOf D → (more : ℕ) → (old
 CallsForBuckets disk more old new = IsTrue disk.tells
     → disk.calls new.disk ≤ disk.calls old.disk + (2 * old.buckets + more)
 
--- Its head says this, behind a sync; what was known of its buckets still is, unless their numbers
--- changed.
+-- The section's head says this, behind a sync; what was known of its buckets still is, unless their
+-- numbers changed.
 pub record ChangesHead {D : Type 0} (disk : DiskOf D) (state first total : ℕ)
     (old new : SectionState D) : Type 0 where
   pub rest : IsAtRest new
@@ -91,8 +92,7 @@ pub record IsOpened {D : Type 0} (disk : DiskOf D) (t : SectionState D) : Type 0
   pub rest : IsAtRest t
   pub sound : IsTrue disk.tells → DiskHolds disk t nothing_known
 
--- how many buckets sections have, and the number of the first one of one of them, where they stand
--- one behind the other
+-- How many buckets these sections have together.
 abbrev pub total_buckets : {D : Type 0} → List (SectionState D) → ℕ
 total_buckets sections = sum_by (λ section. section.buckets) sections
 
@@ -100,7 +100,8 @@ total_buckets sections = sum_by (λ section. section.buckets) sections
 abbrev pub buckets_before : {D : Type 0} → List (SectionState D) → (i : ℕ) → ℕ
 buckets_before sections i = total_buckets (take i sections)
 
--- one of them was put to use
+-- A section was put to use: it has the buckets from `first` on, of `total` over all sections, none
+-- of which has an entry, and no call failed.
 pub record IsUsed {D : Type 0} (disk : DiskOf D) (first total : ℕ) (old new : SectionState D)
     : Type 0 where
   pub in_use : IsInUse disk first total old new
@@ -108,7 +109,8 @@ pub record IsUsed {D : Type 0} (disk : DiskOf D) (first total : ℕ) (old new : 
   pub calls : CallsForBuckets disk 24 old new
   pub faults : disk.faults new.disk ≡ disk.faults old.disk
 
--- all of them were
+-- All sections were put to use, one behind the other: the first bucket of each is numbered behind
+-- the last one of the section before it.
 pub record AreUsed {D : Type 0} (disk : DiskOf D) (total : ℕ) (olds news : List (SectionState D))
     : Type 0 where
   pub many : length news ≡ length olds

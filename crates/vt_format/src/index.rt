@@ -185,7 +185,8 @@ fn index_log<P: Parts, S: Scorer + Drop, G: Progress>(
     }
 }
 
-/// Opens the sections of these files, behind those that are open, and goes on.
+/// Opens the sections of these files, behind those that are open, and goes on. The first that is
+/// refused is told, and nothing is written then.
 fn index_sections<P: Parts, G: Progress>(
     alloc: Global,
     parts: &mut P,
@@ -265,7 +266,8 @@ fn index_filter<P: Parts, G: Progress>(
     }
 }
 
-/// Puts the sections to use, of which the first one's partition has this number.
+/// Puts the sections to use, of which the first one's partition has this number. Where a call
+/// fails, the partition is told at which it stopped.
 fn index_opened<D: Disk, G: Progress>(
     behind: u32,
     opened: &mut [Section<D>],

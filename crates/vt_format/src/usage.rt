@@ -57,7 +57,8 @@ pub(crate) fn buckets_in<D: Disk>(sections: &[Section<D>]) -> u32
 
 /// Puts a section to use: its buckets are numbered from `first` on, of so many over all sections,
 /// and have no entries. Its head says state 2 while they are cleared, and state 1 behind that. It
-/// makes no more than 24 syncs.
+/// makes no more than two device calls for each bucket, and 24 more. It fails where one of them
+/// does.
 fn put_to_use<D: Disk, G: Progress>(
     section: &mut Section<D>,
     first: u32,

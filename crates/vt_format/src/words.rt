@@ -37,7 +37,8 @@ pub fn parse_name(text: &[u8]) -> Result<(), NameError>
     }
 }
 
-/// The length that a device is to have, up to 1 TiB.
+/// The length that a device is to have, up to 1 TiB. Any other word is refused with the place of
+/// its first wrong byte, or 0.
 pub fn parse_len(text: &[u8]) -> Result<u64, NumberError>
     ensures ok { IfOk result (λ n. text.now ≡ decimal n) }
     ensures most { IfOk result (λ n. n ≤ MAX_LEN) }
@@ -78,7 +79,8 @@ pub fn parse_filter_size(text: &[u8]) -> Result<u64, NumberError>
     }
 }
 
-/// How many bits of a Bloom filter each score has, from 1 to 32.
+/// How many bits of a Bloom filter each score has, from 1 to 32. Any other word is refused with the
+/// place of its first wrong byte, or 0.
 pub fn parse_positions(text: &[u8]) -> Result<u8, NumberError>
     ensures ok { IfOk result (λ n. text.now ≡ decimal n) }
     ensures some { IfOk result (λ n. 1 ≤ n) }

@@ -15,7 +15,7 @@ pub record Condition : Type 0 where
   pub stops : List (Part × ℕ)
   pub durable : ℕ
 
--- what its parts tell of their faults over a while
+-- What the parts of a store tell of their faults over a while.
 abbrev pub faults_over : (old new : Condition) → Faults
 faults_over old new = record { before = old.faults; after = new.faults; stops = new.stops }
 

@@ -77,7 +77,7 @@ EndsSo Spent stage taken = IsOpen stage × (taken ≡ spent_len)
 EndsSo ReadFault stage taken = IsOpen stage × (taken < spent_len)
 EndsSo ended stage taken = ⊥
 
--- it ends so where nothing more comes
+-- The session ends so where nothing more comes.
 abbrev pub EndsHere : Result (Option Ended) Failed → Talking → Type 0
 EndsHere (Ok (Some ended)) talking = EndsSo ended talking.stage talking.taken
 EndsHere result talking = ⊤
@@ -107,7 +107,7 @@ ReadsSo result old new = new ≡ old
 abbrev pub left_to_do : Talking → ℕ
 left_to_do talking = 2 * (spent_len - talking.taken) + unheard_len talking.stage
 
--- where it goes on, less is left to do, so that serving ends
+-- Where a session goes on, less is left to do, so that serving ends.
 abbrev pub LessIsLeft : Result (Option Ended) Failed → (old new : Talking) → Type 0
 LessIsLeft (Ok None) old new = left_to_do new < left_to_do old
 LessIsLeft result old new = ⊤
@@ -138,7 +138,7 @@ pub record AnswersLink {S : Type 0} (T : StoreOf S) (s s' : S) (h : History) (fa
 abbrev pub since : (before after : List ℕ) → List ℕ
 since before after = drop (length before) after
 
--- how it ended: by itself, or a write failed
+-- How a session ended: by itself, or a write failed.
 abbrev pub ended_of : Result Ended Failed → Ended
 ended_of (Ok ended) = ended
 ended_of (Err failed) = WriteFault

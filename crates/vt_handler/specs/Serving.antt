@@ -13,7 +13,7 @@ use Rattle.vt_model.specs.Causes.{Part, Cause, why_of, MayFail, OneRose}
 use Rattle.vt_session.specs.Answered.{AreToldBy, IsAddedAt}
 use Rattle.vt_handler.specs.Condition.{Condition, faults_over, IsNoDamage, IsNoFault}
 
--- the store failed, and it isn't the model that refuses
+-- Whether a refusal is told because the store failed, and not because the model refuses.
 abbrev pub tells_failure : Why → Bool
 tells_failure DiskFault = Bool.true
 tells_failure (Stopped call) = Bool.true

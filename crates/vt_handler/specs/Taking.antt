@@ -19,14 +19,14 @@ DoesOne T s (read score kind count) answer s' = T.does s (read score kind count)
 DoesOne T s (write kind bytes) answer s' = T.does s (write kind bytes) answer s'
 DoesOne T s sync answer s' = T.does s sync answer s'
 
--- and what it answered is said by this reply
+-- The store did this operation, once, and what it answered is said by this reply.
 pub record DoesSaying {S : Type 0} (T : StoreOf S) (s : S) (operation : Operation) (reply : RMessage)
     (s' : S) : Type 0 where
   pub answer : Result RMessage Why
   pub says : reply_in answer ≡ reply
   pub does : DoesOne T s operation answer s'
 
--- it did the operations of these turns in their order, each once, and nothing else
+-- The store did the operations of these turns in their order, each once, and nothing else.
 abbrev pub DoesEach : {S : Type 0} → StoreOf S → S → List Turn → S → Type 0
 DoesEach T s [] last = last ≡ s
 DoesEach T s (told tag reply ∷ turns) last = DoesEach T s turns last
@@ -35,21 +35,21 @@ DoesEach {S} T s (served tag operation number outcome ∷ turns) last =
 DoesEach {S} T s (failed tag operation number cause ∷ turns) last =
     (next : S) × DoesOne T s operation (Err (why_of cause)) next × DoesEach T next turns last
 
--- it did these operations in their order, with these answers, each once, and nothing else, whatever
--- it holds
+-- The store did these operations in their order, with these answers, each once, and nothing else,
+-- whatever it holds.
 abbrev pub DoesCalls : {S : Type 0} → StoreOf S → S → List (Operation × Result RMessage Why) → S
     → Type 0
 DoesCalls T s [] last = last ≡ s
 DoesCalls {S} T s (call ∷ calls) last =
     (next : S) × DoesOne T s call.0 call.1 next × DoesCalls T next calls last
 
--- why it failed first in these, if it did
+-- Why the store failed first in these operations, if it did.
 abbrev pub first_told : List (Operation × Result RMessage Why) → Option Why
 first_told [] = None
 first_told (call ∷ calls) = option_or (failure_of call.1) (first_told calls)
 
--- It did some operations, and nothing else; where it hadn't failed before, what failed first in
--- these is told from then on.
+-- The store did some operations, and nothing else; where it hadn't failed before, what failed first
+-- in these is told from then on.
 pub record DoesSome {S : Type 0} (T : StoreOf S) (s s' : S) (failure failure' : Option Why)
     : Type 0 where
   pub calls : List (Operation × Result RMessage Why)

@@ -27,10 +27,12 @@ impl<L: Link> Client for LinkClient<L> {
 
     ghost write_faults = { λ client. L.write_faults client.link };
 
+    /// Takes bytes from the link.
     fn take(&mut self, buf: &mut [u8]) -> Result<usize, Failed> {
         self.link.take(buf)
     }
 
+    /// Puts bytes on the link.
     fn put(&mut self, piece: &[u8]) -> Result<(), Failed> {
         self.link.put(piece)
     }

@@ -218,7 +218,8 @@ impl Answering {
         ended
     }
 
-    /// Says what one item is answered, which waits; or tells the end.
+    /// Says what one item is answered, which then waits to be written; None, unless this is the
+    /// end.
     fn say<T: Store>(&mut self, alloc: Global, store: &mut T, next: &Next<'_>) -> Option<Ended>
         requires known { IsItemOrEnd next.now }
         requires room { length self.old.waiting + 57348 ≤ 131072 }
@@ -255,7 +256,8 @@ impl Answering {
     }
 }
 
-/// Takes more of the input, as much as there is room for; or says how the session ends.
+/// Takes more of the input, as much as there is room for. None says that the session goes on; it
+/// ends where the read fails, nothing more comes, or the link has taken all that it may.
 fn hear_more<C: Client>(talker: &mut Talker, piece: &mut [u8], client: &mut C) -> Option<Ended>
     requires needs { IsTrue (needs_more talker.old.stage) }
     requires unfinished { IsOpen talker.old.stage }

@@ -29,10 +29,12 @@ impl<S: Source, K: Sink> Client for Streams<S, K> {
 
     ghost write_faults = { λ streams. K.faults streams.sink };
 
+    /// Takes bytes from the source.
     fn take(&mut self, buf: &mut [u8]) -> Result<usize, Failed> {
         self.source.take(buf)
     }
 
+    /// Puts bytes into the sink.
     fn put(&mut self, piece: &[u8]) -> Result<(), Failed> {
         self.sink.put(piece)
     }
@@ -59,10 +61,12 @@ impl<S: Source, K: Sink> Link for Streams<S, K> {
 
     ghost write_faults_fit = { λ streams. K.faults_fit streams.sink };
 
+    /// Takes bytes from the source.
     fn take(&mut self, buf: &mut [u8]) -> Result<usize, Failed> {
         self.source.take(buf)
     }
 
+    /// Puts bytes into the sink.
     fn put(&mut self, piece: &[u8]) -> Result<(), Failed> {
         self.sink.put(piece)
     }

@@ -8,7 +8,7 @@ use Rattle.vt_host.specs.declared.dialer.StdDialer.{StdDialer}
 abbrev pub dialer_net : {N : Type 0} → StdDialer N → N
 dialer_net dialer = dialer.net
 
--- how many of its calls have failed
+-- How many calls of the system's dialer have failed.
 abbrev pub dialer_faults : {N : Type 0} → StdDialer N → ℕ
 dialer_faults dialer = dialer.faults.count
 

@@ -10,6 +10,6 @@ disk_file disk = disk.file
 abbrev pub disk_size : {F : Type 0} → FileDisk F → ℕ
 disk_size disk = disk.len
 
--- how many of its calls have failed
+-- How many calls of a file as a disk have failed.
 abbrev pub disk_faults : {F : Type 0} → FileDisk F → ℕ
 disk_faults disk = disk.faults.count

@@ -7,11 +7,11 @@ use Rattle.vt_host.specs.declared.folders.StdFolders.{StdFolders}
 abbrev pub folder_calls : {C F : Type 0} → StdFolder C F → C
 folder_calls folder = folder.calls
 
--- its path
+-- The path of a folder of the operating system.
 abbrev pub folder_base : {C F : Type 0} → StdFolder C F → List ℕ
 folder_base folder = string_bytes folder.base
 
--- how many of its calls have failed
+-- How many calls of a folder of the operating system have failed.
 abbrev pub folder_faults : {C F : Type 0} → StdFolder C F → ℕ
 folder_faults folder = folder.faults.count
 

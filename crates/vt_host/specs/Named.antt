@@ -3,7 +3,7 @@ use Rattle.std.specs.Prelude.{ℕ}
 use Rattle.vt_host.specs.declared.files.StdFiles.{StdFiles}
 use Rattle.vt_host.specs.declared.parts.FileParts.{FileParts}
 
--- what opens them
+-- What opens the files of the system's partitions.
 abbrev pub parts_files : {O : Type 0} → FileParts O → O
 parts_files parts = parts.files
 
@@ -11,7 +11,7 @@ parts_files parts = parts.files
 abbrev pub files_opener : {O : Type 0} → StdFiles O → O
 files_opener files = files.files
 
--- how many of their calls have failed
+-- How many calls of the system's partitions have failed.
 abbrev pub parts_faults : {O : Type 0} → FileParts O → ℕ
 parts_faults parts = parts.faults.count
 

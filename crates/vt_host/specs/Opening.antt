@@ -5,7 +5,8 @@ use Rattle.std.specs.Path.{path_parent}
 use Rattle.std.specs.declared.fs.OpenOptions.{OpenOptions}
 use Rattle.vt_host.specs.Calls.{Opening, FileCall, measured, resized, read, locked, synced}
 
--- It is read and written. It is made where it isn't there, if that is asked for, and never emptied.
+-- A file that is opened as a disk is read and written. It is made where it isn't there, if that is
+-- asked for, and never emptied.
 abbrev pub disk_options : (create : Bool) → OpenOptions
 disk_options create = with_create (with_write (with_read new_options true) true) create
 
@@ -17,8 +18,8 @@ opening name grow_to ok = record { how = disk_options (is_some grow_to); name = 
 abbrev pub wanted_length : Option ℕ → ℕ
 wanted_length grow_to = unwrap_or grow_to 0
 
--- Then it is measured and, where it is shorter than wanted, filled up: these are the calls, and
--- this is the length that it then has, or none where a call failed.
+-- A file is measured and, where it is shorter than wanted, filled up: these are the calls, and this
+-- is the length that it then has, or none where a call failed.
 abbrev pub GrowsFile : (wanted : ℕ) (calls : List FileCall) (len : Option ℕ) → Type 0
 GrowsFile wanted calls len =
     ((calls ≡ measured None ∷ []) × (len ≡ None))

@@ -15,6 +15,8 @@ impl<C: ClockCalls> Clock for StdClock<C> {
 
     ghost time = { λ clock. seconds (C.answer clock.0) };
 
+    /// The system's time in seconds, at most the greatest of 32 bits, and 0 where it can't be
+    /// asked.
     fn now(&mut self) -> u32 {
         match self.0.time() {
             Ok(time) => u32::try_from(time.as_secs()).unwrap_or(u32::MAX),

@@ -85,6 +85,7 @@ where
         Ok(StdLink::new(input, output))
     }
 
+    /// Closes the connection.
     fn done(&mut self, link: StdLink<N::Input, N::Output>)
         ensures net { dialer_net self.new ≡ dialer_net self.old }
         ensures faults { dialer_faults self.new ≡ dialer_faults self.old }

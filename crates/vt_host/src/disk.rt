@@ -172,6 +172,7 @@ impl<F: FileCalls> Disk for FileDisk<F> {
 
     ghost images_fit = { λ _ _ image. image };
 
+    /// How many bytes the file has, as it was measured when it was opened.
     fn len(&self) -> u64 {
         self.len
     }

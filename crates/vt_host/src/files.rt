@@ -79,6 +79,8 @@ where
 
     ghost faults_fit = { λ files. files.faults.fits };
 
+    /// Opens the file and reads it to its end, or up to one byte more than the limit; a call that
+    /// fails is counted.
     fn read(&mut self, alloc: Global, name: &Text, limit: u32) -> Result<Bytes, OutErr>
         ensures bound { IfOk result (λ bytes. length bytes ≤ limit + 1) }
         ensures opened { OnOk result (IsTrue O.File.tells → O.opened (files_opener self.new)

@@ -235,6 +235,7 @@ where
 
     ghost faults_fit = { λ folder. folder.faults.fits };
 
+    /// Lists what stands at the path; a call that fails is counted.
     fn list(&mut self, alloc: Global, path: &[Text]) -> Result<Listing, OutErr> {
         let listed = self.items(alloc, path);
         if matches!(listed, Err(OutErr::Failed)) {

@@ -90,6 +90,7 @@ where
 
     ghost faults_fit = { λ folders. folders.faults.fits };
 
+    /// Hands out the folder of this name; a call that fails is counted.
     fn folder(&mut self, alloc: Global, name: &Text) -> Result<StdFolder<C, C::File>, OutErr> {
         let folder = self.open(alloc, name);
         if matches!(folder, Err(OutErr::Failed)) {
@@ -98,6 +99,7 @@ where
         folder
     }
 
+    /// Takes back a folder, whose failed calls count from now on.
     fn done(&mut self, _name: &Text, folder: StdFolder<C, C::File>) {
         self.faults.count_all(folder.faults.count);
     }

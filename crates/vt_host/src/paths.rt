@@ -84,10 +84,12 @@ impl<R: Files<File = File> + Copy> FolderCalls for R {
 
     ghost made = { λ _. [] };
 
+    /// The same handle of the system's files.
     fn another(&self) -> R {
         *self
     }
 
+    /// What stands at the path, where a link isn't followed.
     fn look(&mut self, path: &str) -> io::Result<Look> {
         let found = self.symlink_metadata(path)?;
         Ok(Look {
@@ -99,6 +101,7 @@ impl<R: Files<File = File> + Copy> FolderCalls for R {
         })
     }
 
+    /// The names in the folder at the path, all of them in one buffer.
     fn names(&mut self, alloc: Global, path: &str) -> io::Result<Vec<u8>> {
         let folder = self.open_dir(path)?;
         let mut names = Vec::new(alloc);
@@ -106,6 +109,7 @@ impl<R: Files<File = File> + Copy> FolderCalls for R {
         Ok(names)
     }
 
+    /// Opens the file at the path, to be read.
     fn open(&mut self, path: &str) -> io::Result<File> {
         OpenOptions::new().read(true).open(&*self, path)
     }
@@ -129,6 +133,7 @@ impl PieceCalls for File {
 
     ghost made = { λ _. [] };
 
+    /// Reads once from this place on, as many bytes as there are and fit.
     fn read_piece(&mut self, start: u64, buf: &mut [u8]) -> io::Result<usize> {
         self.read_at(buf, start)
     }

@@ -126,7 +126,7 @@ pub trait Connector {
     /// Whether it tells which connections were to be made.
     ghost tells: { Bool };
 
-    /// Those, in order.
+    /// The connections that were to be made, in order.
     ghost connected: { Self → List Connecting };
 
     /// Makes one to a host, which is told by its name or its number, at a port.
@@ -159,6 +159,7 @@ impl<R: Files<File = File>> Opener for R {
 
     ghost opened = { λ _. [] };
 
+    /// Opens the file, as the options say.
     fn open(&mut self, how: &OpenOptions, name: &str) -> io::Result<File> {
         how.open(&*self, name)
     }
@@ -171,26 +172,32 @@ impl FileCalls for File {
 
     ghost made = { λ _. [] };
 
+    /// How many bytes the file has, by the place of its end.
     fn measure(&mut self) -> io::Result<u64> {
         self.seek(SeekFrom::End(0))
     }
 
+    /// Cuts the file, or fills it up with zeros.
     fn resize(&mut self, len: u64) -> io::Result<()> {
         self.set_len(len)
     }
 
+    /// Fills the buffer from a place on; a file that ends before that is an error.
     fn read_at(&mut self, start: u64, buf: &mut [u8]) -> io::Result<()> {
         self.read_exact_at(buf, start)
     }
 
+    /// Writes all bytes from a place on.
     fn write_at(&mut self, start: u64, chunk: &[u8]) -> io::Result<()> {
         self.write_all_at(chunk, start)
     }
 
+    /// Takes the file's lock, and doesn't wait for it.
     fn lock(&mut self) -> io::Result<()> {
         Ok(self.try_lock()?)
     }
 
+    /// Hands all that was written to the device.
     fn sync(&mut self) -> io::Result<()> {
         self.sync_all()
     }
@@ -205,10 +212,12 @@ impl<W: Write> WriteCalls for W {
 
     ghost contents = { W.contents };
 
+    /// Writes the whole piece.
     fn put_all(&mut self, piece: &[u8]) -> io::Result<()> {
         self.write_all(piece)
     }
 
+    /// Hands on what the writer still keeps.
     fn flush_all(&mut self) -> io::Result<()> {
         self.flush()
     }
@@ -223,6 +232,7 @@ impl<R: Read> ReadCalls for R {
 
     ghost remaining = { R.remaining };
 
+    /// Reads once, as many bytes as there are and fit.
     fn read_some(&mut self, buf: &mut [u8]) -> io::Result<usize> {
         self.read(buf)
     }
@@ -240,6 +250,7 @@ impl<N: Net> Connector for N {
 
     ghost connected = { λ _. [] };
 
+    /// Makes a connection, and gives its two halves, the one that is read first.
     fn connect(&mut self, host: &str, port: u16) -> io::Result<(N::Stream, N::Stream)> {
         let input = TcpStream::connect(&*self, (host, port))?;
         let output = input.try_clone()?;
@@ -254,6 +265,7 @@ impl<C: time::Clock> ClockCalls for C {
 
     ghost answer = { λ _. None };
 
+    /// The time since 1970, which a clock before that can't tell.
     fn time(&mut self) -> io::Result<Duration> {
         self.since_1970()
     }

@@ -63,7 +63,7 @@ after_look_up key s = record s {
 
 -- ---- writing back
 
--- its block is below this number
+-- Whether the block of an entry is below this number.
 abbrev pub is_below : (below : ℕ) → Info → Bool
 is_below below info = nat_lt info.number below
 

@@ -111,7 +111,7 @@ impl IndexCache {
         None
     }
 
-    /// The entry of a key, whose use leaves the order.
+    /// The entry of a key, whose use leaves the order; None where none is kept.
     fn get(&self, key: &Key) -> Option<Entry>
         ensures found { result ≡ cached_entry key.now self.now }
         ensures key { IfSome result (λ entry. entry.key ≡ key.now) }
@@ -122,7 +122,7 @@ impl IndexCache {
         }
     }
 
-    /// The dirty entry of a key, and its place.
+    /// The dirty entry of a key, and its place; None where it has no dirty one.
     fn dirty_at(&self, key: &Key) -> Option<(usize, Info)>
         ensures found { option_map (λ it. it.1) result ≡ dirty_info key.now self.now }
         ensures place { IfSome result (λ it. slice_get self.now.dirty it.0 ≡ Some it.1) }

@@ -42,7 +42,7 @@ pub record IsInBucket (score : List ℕ → List ℕ) (c : Setup) (h : History) 
 -- A section of so many buckets, with this head and these entries, agrees with a history.
 pub record AgreesWith (score : List ℕ → List ℕ) (c : Setup) (h : History) (buckets : ℕ)
     (head : Head) (entries : ℕ → List Entry) : Type 0 where
-  -- no two blocks have one key
+  -- No two blocks of the history have one key.
   pub keys : AllPairs (HasOtherKey score) h
   pub total : head.total ≡ bucket_count c
   -- each entry is that of a block, in its bucket, and they are in order

@@ -25,7 +25,7 @@ abbrev pub IsOrdered : (total : ℕ) → (behind : Option ℕ) → List Entry �
 IsOrdered total behind entries =
     IsNonDecreasingBy (λ entry. turn behind (bucket_of total entry.key.score.0)) entries
 
--- the same entries, in the same memory, in that order
+-- The entries are the same, in the same memory, and stand in the order of their buckets' turns.
 pub record Orders (total : ℕ) (behind : Option ℕ) (old new : EntriesState) : Type 0 where
   pub same : IsPermutation old.items new.items
   pub room : new.room ≡ old.room

@@ -40,7 +40,7 @@ pub record HasKeys (entries : Entry → Type 0) (count : ℕ) : Type 0 where
 abbrev pub Joined : (old : List Entry) → (group : Entry → Type 0) → Entry → Type 0
 Joined old group entry = Contains old entry ⊎ group entry
 
--- those of a group whose keys the old entries lack
+-- The entries of a group whose keys the old entries lack.
 abbrev pub IsAbsentEntry : (old : List Entry) → (group : Entry → Type 0) → Entry → Type 0
 IsAbsentEntry old group entry = group entry × ¬ HasKey (Contains old) entry.key
 

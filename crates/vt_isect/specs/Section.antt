@@ -44,7 +44,7 @@ pub record SectionState (D : Type 0) : Type 0 where
   pub calls : ℕ
   pub stopped : Option ℕ
 
--- those as a count of device calls
+-- The calls of a section, as a count of device calls.
 abbrev pub call_count : {D : Type 0} → SectionState D → CallCount
 call_count t = record { made = t.calls; stopped = t.stopped }
 
@@ -175,8 +175,8 @@ abbrev pub AreInRange : (head : Head) → (buckets : ℕ) → List Entry → Typ
 AreInRange head buckets entries = (entry : Entry) → Contains entries entry
     → InRange head buckets (bucket_of head.total entry.key.score.0)
 
--- Of these entries, those behind the first so many up to another number belong to this bucket, and
--- none behind them does.
+-- Of these entries, those behind the first `framed` up to the first `begun` belong to this bucket,
+-- and none behind them does.
 pub record AreNext (total bucket framed begun : ℕ) (entries : List Entry) : Type 0 where
   pub order : framed ≤ begun
   pub within : begun ≤ length entries

@@ -60,7 +60,7 @@ pub record IsOfSection {D : Type 0} (old new : SectionState D) : Type 0 where
   pub entries : new.entries ≡ old.entries
   pub most : new.most ≡ old.most
 
--- the same group and the same bucket are under way
+-- The group and the bucket that are under way stay the same.
 pub record SameGroup {D : Type 0} (old new : SectionState D) : Type 0 where
   pub written : new.written ≡ old.written
   pub framed : new.framed ≡ old.framed
@@ -79,7 +79,7 @@ pub record EndsWith {D : Type 0} (head : Head) (old new : SectionState D) : Type
   pub calls : new.calls ≡ one_more old.calls
   pub stopped : new.stopped ≡ None
 
--- the same is under way
+-- What is under way in the section stays so.
 pub record SectionGoesOn {D : Type 0} (old new : SectionState D) : Type 0 where
   pub section : IsOfSection old new
   pub head_is : new.head ≡ old.head
@@ -314,7 +314,7 @@ abbrev pub GetsFrame : {D : Type 0} → DiskOf D → (selector : ℕ) → (old n
 GetsFrame disk selector old new = (read : List ℕ)
     × IsMerged old.bucket (entering old) read new.frame × IsNamedFrame disk old selector read
 
--- or they can't be put into it
+-- The frame of the bucket under way has a fault, or the entries can't be put into it.
 abbrev pub FindsDamage : {D : Type 0} → DiskOf D → (selector : ℕ) → SectionState D → ShardErr
     → Type 0
 FindsDamage disk selector t bad = (read : List ℕ)

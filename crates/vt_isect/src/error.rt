@@ -19,6 +19,7 @@ pub enum SectBad {
     NotFormatted,
     /// What was found in a field of the current head can't stand there.
     Torn { field: Field, found: u64, want: u64 },
+    /// Memory ran out.
     NoMemory,
 }
 
@@ -28,6 +29,7 @@ impl From<Failed> for SectBad {
 
     ghost from_gives = { λ _ bad. bad ≡ SectBad.Fault };
 
+    /// A failed call of the disk is `Fault`.
     fn from(_failed: Failed) -> Self {
         SectBad::Fault
     }
@@ -39,6 +41,7 @@ impl From<AllocError> for SectBad {
 
     ghost from_gives = { λ _ bad. bad ≡ SectBad.NoMemory };
 
+    /// Memory that wasn't there is `NoMemory`.
     fn from(_error: AllocError) -> Self {
         SectBad::NoMemory
     }
@@ -68,6 +71,7 @@ impl From<Failed> for ShardErr {
 
     ghost from_gives = { λ _ bad. bad ≡ ShardErr.Fault };
 
+    /// A failed call of the disk is `Fault`.
     fn from(_failed: Failed) -> Self {
         ShardErr::Fault
     }

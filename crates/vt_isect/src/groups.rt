@@ -16,7 +16,7 @@ use vt_base::Entry;
 /// selector.
 #[derive(Clone, Copy, Debug, PartialEq, Eq)]
 pub struct Member {
-    /// Its number over all sections.
+    /// The bucket's number over all sections.
     pub bucket: u32,
     /// The number of its current frame.
     pub current: u8,
@@ -38,7 +38,8 @@ pub fn bucket_end(entries: &[Entry], total: u32, bucket: u32, first: usize) -> u
     entries.len()
 }
 
-/// The bucket of the entry that stands here, and the place behind the entries that belong to it.
+/// The bucket of the entry that stands here, and the place behind the entries that belong to it;
+/// None behind the last entry.
 pub fn bucket_behind(entries: &Option<Entries>, total: u32, from: usize) -> Option<(u32, usize)>
     requires ordered { (behind : Option ℕ) × IsOrdered total behind (listed_entries entries.now) }
     ensures next { IfSome result (λ it. (from < it.1)

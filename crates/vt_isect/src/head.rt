@@ -27,7 +27,8 @@ pub struct Head {
     pub mark: u64,
 }
 
-/// The name and the head of a frame of 8,192 bytes, on a disk of this length.
+/// The name and the head of a frame of 8,192 bytes, on a disk of this length. They are refused by
+/// the first test that fails.
 pub fn decode_head(frame: &[u8], len: u64) -> Result<([u8; NAME_LEN], Head), SectBad>
     requires whole { length frame.now ≡ FRAME_LEN }
     requires room { LEAST_LEN ≤ len }

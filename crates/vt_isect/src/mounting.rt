@@ -117,7 +117,8 @@ pub struct Opened {
     pub frames: Remembered,
 }
 
-/// Syncs the disk, so that what is read stays, and reads the head.
+/// Syncs the disk, so that what is read stays, and reads the head. It fails where a call of the
+/// disk does, or memory runs out.
 fn open<D: Disk>(alloc: Global, disk: &mut D) -> Result<Opened, SectBad>
     ensures head { IfOk result (λ it. IsTrue D.tells
         → IsHeadFrame it.name it.head (current_frame head_place FRAME_LEN (D.bytes disk.old))) }

@@ -145,7 +145,7 @@ impl<D: Disk> Section<D> {
         }
     }
 
-    /// Its name, with the zeros that fill it up.
+    /// The section's name, with the zeros that fill it up.
     pub fn name(&self) -> &[u8]
         ensures name { result.now ≡ self.now.name }
         ensures len { length result.now ≡ NAME_LEN }

@@ -445,7 +445,7 @@ fn behind_selector(member: usize, many: usize) -> Phase
     }
 }
 
-/// The memory of a frame's buffer.
+/// The memory of a frame's buffer; None where there is no buffer.
 fn memory_of(frame: Option<Bytes>) -> Option<Vec<u8>>
     ensures { option_map (λ memory. memory.items) result ≡ frame }
 {

@@ -31,7 +31,7 @@ err_of (whys.Damaged site want found) = Damaged want found
 err_of whys.NoMemory = NoMemory
 err_of why = Refused (why_words why)
 
--- it is told with a text
+-- The refusal is told with a text.
 abbrev pub HasText : BlockErr → Type 0
 HasText Fault = ⊥
 HasText (Refused text) = ⊤
@@ -39,7 +39,7 @@ HasText (WrongScore want found) = ⊥
 HasText (Damaged want found) = ⊥
 HasText NoMemory = ⊥
 
--- it is told so, or memory ran out for its text
+-- The refusal is told so, or memory ran out for its text.
 abbrev pub IsToldAs : Why → BlockErr → Type 0
 IsToldAs why err = (err ≡ err_of why) ⊎ (HasText (err_of why) × (err ≡ NoMemory))
 
@@ -58,7 +58,7 @@ StandsFor (put b (Err err)) reply = RefusedFor err reply
 StandsFor (sync (Ok done)) reply = reply ≡ Ok r_sync
 StandsFor (sync (Err err)) reply = RefusedFor err reply
 
--- it is called for a block type
+-- The store of blocks is called for a block type.
 abbrev pub HasKind : Call → Type 0
 HasKind (get kind s answer) = IsKind kind
 HasKind (put b answer) = IsKind b.kind
@@ -86,8 +86,9 @@ pub record DoesLocal {S : Type 0} (T : StoreOf S) (l : LocalState S) (call : Cal
 
 -- ---- what it holds
 
--- It is alone, its blocks are scored by this scorer, and it holds a legal history. The map is what
--- that holds, and the synced map what the first so many blocks hold, which no crash takes away.
+-- The store is alone, its blocks are scored by this scorer, and it holds a legal history. The map
+-- is what that holds, and the synced map what the first so many blocks hold, which no crash takes
+-- away.
 pub record HoldsLocal {S : Type 0} (T : StoreOf S) (score_of : List ℕ → List ℕ) (l : LocalState S)
     (m : Maps) : Type 0 where
   pub scores : (bytes : List ℕ) → score_of bytes ≡ T.score_of bytes

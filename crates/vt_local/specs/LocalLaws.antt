@@ -218,7 +218,7 @@ module _ {S : Type 0} (T : StoreOf S)
         synced = hold.synced;
       }
 
-      -- all of it is durable
+      -- All of the history is durable.
       covered : T.holds l'.store hold.history → length hold.history ≤ (T.condition l'.store).durable
           → HoldsLocal T T.score_of l' (record m { synced = m.held })
       covered has all = record {

@@ -72,7 +72,7 @@ impl<T: Store, S: Scorer> Local<T, S> {
         (store, scorer)
     }
 
-    /// Why the store said no to the last call that it said no to.
+    /// Why the store said no to the last call that it said no to; None where it never did.
     pub fn refused(&self) -> Option<Why>
         ensures { result ≡ self.now.refused }
     {
@@ -122,6 +122,7 @@ impl<T: Store, S: Scorer> Scorer for Local<T, S> {
 
     ghost score_bytes = { S.score_bytes };
 
+    /// The score by its scorer, which scores as the store does.
     fn score(&self, block: &[u8]) -> Score {
         self.scorer.score(block)
     }
@@ -148,6 +149,8 @@ impl<T: Store, S: Scorer> Blocks for Local<T, S> {
 
     ghost counting = { λ l l' call does. does.counts };
 
+    /// Asks the store for the block, of as many bytes as one may have at most. A refusal is
+    /// counted, and why is kept.
     fn get(&mut self, alloc: Global, kind: Kind, score: &Score) -> Result<Bytes, BlockErr> {
         match read(alloc, &mut self.store, score, kind.wire(), MAX_BLOCK as u32) {
             Ok(bytes) => Ok(bytes),
@@ -155,6 +158,8 @@ impl<T: Store, S: Scorer> Blocks for Local<T, S> {
         }
     }
 
+    /// Hands the block to the store, and gives the score that this answers. A refusal is counted,
+    /// and why is kept.
     fn put(&mut self, alloc: Global, kind: Kind, bytes: &[u8]) -> Result<Score, BlockErr> {
         match write(alloc, &mut self.store, kind.wire(), bytes) {
             Ok(score) => Ok(score),
@@ -162,6 +167,7 @@ impl<T: Store, S: Scorer> Blocks for Local<T, S> {
         }
     }
 
+    /// Asks the store for a sync. A refusal is counted, and why is kept.
     fn sync(&mut self, alloc: Global) -> Result<(), BlockErr> {
         match sync(alloc, &mut self.store) {
             Ok(()) => Ok(()),

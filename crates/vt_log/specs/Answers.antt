@@ -39,7 +39,8 @@ AppendsBlock score_of disk old new h packed (Ok place) =
 AppendsBlock score_of disk old new h packed (Err full) =
     next_arena (setup_of_log old) h packed.len ≡ None
 
--- what it makes of a log: the block goes to the arena that has room, behind what fills that
+-- What taking a block in makes of a log: the block goes to the arena that has room, behind what
+-- fills that.
 pub record TakesIn {D : Type 0} (packed : Packed) (place : Place) (old new : LogState D)
     : Type 0 where
   pub filling : Filling

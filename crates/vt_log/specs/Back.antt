@@ -32,8 +32,8 @@ pub record IsTailOf {D : Type 0} (l : LogState D) (t : TailState) : Type 0 where
   pub left : t.left
       ≡ t.queued + t.at.index + sum_by (λ found. found.head.clumps) (take t.arena l.heads)
 
--- it has so many blocks of the history before it: the queued ones among them and, of an arena, as
--- many as come before these
+-- The walk has so many blocks of the history before it: the queued ones among them and, of an
+-- arena, as many as come before these.
 pub record IsTailBehind {D : Type 0} (l : LogState D) (h : History) (n : ℕ) (t : TailState)
     : Type 0 where
   pub left : t.left ≡ n

@@ -32,7 +32,7 @@ out_of_order i fields =
     then (if sealed_in fields == 0 then None else Some (Arena i (Torn Sealed 1 0)))
     else Some (Order i (clump_count_in fields))
 
--- why it can't be mounted; `behind` is whether an unsealed one stands before it
+-- Why an arena can't be mounted; `behind` is whether an unsealed one stands before it.
 abbrev pub bad_arena : (behind : Bool) (i : ℕ) → Option ArenaBad → (fields : List ℕ)
     → Option LogBad
 bad_arena behind i (Some bad) fields = Some (Arena i bad)
@@ -93,7 +93,8 @@ is_log_fault (Arena i bad) = false
 is_log_fault (Order i clumps) = false
 is_log_fault NoMemory = false
 
--- so does what `advance` answers; a call that stopped the log before isn't told anew
+-- Whether what `advance` answers tells of a fault of a disk in this call; a call that stopped the
+-- log before isn't told anew.
 abbrev pub is_fault_now : LogErr → Bool
 is_fault_now LogFault = true
 is_fault_now (Stopped n) = false

@@ -32,7 +32,7 @@ abbrev pub WritesInFirst : {D : Type 0} → DiskOf D → Table → (arenas : ℕ
 WritesInFirst disk t arenas before after =
     WritesAt disk (InFirstHeads t arenas) (3 * arenas) before after
 
--- and but in those of all
+-- Nothing changed but in the heads of all arenas of the partition.
 abbrev pub WritesInHeads : {D : Type 0} → DiskOf D → Table → (before after : D) → Type 0
 WritesInHeads disk t before after = WritesInFirst disk t t.count before after
 
@@ -49,7 +49,8 @@ pub record StopsAtArena {D : Type 0} (disk : DiskOf D) (old new : Part D) : Type
       × EndsFormat disk (head_place (arena_region (table_of old) arena))
       (head_frame (arena_head score_of arena empty)) made before (disk_of new)
 
--- And it stopped in this partition: those before it are done, and those behind it are as they were.
+-- Formatting stopped in this partition: those before it are done, and those behind it are as they
+-- were.
 pub record StopsIn {D : Type 0} (disk : DiskOf D) (old new : List (Part D)) : Type 0 where
   pub part : ℕ
   pub within : part < length old

@@ -40,7 +40,7 @@ pub record LogState (D : Type 0) : Type 0 where
 abbrev pub queued : {D : Type 0} → LogState D → ℕ
 queued l = length l.queue.places
 
--- how many blocks are accepted: those on the disks, and those that are queued
+-- How many blocks the log has accepted: those on the disks, and those that are queued.
 abbrev pub front : {D : Type 0} → LogState D → ℕ
 front l = l.durable + queued l
 
@@ -57,7 +57,7 @@ abbrev pub queue_of : {D : Type 0} → LogState D → History
 queue_of l =
     map (accepted_in l.committing) (added_by_commit l.arena) ++ map waiting_block l.queue.waiting
 
--- and their clumps
+-- The clumps of the queued blocks.
 abbrev pub packed_of : {D : Type 0} → LogState D → List Packed
 packed_of l = l.arena.staged ++ map (λ w. w.packed) l.queue.waiting
 
@@ -91,7 +91,7 @@ next_filling l n =
     else if fits_in l.layout next n then Some next
     else None
 
--- there is one
+-- Whether an arena has room for a block of n bytes: the one that is being filled, or the next one.
 abbrev pub has_next : {D : Type 0} → LogState D → (n : ℕ) → Bool
 has_next l n = is_some (next_filling l n)
 

@@ -54,8 +54,8 @@ pub record IsLog (score_of : List ℕ → List ℕ) (layout : List ArenaRegion) 
   pub history : h ≡ blocks_from 0 contents
   pub base_is : base ≡ first_unsealed contents
 
--- They stand for the first n blocks of a history, with a base from the arena that was filled last
--- with these to the one that is being filled now.
+-- The files stand for the first n blocks of a history, with a base from the arena that was filled
+-- last with these to the one that is being filled now.
 pub record LogStandsFor (score_of : List ℕ → List ℕ) (c : Setup) (layout : List ArenaRegion)
     (files : List (List ℕ)) (h : History) (n : ℕ) : Type 0 where
   pub base : ℕ

@@ -114,7 +114,7 @@ RefusesArenas layout fields (Order i clumps) =
 RefusesArenas layout fields Fault = ⊤
 RefusesArenas layout fields NoMemory = ⊤
 
--- they pass, and these are their heads
+-- All arenas pass the tests, and these are their heads.
 pub record ArePassed (layout : List ArenaRegion) (fields : List (List ℕ)) (heads : List Found)
     : Type 0 where
   pub passed : first_bad_log Bool.false 0 layout fields ≡ None

@@ -4,7 +4,8 @@ use Rattle.vt_arena.specs.Arena.{ArenaState, commit_calls, calls_made}
 use Rattle.vt_log.specs.declared.queue.Waiting.{Waiting}
 use Rattle.vt_log.specs.Log.{LogState}
 
--- those of the commit that is staged or under way, if there is one
+-- How many device calls are left of the commit of an arena that is staged or under way, if there is
+-- one.
 abbrev pub calls_left : ArenaState → ℕ
 calls_left a =
     if a.next.sealed then commit_calls a - calls_made a

@@ -49,11 +49,11 @@ waiting_block w = accepted_in w.arena (stored_of w.packed)
 abbrev pub spot_of : Place → Spot
 spot_of place = record { arena = place.arena; offset = place.offset }
 
--- the place is the one with this number, and not an earlier one
+-- The place is the one with this number in the list, and not an earlier one.
 pub record IsFirstAt (places : List Place) (place : Place) (index : ℕ) : Type 0 where
   pub at : slice_get places index ≡ Some place
   pub first : (i : ℕ) → i < index → slice_get places i ≢ Some place
 
--- it is none of them
+-- The place is none of the list.
 abbrev pub IsNowhere : List Place → Place → Type 0
 IsNowhere places place = (i : ℕ) → slice_get places i ≢ Some place

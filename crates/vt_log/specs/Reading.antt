@@ -46,7 +46,7 @@ GivesPacked key p (Err (Damaged want found)) = IsOther key p.kind p.score.0 want
 GivesPacked key p (Err NoMemory) = ⊤
 GivesPacked key p (Err Fault) = ⊥
 
--- and where these bytes stand there: they may be no clump
+-- What is answered where these bytes stand at the place, which may be no clump.
 abbrev pub ReadsBlockAs : (score_of : List ℕ → List ℕ) → Key → (bytes : List ℕ)
     → Result (List ℕ) ReadBad → Type 0
 ReadsBlockAs score_of key bytes (Ok block) =

@@ -81,8 +81,8 @@ pub record AreImagesOf {D : Type 0} (disk : DiskOf D) (disks : List D)
   pub each : (i : ℕ) (device : D) (file : List ℕ) → slice_get disks i ≡ Some device
       → slice_get files i ≡ Some file → disk.images device file
 
--- and which a crash may leave of it at a moment within a call that turns the one list into the
--- other
+-- One file for each disk, which a crash may leave of it at a moment within a call that turns the
+-- one list of disks into the other.
 pub record AreWithinCallOf {D : Type 0} (disk : DiskOf D) (old new : List D)
     (files : List (List ℕ)) : Type 0 where
   pub many : length files ≡ length old

@@ -212,7 +212,8 @@ impl<D: Disk, S: Scorer> Log<D, S> {
         }
     }
 
-    /// What is known of the last block that is left in an arena.
+    /// What is known of the last block that is left in an arena. It fails where the directory can't
+    /// be read, or its entry can't stand there.
     fn back_in_arena(&mut self, tail: &mut Tail) -> Result<Option<Info>, BackBad>
         requires tail { IsTailOf self.old tail.old }
         requires queued { tail.old.queued ≡ 0 }
@@ -251,7 +252,8 @@ impl<D: Disk, S: Scorer> Log<D, S> {
         }))
     }
 
-    /// What the directory of an arena says of the block at which a walk of it stands.
+    /// What the directory of an arena says of the block at which a walk of it stands. It fails
+    /// where the directory can't be read, or its entry can't stand there.
     fn read_entry(&mut self, arena: u32, at: &mut At) -> Result<Info, BackBad>
         requires arena { arena < length self.old.heads }
         requires some { 0 < at.old.index }

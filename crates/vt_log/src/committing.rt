@@ -133,7 +133,8 @@ impl<D: Disk, S: Scorer> Log<D, S> {
         }
     }
 
-    /// Makes the next device call of the commit that is staged.
+    /// Makes the next device call of the commit that is staged. It fails where the call does, and
+    /// the log is stopped then.
     fn make_call(&mut self) -> Result<Progress, LogErr>
         requires runs { self.old.stopped ≡ None }
         requires some { 0 < queued self.old }

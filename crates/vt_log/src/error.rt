@@ -16,6 +16,7 @@ pub enum LogBad {
     Order { arena: u32, clumps: u32 },
     /// A call of a disk failed, and its count of faults rose.
     Fault,
+    /// Memory ran out.
     NoMemory,
 }
 
@@ -50,6 +51,7 @@ impl From<Failed> for LogBad {
 
     ghost from_gives = { λ _ bad. bad ≡ LogBad.Fault };
 
+    /// A failed call of a disk is `Fault`.
     fn from(_failed: Failed) -> Self {
         LogBad::Fault
     }

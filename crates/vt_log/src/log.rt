@@ -209,7 +209,8 @@ impl<D: Disk, S: Scorer> Log<D, S> {
         Ok(place)
     }
 
-    /// How full the arena is that a block of `n` bytes goes to, before that block.
+    /// How full the arena is that a block of `n` bytes goes to, before that block; None where no
+    /// arena has room for it.
     fn next_filling(&self, n: u32) -> Option<Filling>
         ensures next { result ≡ next_filling self.now n }
         ensures small { IfSome result

@@ -22,7 +22,7 @@ pub(crate) struct Waiting {
 /// commit: of these it has the places alone. There is room for 64.
 #[derive(Drop)]
 pub(crate) struct Queue {
-    /// Those that aren't staged, as clumps.
+    /// The queued blocks that aren't staged, as clumps.
     waiting: VecDeque<Waiting>,
     /// Where each will stand, the staged ones first.
     places: VecDeque<Place>,

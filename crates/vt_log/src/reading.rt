@@ -168,7 +168,8 @@ fn copy_queued(alloc: Global, packed: &Packed, key: &Key) -> Result<Bytes, ReadB
     }
 }
 
-/// Tests a clump's type and then its score.
+/// Tests a clump's type and then its score. The first that isn't the one that is wanted is told as
+/// damage.
 fn check_key(key: &Key, kind: Kind, score: Score) -> Result<(), ReadBad>
     ensures same { OnOk result ((kind ≡ key.now.kind) × (score ≡ key.now.score)) }
     ensures other { IfErr result (IsDamagedBy key.now kind score.0) }

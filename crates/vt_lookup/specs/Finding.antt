@@ -43,7 +43,8 @@ pub record StoreParts (D : Type 0) : Type 0 where
 abbrev pub parts_of : {D : Type 0} → LogState D → ShardState D → StoreParts D
 parts_of log shard = record { log = log; shard = shard }
 
--- they are sound for a history of which so many blocks are durable
+-- The parts of a search, the log and one shard, are sound for a history of which so many blocks are
+-- durable.
 pub record AreSound {D : Type 0} (score : List ℕ → List ℕ) (disk : DiskOf D) (c : Setup)
     (p : StoreParts D) (h : History) (durable : ℕ) : Type 0 where
   pub log : IsSoundLog score disk p.log h
@@ -104,7 +105,7 @@ abbrev pub NoneRose : {D : Type 0} → DiskOf D → (old new : StoreParts D) →
 NoneRose disk old new = (map disk.faults new.log.disks ≡ map disk.faults old.log.disks)
     × (disk.faults new.shard.section.disk ≡ disk.faults old.shard.section.disk)
 
--- one of them rose
+-- One of the counts of failed calls rose, of the log's devices and of the shard's.
 abbrev pub OnePartRose : {D : Type 0} → DiskOf D → (old new : StoreParts D) → Type 0
 OnePartRose disk old new =
     (OneHasRisen (map disk.faults old.log.disks) (map disk.faults new.log.disks)
@@ -140,7 +141,8 @@ pub record LooksFor {D T : Type 0} (score : List ℕ → List ℕ) (disk : DiskO
 
 -- ---- reading a block of which there is an entry
 
--- it is in memory, where it becomes the one that was used last; memory may be short for a copy
+-- The block is in memory, where it becomes the one that was used last; memory may be short for a
+-- copy.
 pub record TakesLump {D : Type 0} (key : Key) (block : Sought) (old new : StoreParts D)
     : Type 0 where
   pub bytes : List ℕ
@@ -165,8 +167,8 @@ MayKeep key (Ok bytes) old new =
     (new ≡ record old { lumps = with_lump key bytes old.lumps }) ⊎ (new ≡ old)
 MayKeep key (Err bad) old new = new ≡ old
 
--- it isn't in memory, and the log is asked for what stands at the entry's place; memory may be short
--- for it
+-- The block isn't in memory, and the log is asked for what stands at the entry's place; memory may
+-- be short for it.
 pub record ReadsClump {D : Type 0} (score : List ℕ → List ℕ) (disk : DiskOf D) (entry : Entry)
     (block : Sought) (old new : StoreParts D) : Type 0 where
   pub absent : cached_bytes entry.key old.shard.lumps ≡ None
@@ -209,7 +211,7 @@ SeeksBlock score disk false key block old new = (block ≡ Ok None) × (new ≡ 
 SeeksBlock score disk true key block old new =
     TakesLump key block old new ⊎ AsksIndex score disk key block old new
 
--- and by its score alone: one under any type stands for all
+-- What a search by the score alone answers: an entry under any type stands for all.
 abbrev pub SeeksOther : {D : Type 0} → (List ℕ → List ℕ) → DiskOf D → (may_have : Bool)
     → (s : List ℕ) → Sought → (old new : StoreParts D) → Type 0
 SeeksOther score disk false s block old new = (block ≡ Ok None) × (new ≡ old)

@@ -18,7 +18,7 @@ abbrev pub fetched : {D U : Type 0} → Key → Result U Why → ShardState D �
 fetched key (Ok done) shard = Ok (cached_bytes key shard.lumps)
 fetched key (Err why) shard = Err why
 
--- the same where there may be none
+-- The block of a key, where there is one and it was brought into memory.
 abbrev pub sought : {D : Type 0} → Key → Result Bool Why → ShardState D → Sought
 sought key (Ok true) shard = Ok (cached_bytes key shard.lumps)
 sought key (Ok false) shard = Ok None
@@ -35,7 +35,7 @@ abbrev pub compared : Sought → (bytes : List ℕ) → Result (Option Bool) Why
 compared (Ok found) bytes = Ok (option_map (λ block. bytes_eq block bytes) found)
 compared (Err why) bytes = Err why
 
--- and whether one that was found has other bytes
+-- Whether a block that was looked for was found and has other bytes.
 abbrev pub differs : Sought → (bytes : List ℕ) → Result Bool Why
 differs (Ok None) bytes = Ok false
 differs (Ok (Some block)) bytes = Ok (not (bytes_eq block bytes))
@@ -57,7 +57,7 @@ pub record ComparesOther {D : Type 0} (score : List ℕ → List ℕ) (disk : Di
 
 -- ---- on sound parts
 
--- for each history for which the parts are sound they stay so
+-- For each history for which the log and the shard were sound they stay so.
 abbrev pub StaySound : {D : Type 0} → (List ℕ → List ℕ) → DiskOf D → (old new : StoreParts D)
     → Type 0
 StaySound {D} score disk old new = (c : Setup) (h : History) (durable : ℕ) → IsTrue disk.tells

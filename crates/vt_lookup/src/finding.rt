@@ -273,7 +273,7 @@ pub fn why_of_shard(bad: ShardErr) -> Why
     }
 }
 
-/// And where the log's read of this place does.
+/// Why a request is refused where the log's read of this place fails.
 fn why_of_read(place: Place, bad: ReadBad) -> Why
     ensures { result ≡ why_of_read place bad }
 {

@@ -20,7 +20,7 @@ use Rattle.vt_maintain.specs.declared.error.MaintainError.TheVariants.{Unopened,
 abbrev pub device_faults : {D : Type 0} → DiskOf D → Devices D → List ℕ
 device_faults disk devices = map disk.faults (all_of (devices_in devices))
 
--- of these counts one rose where a fault is told, and else none
+-- Of these counts of failed calls one rose where a fault is told, and else none.
 abbrev pub CountsOneFault : (is_fault : Bool) → (old new : List ℕ) → Type 0
 CountsOneFault true old new = OneHasRisen old new
 CountsOneFault false old new = new ≡ old

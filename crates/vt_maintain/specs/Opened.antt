@@ -30,8 +30,8 @@ pub record AreOpened {D : Type 0} (score : List ℕ → List ℕ) (disk : DiskOf
   pub sections_are : AllZip (IsFoundSection disk) devices.sections.items sections
   pub few : sum (buckets_in_each sections) ≤ MOST_BUCKETS
 
--- Why they weren't: there are too many arenas; the log is refused, or a section; or there are too
--- many buckets.
+-- Why the log and the sections weren't found on the devices: there are too many arenas; the log is
+-- refused, or a section; or there are too many buckets.
 abbrev pub RefusesOpening : {D : Type 0} → DiskOf D → Devices D → MountBad → Type 0
 RefusesOpening {D} disk devices bad =
     (bad ≡ NoMemory)
@@ -47,7 +47,8 @@ RefusesOpening {D} disk devices bad =
 abbrev pub AreInUse : {D : Type 0} → Devices D → List (SectionState D) → Type 0
 AreInUse devices sections = TestsHeads {U = Unit {0}} (length devices.parts.items) sections (Ok tt)
 
--- or the log and the sections were found, and a head of these says something else
+-- Opening is refused; or the log and the sections were found, and a head of these says something
+-- else than that its section is in use at its place.
 abbrev pub RefusesUse : {D : Type 0} → (List ℕ → List ℕ) → DiskOf D → Devices D → MountBad → Type 0
 RefusesUse {D} score disk devices bad = RefusesOpening disk devices bad
     ⊎ ((log : LogState D) × (sections : List (SectionState D))

@@ -31,9 +31,9 @@ pub record RebuildsOn {D : Type 0} (score : List ℕ → List ℕ) (disk : DiskO
   pub keeps : KeepsBlocks disk devices back
   pub quiet : device_faults disk back ≡ device_faults disk devices
 
--- They were found, and not all of them have their entries: a call failed, memory ran out, a bucket
--- has too many blocks, or the log is damaged. Where it isn't, no crash leaves all in use unless all
--- are as they were, or all have their entries.
+-- The log and the sections were found, and not all of the sections have their entries: a call
+-- failed, memory ran out, a bucket has too many blocks, or the log is damaged. Where it isn't, no
+-- crash leaves all of them in use unless all are as they were, or all have their entries.
 pub record StopsOn {D : Type 0} (score : List ℕ → List ℕ) (disk : DiskOf D) (bad : RebuildBad)
     (devices back : Devices D) : Type 0 where
   pub log : LogState D

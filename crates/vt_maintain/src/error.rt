@@ -5,8 +5,8 @@ use vt_open::OpenError;
 /// Why work on the store that a configuration names isn't done.
 #[derive(Clone, Copy, Debug, PartialEq, Eq)]
 pub enum MaintainError<E> {
-    /// Its partitions aren't handed out, or its log and its sections aren't found on them.
+    /// The store's partitions aren't handed out, or its log and its sections aren't found on them.
     Unopened(OpenError),
-    /// They were found, and this ended the work on them.
+    /// The log and the sections were found, and this ended the work on them.
     Ended(E),
 }

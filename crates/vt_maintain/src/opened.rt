@@ -135,7 +135,7 @@ impl<D: Disk, S: Scorer + Drop> Opened<D, S> {
         }
     }
 
-    /// The same, of a store whose index is in use.
+    /// Opens the log and the sections as `open` does, of a store whose index is in use.
     pub(crate) fn open_in_use(
         alloc: Global,
         devices: Devices<D>,

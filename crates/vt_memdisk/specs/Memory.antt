@@ -14,6 +14,6 @@ memory_synced disk = disk.cells.synced.items
 abbrev pub memory_pending : {P : Type 0} → MemDisk P → List Bool
 memory_pending disk = disk.cells.pending.items
 
--- which of its calls fail
+-- Which calls of a disk in memory fail.
 abbrev pub memory_plan : {P : Type 0} → MemDisk P → P
 memory_plan disk = disk.plan

@@ -172,10 +172,12 @@ impl<P: Plan> Disk for MemDisk<P> {
 
     ghost images_fit = { λ disk c is. (is.same_length ∙ disk.cells.synced_length, is.fits) };
 
+    /// How many bytes it has, which is no counted call.
     fn len(&self) -> u64 {
         self.cells.content.len() as u64
     }
 
+    /// Copies out the bytes, unless the plan lets the call fail.
     fn read_at(&mut self, start: u64, buf: &mut [u8]) -> Result<(), Failed>
         requires { start + length buf.old ≤ length (memory_bytes self.old) }
         ensures read { OnOk result (buf.new ≡ part start (length buf.old) (memory_bytes self.old)) }
@@ -198,6 +200,8 @@ impl<P: Plan> Disk for MemDisk<P> {
         Ok(())
     }
 
+    /// Changes the bytes that a read gives, and makes those that it touches pending. Where the plan
+    /// lets the call fail they are pending too, and a read gives what it gave.
     fn write_at(&mut self, start: u64, chunk: &[u8]) -> Result<(), Failed>
         requires { start + length chunk.now ≤ length (memory_bytes self.old) }
         ensures written { OnOk result
@@ -222,6 +226,8 @@ impl<P: Plan> Disk for MemDisk<P> {
         Ok(())
     }
 
+    /// The bytes that a read gives are now those that a crash leaves, and nothing is pending,
+    /// unless the plan lets the call fail.
     fn sync(&mut self) -> Result<(), Failed>
         ensures settled { OnOk result (memory_synced self.new ≡ memory_bytes self.old) }
         ensures none_pending { OnOk result (NonePending (memory_pending self.new)) }

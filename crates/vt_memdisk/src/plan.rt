@@ -58,11 +58,13 @@ impl Plan for Never {
 
     ghost faults_fit = { λ _. Prim.omega arith };
 
+    /// No call fails. It is counted.
     fn next_fails(&mut self) -> bool {
         self.calls = self.calls.saturating_add(1);
         false
     }
 
+    /// The count of calls begins anew.
     fn restart(&mut self) {
         self.calls = 0;
     }
@@ -101,6 +103,7 @@ impl Plan for Listed {
 
     ghost faults_fit = { λ plan. plan.in_range };
 
+    /// The call fails whose number is in the list. It is counted, and so is the failure.
     fn next_fails(&mut self) -> bool {
         let fails = self.failing.contains(&self.calls);
         self.calls = self.calls.saturating_add(1);
@@ -110,6 +113,7 @@ impl Plan for Listed {
         fails
     }
 
+    /// No call fails any more, and the count of calls begins anew.
     fn restart(&mut self) {
         self.failing.clear();
         self.calls = 0;

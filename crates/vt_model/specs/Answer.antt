@@ -11,7 +11,7 @@ use Rattle.vt_model.specs.declared.TheConstants.{BUCKET_ROOM}
 use Rattle.vt_model.specs.History.{History, Accepted, held}
 use Rattle.vt_model.specs.Places.{Setup, next_arena, crowd, bucket_of, bucket_count}
 
--- the reply, and the block that is added, if one is
+-- What the model answers: the reply, and the block that is added, if one is.
 pub record Outcome : Type 0 where
   pub reply : RMessage
   pub added : Option Accepted
@@ -70,7 +70,7 @@ answer score c h (read s kind count) = answer_to_read score h s kind count
 answer score c h (write kind bytes) = answer_to_write score c h kind bytes
 answer score c h sync = replies r_sync
 
--- the history with what was added
+-- The history with the block that an outcome adds, if it adds one.
 abbrev pub with_added : History → Option Accepted → History
 with_added h None = h
 with_added h (Some e) = h ++ e ∷ []

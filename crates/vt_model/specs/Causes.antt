@@ -52,7 +52,7 @@ WritesTo score c (write kind bytes) part =
     (part ≡ log) ⊎ (part ≡ section (section_of_score c (score bytes)))
 WritesTo score c sync part = part ≡ log
 
--- it reads what was stored, and it takes memory
+-- The operation reads what was stored, and it takes memory.
 abbrev pub MayFindDamage : Operation → Type 0
 MayFindDamage ping = ⊥
 MayFindDamage (read s kind count) = ⊤

@@ -24,7 +24,7 @@ pub record IsLegal (score : List ℕ → List ℕ) (c : Setup) (h : History) : T
   pub nonzero : All (λ e. score e.block.bytes ≢ score []) h
   -- arenas are filled in order
   pub arenas : AllPairs (λ a b. a.arena ≤ b.arena) h
-  -- and no further than they have room
+  -- arenas are filled no further than they have room
   pub room : (arena : ℕ) → IsTrue (fits c arena (lengths_in arena h))
-  -- and so are buckets
+  -- buckets are filled no further than they have room
   pub buckets : (bucket : ℕ) → crowd score (bucket_count c) h bucket ≤ BUCKET_ROOM

@@ -140,7 +140,8 @@ impl<S: Scorer> PlainStore<S> {
         })
     }
 
-    /// The bytes under a key.
+    /// The bytes under a key: no bytes under the zero score, else those of its block, and None
+    /// where there is no such block.
     fn held(&self, key: &Key) -> Option<&[u8]>
         ensures { option_copied result
             ≡ held S.score_of self.now.history key.now.score.0 key.now.kind }

@@ -25,7 +25,7 @@ use Rattle.vt_partitions.specs.Parts.{Standing}
 use Rattle.vt_shard.specs.declared.mounting.Sizes.{Sizes}
 use Rattle.vt_mount_errors.specs.MountErrors.{NamesTwo}
 
--- the same devices, of which the tables of those of arenas were read
+-- The devices stay the same, and the tables of those of arenas were read.
 pub record AreTablesRead {D : Type 0} (disk : DiskOf D) (handed mounted : PerDevice D)
     : Type 0 where
   pub partitions : AllZip (OnlyReads disk 1) handed.partitions mounted.partitions
@@ -55,7 +55,7 @@ pub record Opens {D : Type 0} (score : List ℕ → List ℕ) (disk : DiskOf D) 
   pub faults_are : map disk.faults (all_of (devices_of k)) ≡ map disk.faults (all_of handed)
   pub devices : HaveOneShape (devices_of k) (files_of conf)
 
--- They were handed out, and no store was found on them; they are back.
+-- The partitions were handed out, and no store was found on them; they are back.
 pub record FindsNoStore {D : Type 0} (score : List ℕ → List ℕ) (disk : DiskOf D) (told : Type 0)
     (conf : Conf) (old new : List ℕ → Standing D) (bad : MountBad) : Type 0 where
   pub handed : PerDevice D

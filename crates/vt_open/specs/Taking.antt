@@ -30,8 +30,8 @@ pub record AreTaken {D : Type 0} (told : Type 0) (files : List PartFile)
   pub apart : told → AllPairs (λ a b. a ≢ b) (names_of files)
   pub others : told → (name : List ℕ) → ¬ Contains (names_of files) name → new name ≡ old name
 
--- And these were handed back: they stand there now, if they were handed out under these names, each
--- once.
+-- These devices were handed back: they stand there now, if they were handed out under these names,
+-- each once.
 pub record AreHandedBack {D : Type 0} (told : Type 0) (files : List PartFile)
     (old new : List ℕ → Standing D) (devices : List D) : Type 0 where
   pub many : length devices ≡ length files
@@ -58,7 +58,7 @@ pub record AreBack {D : Type 0} (disk : DiskOf D) (told : Type 0) (files : List 
 abbrev pub HasTable : {D : Type 0} → DiskOf D → D → Type 0
 HasTable disk device = IsTrue disk.tells → (t : Table) × IsPartition t (disk.bytes device)
 
--- its table was read, by one call
+-- The table of the device was read, by one call.
 pub record IsMountedPart {D : Type 0} (disk : DiskOf D) (device : D) (part : Part D) : Type 0 where
   pub reads : OnlyReads disk 1 device (disk_of part)
   pub faults_are : disk.faults (disk_of part) ≡ disk.faults device

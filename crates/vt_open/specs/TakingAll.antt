@@ -10,7 +10,7 @@ use Rattle.vt_open.specs.Names.{HaveOneShape, files_of}
 use Rattle.vt_open.specs.Taking.{AreTaken, IsMountedPart}
 use Rattle.vt_partitions.specs.Parts.{Standing}
 
--- they were handed out, and the tables of those of arenas were read
+-- All partitions of a configuration were handed out, and the tables of those of arenas were read.
 pub record AreAllTaken {D : Type 0} (disk : DiskOf D) (told : Type 0) (conf : Conf)
     (old new : List ℕ → Standing D) (devices : Devices D) : Type 0 where
   pub handed : PerDevice D

@@ -56,7 +56,8 @@ pub fn take_all<P: Parts>(
     }
 }
 
-/// Hands out the partitions of arenas of these files, and reads their tables.
+/// Hands out the partitions of arenas of these files, and reads their tables. The first that isn't
+/// handed out, or is refused, is told.
 fn take_arenas<P: Parts>(
     alloc: Global,
     parts: &mut P,
@@ -85,7 +86,8 @@ fn take_arenas<P: Parts>(
     Ok(arenas)
 }
 
-/// Hands out the partition of arenas of this file, which has this number, and reads its table.
+/// Hands out the partition of arenas of this file, which has this number, and reads its table. It
+/// is told where that isn't handed out, or is refused.
 fn take_part<P: Parts>(
     alloc: Global,
     parts: &mut P,
@@ -111,7 +113,8 @@ fn take_part<P: Parts>(
     }
 }
 
-/// Hands out the partitions of these files, of which the first has this number.
+/// Hands out the partitions of these files, of which the first has this number. The first that
+/// isn't handed out is told.
 fn take_sections<P: Parts>(
     alloc: Global,
     parts: &mut P,
@@ -161,7 +164,8 @@ fn take_filter<P: Parts>(
     Ok(Some(disk))
 }
 
-/// Hands out the partition of this file, which has this number.
+/// Hands out the partition of this file, which has this number. It is told where that isn't handed
+/// out.
 fn take_disk<P: Parts>(
     alloc: Global,
     parts: &mut P,

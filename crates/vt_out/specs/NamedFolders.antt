@@ -5,7 +5,7 @@ use Rattle.vt_out.specs.declared.mem_folders.MemFolders.{MemFolders}
 use Rattle.vt_out.specs.FolderPlaces.{back_in, standing_at, waiting_in}
 use Rattle.vt_out.specs.FolderStanding.{Standing, nothing}
 
--- its name
+-- The name of a folder in memory.
 abbrev pub name_of : MemFolders → List ℕ
 name_of folders = folders.name
 
@@ -17,7 +17,7 @@ waiting_of folders = waiting_in folders.place
 abbrev pub back_of : MemFolders → Option MemFolder
 back_of folders = back_in folders.place
 
--- how many of its calls have failed
+-- How many calls of a folder in memory have failed.
 abbrev pub folders_faults : MemFolders → ℕ
 folders_faults folders = folders.faults
 

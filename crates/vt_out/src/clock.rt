@@ -49,6 +49,7 @@ impl Clock for MemClock {
 
     ghost time = { λ clock. clock };
 
+    /// The time that it was made with.
     fn now(&mut self) -> u32
         ensures time { result ≡ self.old }
         ensures still { self.new ≡ self.old }

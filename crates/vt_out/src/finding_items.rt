@@ -21,7 +21,7 @@ impl MemItem {
         }
     }
 
-    /// Its items, where it is a folder of this name.
+    /// The items of a folder, where this is a folder of this name; else None.
     fn inside_of(&self, name: &Text) -> Option<&[MemItem]>
         ensures { option_map (λ inside. items_in_memory inside.now) result
             ≡ inside_of name.now (items_in_memory (self.now ∷ [])) }
@@ -34,7 +34,7 @@ impl MemItem {
         }
     }
 
-    /// Its bytes, where it is a file of this name.
+    /// The bytes of a file, where this is a file of this name; else None.
     fn bytes_of(&self, name: &Text) -> Option<&[u8]>
         ensures { option_copied result ≡ bytes_of name.now (items_in_memory (self.now ∷ [])) }
     {
@@ -88,7 +88,7 @@ fn bytes_of<'a>(items: &'a [MemItem], name: &Text) -> Option<&'a [u8]>
     }
 }
 
-/// The items of the folder at a path below these.
+/// The items of the folder at a path below these, or None where no folder stands there.
 pub(crate) fn folder_at<'a>(items: &'a [MemItem], path: &[Text]) -> Option<&'a [MemItem]>
     ensures { option_map (λ inside. items_in_memory inside.now) result
         ≡ folder_at path.now (items_in_memory items.now) }
@@ -99,7 +99,7 @@ pub(crate) fn folder_at<'a>(items: &'a [MemItem], path: &[Text]) -> Option<&'a [
     }
 }
 
-/// The bytes of the file at a path below these items.
+/// The bytes of the file at a path below these items, or None where no file stands there.
 pub(crate) fn file_at<'a>(items: &'a [MemItem], path: &[Text]) -> Option<&'a [u8]>
     ensures { option_copied result ≡ file_at path.now (items_in_memory items.now) }
 {

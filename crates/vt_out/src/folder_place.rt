@@ -19,7 +19,7 @@ impl Place {
     ghost use Rattle.vt_out.specs.declared.folder_place.Place.TheVariants.{Out, Back};
     ghost use Rattle.vt_out.specs.FolderPlaces.{waiting_in};
 
-    /// The folder that waits, which then is out.
+    /// The folder that waits, which then is out; None where none waits.
     pub fn take(&mut self) -> Option<MemFolder>
         ensures folder { result ≡ waiting_in self.old }
         ensures left { MatchOption result (self.new ≡ self.old) (λ _. self.new ≡ Out) }

@@ -64,7 +64,7 @@ impl MemFolders {
         self.faults
     }
 
-    /// The folder that waits under this name, which then is out.
+    /// The folder that waits under this name, which then is out; None where none waits under it.
     fn lend(&mut self, name: &Text) -> Option<MemFolder>
         ensures folder { MatchOption result
             ((name.now ≢ name_of self.old) ⊎ (waiting_of self.old ≡ None))
@@ -128,6 +128,8 @@ impl Folders for MemFolders {
         Err(OutErr::Failed)
     }
 
+    /// Takes back the folder, whose failed calls count from now on, and keeps it if its name is
+    /// this one.
     fn done(&mut self, name: &Text, folder: MemFolder) {
         self.faults = self.faults.saturating_add(folder.faults());
         if self.name.as_slice() == name.as_slice() {

@@ -126,6 +126,8 @@ impl Source for MemSource {
 
     ghost faults_fit = { λ s. s.plan.faults_fit };
 
+    /// Gives the next bytes that are left, as many as its pieces and the buffer have room for,
+    /// unless the call is one of those that fail.
     fn take(&mut self, buf: &mut [u8]) -> Result<usize, Failed>
         ensures failing { IsErr result
             ↔ Contains (source_failing self.old) (source_calls self.old) }

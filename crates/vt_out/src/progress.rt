@@ -11,5 +11,6 @@ pub trait Progress {
 pub struct Silent;
 
 impl Progress for Silent {
+    /// Tells nobody.
     fn report(&mut self, _done: u64, _all: u64) {}
 }

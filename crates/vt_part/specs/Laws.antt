@@ -8,7 +8,7 @@ use Rattle.vt_part.specs.Faults.{first_bad_part}
 use Rattle.vt_part.specs.Layout.{arena_of, layout_of}
 use Rattle.vt_part.specs.Table.{Table, IsTable, IsPartition, head_of, start_of, arenas_end}
 
--- no bytes are two partitions
+-- No bytes are two partitions.
 abbrev pub IsUnambiguous : Type 0
 IsUnambiguous = (s t : Table) (file : List ℕ) → IsPartition s file → IsPartition t file → s ≡ t
 
@@ -17,7 +17,7 @@ abbrev pub PassesPartitions : Type 0
 PassesPartitions = (t : Table) (file : List ℕ) → IsPartition t file
     → first_bad_part (length file) (head_of file) ≡ None
 
--- and on other bytes one does
+-- On bytes that are no partition a test fails.
 abbrev pub PassesPartitionsOnly : Type 0
 PassesPartitionsOnly = (file : List ℕ) → AreBytes file
     → first_bad_part (length file) (head_of file) ≡ None → (t : Table) × IsPartition t file

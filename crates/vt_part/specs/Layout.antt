@@ -15,11 +15,11 @@ arena_region t number = record { start = start_of t number; len = t.arena_size }
 abbrev pub arena_of : (part : ℕ) → Table → (number : ℕ) → ArenaRegion
 arena_of part t number = record { part = part; number = number; region = arena_region t number }
 
--- all of them, in order
+-- All arenas of the partition with this number, in order.
 abbrev pub arenas_of_table : (part : ℕ) → Table → List ArenaRegion
 arenas_of_table part t = map (arena_of part t) (range_with_len 0 t.count)
 
--- and those of all partitions, in order
+-- The arenas of all partitions, in order.
 abbrev pub layout_of : List Table → List ArenaRegion
 layout_of tables =
     flat_map (λ numbered. arenas_of_table numbered.0 numbered.1) (enumerate_from 0 tables)
@@ -34,14 +34,14 @@ pub record AreNamesakes (names : List (List ℕ)) (i j : ℕ) : Type 0 where
   pub within : j < length names
   pub same : name_at names i ≡ name_at names j
 
--- and no pair before them has: none with an earlier first one, and none with the same first one and
--- an earlier second one
+-- Two partitions have one name, and no pair before them has: none with an earlier first one, and
+-- none with the same first one and an earlier second one.
 pub record AreFirstNamesakes (names : List (List ℕ)) (i j : ℕ) : Type 0 where
   pub namesakes : AreNamesakes names i j
   pub first : (k l : ℕ) → AreNamesakes names k l → i ≤ k
   pub second : (l : ℕ) → AreNamesakes names i l → j ≤ l
 
--- no two have
+-- No two of the names are the same.
 abbrev pub AreDistinct : List (List ℕ) → Type 0
 AreDistinct names = (i j : ℕ) → ¬ AreNamesakes names i j
 

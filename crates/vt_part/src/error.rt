@@ -24,6 +24,7 @@ pub enum PartBad {
     Torn { field: Field, found: u64, want: u64 },
     /// Two partitions of a list have one name. They are counted from 0.
     DuplicateName { first: u32, second: u32 },
+    /// Memory ran out.
     NoMemory,
 }
 
@@ -33,6 +34,7 @@ impl From<Failed> for PartBad {
 
     ghost from_gives = { λ _ bad. bad ≡ PartBad.Fault };
 
+    /// A failed call of the disk is `Fault`.
     fn from(_failed: Failed) -> Self {
         PartBad::Fault
     }
@@ -44,6 +46,7 @@ impl<T: Drop> From<AllocFailed<T>> for PartBad {
 
     ghost from_gives = { λ _ bad. bad ≡ PartBad.NoMemory };
 
+    /// Memory that wasn't there is `NoMemory`; what should have gone there is dropped.
     fn from(_failed: AllocFailed<T>) -> Self {
         PartBad::NoMemory
     }

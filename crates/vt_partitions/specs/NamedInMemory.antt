@@ -14,7 +14,7 @@ standing_of (Some disk) = there disk
 abbrev pub has_name : {D : Type 0} → (name : List ℕ) → MemPart D → Bool
 has_name name part = bytes_eq part.name name
 
--- and under any name: that of the first partition that has it
+-- What stands under a name in memory: the first partition that has it.
 abbrev pub standing_in : {D : Type 0} → List (MemPart D) → (name : List ℕ) → Standing D
 standing_in [] name = nothing
 standing_in (part ∷ parts) name =

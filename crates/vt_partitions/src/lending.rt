@@ -16,7 +16,7 @@ use vt_disk::Disk;
 #[derive(Drop)]
 pub struct MemPart<D> {
     pub name: Text,
-    /// None while it is handed out.
+    /// The partition, or None while it is handed out.
     pub disk: Option<D>,
 }
 
@@ -42,7 +42,8 @@ fn put_front<D: Disk>(disk: &mut D, front: &[u8]) -> Result<(), Failed>
     disk.sync()
 }
 
-/// A partition of this length, with these bytes at its front.
+/// A partition of this length, with these bytes at its front; None where memory runs out or a call
+/// fails.
 fn made<D: Disk + Drop, M: MakesDisks<D>>(
     alloc: Global,
     maker: &M,
@@ -58,7 +59,7 @@ fn made<D: Disk + Drop, M: MakesDisks<D>>(
     Some(disk)
 }
 
-/// All that a partition holds.
+/// All that a partition holds, or None where memory runs out or the read fails.
 fn content<D: Disk>(alloc: Global, disk: &mut D) -> Option<Bytes>
     ensures content { IfSome result (λ bytes. IsTrue D.tells → bytes ≡ D.bytes disk.old) }
     ensures len { IfSome result (λ bytes. length bytes ≡ D.size disk.old) }
@@ -71,7 +72,7 @@ fn content<D: Disk>(alloc: Global, disk: &mut D) -> Option<Bytes>
     Some(Bytes::from_vec(bytes))
 }
 
-/// Makes a partition, and keeps its name.
+/// Makes a partition, and keeps its name; None where memory runs out or a call fails.
 fn lend_new<D: Disk + Drop, M: MakesDisks<D>>(
     alloc: Global,
     maker: &M,

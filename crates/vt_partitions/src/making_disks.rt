@@ -44,6 +44,7 @@ impl<A: Allocator> Failing<A> {
 }
 
 impl<A: Allocator> MakesDisks<MemDisk<Listed>> for Failing<A> {
+    /// A disk of zeros in memory, of whose calls the listed ones fail.
     fn make(&self, alloc: Global, len: u64) -> Result<MemDisk<Listed>, AllocError> {
         self.disk(alloc, len)
     }

@@ -70,6 +70,9 @@ impl<D: Disk + Drop, M: MakesDisks<D>> Parts for MemParts<D, M> {
 
     ghost faults_fit = { λ parts. parts.faults.fits };
 
+    /// Hands out the partition of this name: the one that stands there, made longer if that is
+    /// asked for, or a new one of the length that is asked for. It fails where there is none to
+    /// hand out, memory runs out or a call fails, which counts.
     fn part(&mut self, alloc: Global, name: &Text, grow_to: Option<u64>) -> Result<D, Failed>
         ensures grown { IfOk result (λ disk. IfSome grow_to (λ least. least ≤ D.size disk)) }
         ensures found { IfOk result (λ disk. IsTrue D.tells
@@ -89,6 +92,7 @@ impl<D: Disk + Drop, M: MakesDisks<D>> Parts for MemParts<D, M> {
         found.ok_or(Failed)
     }
 
+    /// Takes back the partition of this name.
     fn done(&mut self, name: &Text, disk: D)
         ensures back { standing_in (parts_held self.old) name.now ≡ lent
             → standing_in (parts_held self.new) name.now ≡ there disk }

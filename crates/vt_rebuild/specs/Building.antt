@@ -56,7 +56,8 @@ AreHalfBegun disk total olds news =
     StopsInTurn (λ first. IsUnwrittenSection disk first total)
     (λ first. IsBuildBegun disk first total) olds news
 
--- a fault is told exactly where the count of one of the log's disks rose, or of one of the sections'
+-- A fault is told exactly where the count of failed calls rose of one of the log's disks or of one
+-- of the sections'.
 abbrev pub CountsAll : {D T : Type 0} → DiskOf D → Result T RebuildBad
     → (log log' : LogState D) → (olds news : List (SectionState D)) → Type 0
 CountsAll disk result log log' olds news = TellsFault is_rebuild_fault result
@@ -84,7 +85,7 @@ NamesDamage NoMemory = ⊤
 
 -- ---- one section, from when its head says that it is being built
 
--- its head says that, with its own buckets, among so many
+-- The section's head says that it is being built, with its own buckets, among so many.
 pub record IsToFinish {D : Type 0} (total : ℕ) (t : SectionState D) : Type 0 where
   pub rest : IsAtRest t
   pub state : t.head.state ≡ 2
@@ -112,14 +113,14 @@ pub record StopsInUse {D : Type 0} (disk : DiskOf D) (head : Head) (old new : Se
       × ((known : KnownBuckets) → IsTrue disk.tells → DiskHolds disk old nothing_known
       → ReadsKnown disk old known → DiskHolds disk new known))
 
--- its disk holds the entries of the history's blocks, and no others
+-- The section's disk holds the entries of the history's blocks, and no others.
 pub record HoldsAll {D : Type 0} (score : List ℕ → List ℕ) (disk : DiskOf D) (c : Setup)
     (h : History) (t : SectionState D) : Type 0 where
   pub known : KnownBuckets
   pub holds : DiskHolds disk t known
   pub agrees : KnownAgrees score c h t known
 
--- It is in use, with the entries of the history's blocks.
+-- The section is in use, with the entries of the history's blocks.
 pub record IsFinished {D : Type 0} (score : List ℕ → List ℕ) (disk : DiskOf D) (c : Setup)
     (h : History) (old new : SectionState D) : Type 0 where
   pub same : IsSameSection disk old new
@@ -129,7 +130,7 @@ pub record IsFinished {D : Type 0} (score : List ℕ → List ℕ) (disk : DiskO
   pub calls : disk.calls new.disk ≤ disk.calls old.disk + (2 * old.buckets + 5)
   pub all : DiskHolds disk old nothing_known → HoldsAll score disk c h new
 
--- It is still being built or, where a crash may leave the next head, it has all entries.
+-- The section is still being built or, where a crash may leave the next head, it has all entries.
 pub record IsStoppedBuild {D : Type 0} (score : List ℕ → List ℕ) (disk : DiskOf D) (c : Setup)
     (h : History) (old new : SectionState D) : Type 0 where
   pub same : IsSameSection disk old new

@@ -26,7 +26,7 @@ pub record HasGathered (score : List ℕ → List ℕ) (c : Setup) (h : History)
 abbrev pub IsGathered : (score : List ℕ → List ℕ) → Setup → History → Gathered → Type 0
 IsGathered score c h g = HasGathered score c h g.first g.end 0 g.entries.items
 
--- it stands in the order of the buckets
+-- What was gathered stands in the order of the buckets.
 abbrev pub IsInOrder : Gathered → Type 0
 IsInOrder g = IsOrdered g.total None g.entries.items
 

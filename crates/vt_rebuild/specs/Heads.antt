@@ -13,7 +13,7 @@ abbrev pub head_in : (state first count total mark : ℕ) → Head
 head_in state first count total mark =
     record { state = state; first = first; count = count; total = total; mark = mark }
 
--- its name, and how many buckets and bytes it has, stay
+-- The section's name stays, and how many buckets and bytes it has.
 pub record IsSameSection {D : Type 0} (disk : DiskOf D) (old new : SectionState D) : Type 0 where
   pub name : new.name ≡ old.name
   pub buckets : new.buckets ≡ old.buckets

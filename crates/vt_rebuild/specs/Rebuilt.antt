@@ -57,15 +57,15 @@ pub record IsRebuilt {D : Type 0} (score : List ℕ → List ℕ) (disk : DiskOf
   pub holds : DiskHolds disk new known
   pub agrees : KnownAgrees score c h new known
 
--- it is as it was, but that a call may have failed by which its head was to say that it is being
--- built
+-- The section is as it was, but that a call may have failed by which its head was to say that it is
+-- being built.
 abbrev pub IsUnwrittenSection : {D : Type 0} → DiskOf D → (first total : ℕ)
     → (old new : SectionState D)
     → Type 0
 IsUnwrittenSection disk first total old new = (new ≡ old)
     ⊎ (IsSameSection disk old new × StopsAtHead disk (head_in 2 first old.buckets total 0) old new)
 
--- its head says that it is being built, so that nothing in it counts
+-- The section's head says that it is being built, so that nothing in it counts.
 pub record IsBeingBuilt {D : Type 0} (disk : DiskOf D) (first total : ℕ) (old new : SectionState D)
     : Type 0 where
   pub same : IsSameSection disk old new
@@ -74,7 +74,8 @@ pub record IsBeingBuilt {D : Type 0} (disk : DiskOf D) (first total : ℕ) (old 
   pub holds : IsTrue disk.tells → DiskHolds disk old nothing_known
       → DiskHolds disk new nothing_known
 
--- or the next one, which says that it is in use: then the section agrees with the history already
+-- The section's head says that it is being built, and the next one, which is on its way, that it is
+-- in use: then the section agrees with the history already.
 pub record IsComing {D : Type 0} (score : List ℕ → List ℕ) (disk : DiskOf D) (c : Setup)
     (h : History) (first : ℕ) (old new : SectionState D) : Type 0 where
   pub same : IsSameSection disk old new
@@ -103,7 +104,7 @@ pub record EachSection {D : Type 0} (R : (first : ℕ) → (old new : SectionSta
   pub each : (i : ℕ) (old new : SectionState D) → slice_get olds i ≡ Some old
       → slice_get news i ≡ Some new → R (first_bucket (counts_of olds) i) old new
 
--- all of them are rebuilt
+-- All sections are rebuilt.
 abbrev pub AreRebuilt : {D : Type 0} → (List ℕ → List ℕ) → DiskOf D → Setup → History
     → (olds news : List (SectionState D)) → Type 0
 AreRebuilt score disk c h olds news = EachSection (IsRebuilt score disk c h) olds news
@@ -112,8 +113,8 @@ AreRebuilt score disk c h olds news = EachSection (IsRebuilt score disk c h) old
 abbrev pub MayBeInUse : {D : Type 0} → SectionState D → Type 0
 MayBeInUse t = (head : Head) × LeavesHead t head × (head.state ≡ 1)
 
--- All of them are left as one may be. Where a crash leaves all of them in use, all are as they were,
--- or all have their blocks' entries.
+-- All sections are left as one may be. Where a crash leaves all of them in use, all are as they
+-- were, or all have their blocks' entries.
 pub record AreHalfRebuilt {D : Type 0} (score : List ℕ → List ℕ) (disk : DiskOf D) (c : Setup)
     (h : History) (olds news : List (SectionState D)) : Type 0 where
   pub all : EachSection (IsHalfRebuilt score disk c h) olds news

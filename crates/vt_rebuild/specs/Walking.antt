@@ -31,7 +31,7 @@ TellsOfLog NoMemory = ⊥
 abbrev pub FaultOrMemory : RebuildBad → Type 0
 FaultOrMemory bad = (bad ≡ Fault) ⊎ (bad ≡ NoMemory)
 
--- or damage whose two values differ
+-- The refusal is a fault, want of memory, or damage whose two values differ.
 abbrev pub TellsOfReading : RebuildBad → Type 0
 TellsOfReading Fault = ⊤
 TellsOfReading (IndexFull bucket) = ⊥

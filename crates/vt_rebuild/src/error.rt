@@ -19,5 +19,6 @@ pub enum RebuildBad {
         want: FieldValue,
         found: FieldValue,
     },
+    /// Memory ran out.
     NoMemory,
 }

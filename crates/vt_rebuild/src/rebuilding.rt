@@ -87,7 +87,8 @@ pub fn rebuild<D: Disk, S: Scorer, G: Progress>(
     rebuild_on::<D, S, Brand, G>(alloc, log, sections, progress, Blank::new(1))
 }
 
-/// The same on a new ledger, in which steps are counted in contracts alone (`vt_base`).
+/// Rebuilds the index as `rebuild` does, on a new ledger, in which steps are counted in contracts
+/// alone (`vt_base`).
 fn rebuild_on<D: Disk, S: Scorer, L: Ledger, G: Progress>(
     alloc: Global,
     log: &mut Log<D, S>,

@@ -23,7 +23,7 @@ use Rattle.vt_shard.specs.Shard.{ShardState, mounted_shard}
 use Rattle.vt_shard.specs.Sound.{IsSoundFrom}
 use Rattle.vt_recover.specs.Refusals.{CountsRefusal}
 
--- it has a head, and room for a bucket
+-- The device has a section's head, and room for a bucket.
 pub record CanBeOpened {D : Type 0} (disk : DiskOf D) (device : D) : Type 0 where
   pub room : LEAST_LEN ≤ disk.size device
   pub name : List ℕ
@@ -64,7 +64,7 @@ pub record IsShardMade {D : Type 0} (disk : DiskOf D) (lumps clean : ℕ) (secti
       → IsTrue disk.tells → DiskHolds disk section known → KnownAgrees score c h section known
       → section.head.state ≡ 1 → IsSoundFrom score c disk s h (length h) (length h)
 
--- of these counts one rose where a fault is told, and else none
+-- Of these counts of failed calls one rose where a fault is told, and else none.
 abbrev pub CountsBack : {T X : Type 0} → Result T (MountBad × X) → (old new : List ℕ) → Type 0
 CountsBack (Ok opened) old new = new ≡ old
 CountsBack (Err refusal) old new = CountsRefusal refusal.0 old new
@@ -85,7 +85,8 @@ pub record IsFilterOpened {D : Type 0} (disk : DiskOf D) (device : D) (b : Bloom
   pub reads : OnlyReads disk 3 device b.disk
   pub faults : disk.faults b.disk ≡ disk.faults device
 
--- the same where there may be no device: then it has 2^16 bits, and a score 8 of them
+-- The filter that is saved on the device, if there is one, was found, with its bits; without a
+-- device there is one of 2^16 bits, of which a score has 8.
 abbrev pub OpensFilter : {D : Type 0} → DiskOf D → (device : Option D) → Option (BloomState D)
     → (bits : Filter) → Type 0
 OpensFilter disk None bloom bits = (bloom ≡ None) × (bits.m ≡ 16) × (bits.k ≡ 8)

@@ -55,14 +55,14 @@ pub record IsAtRestUnstopped {D : Type 0} (s : ShardState D) : Type 0 where
   pub stopped : s.section.stopped ≡ None
   pub writeback : s.writeback ≡ None
 
--- no call was made of it yet, and nothing is in its memory
+-- No call was made of the store yet, and nothing is in its memory.
 pub record IsUnused {D : Type 0} (s : ShardState D) : Type 0 where
   pub quiet : IsAtRestUnstopped s
   pub dirty : s.index.dirty ≡ []
   pub bucket : s.bucket ≡ None
   pub filed : s.filed ≡ 0
 
--- it keeps its place and its mark, the blocks in memory, and the room for clean entries
+-- The shard keeps its place and its mark, the blocks in memory, and the room for clean entries.
 pub record KeepsSection {D : Type 0} (disk : DiskOf D) (old new : ShardState D) : Type 0 where
   pub name : new.section.name ≡ old.section.name
   pub buckets : new.section.buckets ≡ old.section.buckets
@@ -71,15 +71,15 @@ pub record KeepsSection {D : Type 0} (disk : DiskOf D) (old new : ShardState D) 
   pub lumps : new.lumps ≡ old.lumps
   pub clean_room : new.index.clean_room ≡ old.index.clean_room
 
--- What it put into its buckets and what is dirty are entries of blocks below this number, and the
--- bits of the dirty ones are set.
+-- What the shard put into its buckets and what is dirty are entries of blocks below this number,
+-- and the bits of the dirty ones are set.
 pub record IsReadBack {D : Type 0} (bits : Filter) (below : ℕ) (s : ShardState D) : Type 0 where
   pub quiet : IsAtRestUnstopped s
   pub filed : s.filed ≤ below
   pub numbers : (info : Info) → Contains s.index.dirty info → info.number < below
   pub bits_of : (info : Info) → Contains s.index.dirty info → HasBitsOf bits info.key.score.0
 
--- each of them is
+-- Each of these shards is as it was read back.
 abbrev pub AreReadBack : {D : Type 0} → (bits : Filter) → (below : ℕ) → List (ShardState D)
     → Type 0
 AreReadBack {D} bits below shards = (i : ℕ) (s : ShardState D) → slice_get shards i ≡ Some s

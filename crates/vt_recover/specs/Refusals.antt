@@ -13,7 +13,7 @@ use Rattle.vt_bloom.specs.Faults.{RefusesFilterMount, NamesFilterCause}
 use Rattle.vt_log.specs.Faults.{OneHasRisen}
 use Rattle.vt_mount_errors.specs.MountErrors.{of_filter, of_section}
 
--- the device of a section, of which the first is this part of the store
+-- The device of a section is refused, of which the first is this part of the store.
 pub record SectionIsRefused {D : Type 0} (disk : DiskOf D) (part : ℕ) (devices : List D)
     (bad : MountBad) : Type 0 where
   pub i : ℕ
@@ -25,7 +25,7 @@ pub record SectionIsRefused {D : Type 0} (disk : DiskOf D) (part : ℕ) (devices
   pub refuses : IsTrue disk.tells → RefusesSectionMount (disk.size device)
       (current_frame head_place FRAME_LEN (disk.bytes device)) why
 
--- that of the filter, which is this part
+-- The device of the filter, which is this part of the store, is refused.
 pub record FilterIsRefused {D : Type 0} (disk : DiskOf D) (part : ℕ) (devices : List D)
     (bad : MountBad) : Type 0 where
   pub device : D

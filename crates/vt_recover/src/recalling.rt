@@ -61,7 +61,8 @@ pub fn read_back<D: Disk, S: Scorer>(
     read_back_on::<D, S, Brand>(log, shards, bits, least, part, Blank::new(1))
 }
 
-/// The same on a new ledger, in which steps are counted in contracts alone (`vt_base`).
+/// Reads the log back as `read_back` does, on a new ledger, in which steps are counted in contracts
+/// alone (`vt_base`).
 fn read_back_on<D: Disk, S: Scorer, L: Ledger>(
     log: &mut Log<D, S>,
     shards: &mut [Shard<D>],

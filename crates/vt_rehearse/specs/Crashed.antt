@@ -24,7 +24,7 @@ pub record IsImageLeft {D : Type 0} (disk : DiskOf D) (Leaves : CrashMode → D 
   pub only : Only (disk.bytes after) (disk.images after)
   pub size : disk.size after ≡ disk.size before
 
--- the same of a partition, which was mounted again
+-- The image that is left of a partition is one that this mode leaves, and it was mounted again.
 pub record IsLeftMounted {D : Type 0} (disk : DiskOf D) (Leaves : CrashMode → D → List ℕ → Type 0)
     (mode : CrashMode) (before after : Part D) : Type 0 where
   pub disks : IsImageLeft disk Leaves mode (disk_of before) (disk_of after)

@@ -25,7 +25,7 @@ summary_total s =
     s.events + s.writes + s.accepted + s.held + s.reads + s.found + s.missing + s.syncs
     + s.crashes + s.lost + s.compared
 
--- its numbers are this together at most, and so is each of them
+-- The numbers of the summary are this together at most, and so is each of them.
 abbrev pub AreAtMost : (most : ℕ) → Summary → Type 0
 AreAtMost most s = summary_total s ≤ most
 

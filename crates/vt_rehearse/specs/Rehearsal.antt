@@ -33,7 +33,7 @@ AsksForOperation m request = operation_of request ≡ m
 abbrev pub asked_by : (session : ℕ) → Asked → Event
 asked_by session request = Ask session request 0
 
--- it is compared whether this is so, and nothing else changes
+-- In the rehearsal it is compared whether this is so, and nothing else changes.
 abbrev pub NotesWhether : {D : Type 0} → (right : Type 0) → (old new : StageState D) → Type 0
 NotesWhether right old new = (is_right : Bool) × (IsTrue is_right ↔ right)
     × (new ≡ record old { summary = with_compared is_right old.summary })

@@ -43,7 +43,7 @@ round_at x = round_of (drawn x 16) (next_draw x)
 abbrev pub behind_round : (x : ℕ) → ℕ
 behind_round x = behind (drawn x 16) (next_draw x)
 
--- its sessions, words and shards are those that there are
+-- The sessions, words and shards of the round are those that there are.
 abbrev pub IsDrawn : Round → Type 0
 IsDrawn (Write session word) = (session < SESSIONS) × (word < WORDS)
 IsDrawn (Read session word) = (session < SESSIONS) × (word < WORDS)

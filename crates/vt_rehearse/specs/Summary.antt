@@ -37,7 +37,7 @@ pub record IsRehearsal {D : Type 0} (score : List ℕ → List ℕ) (disk : Disk
   pub looks : LooksUpAll score disk all_words last end
   pub summary : s ≡ record end.summary { blocks = history_len end.core }
 
--- the same on disks in memory, with scores by SHA-1
+-- The summary is that of a rehearsal on disks in memory, with scores by SHA-1.
 abbrev pub IsRehearsalOf : (seed count : ℕ) → Summary → Type 0
 IsRehearsalOf = IsRehearsal sha1 memory_disk LeavesMemory
 

@@ -16,11 +16,11 @@ word_of w = replicate (1 + 37 * w % 200) w
 abbrev pub WORD_MOST : ℕ
 WORD_MOST = 200
 
--- its block, of the type of data
+-- The block of a word, of the type of data.
 abbrev pub block_of_word : (w : ℕ) → Block
 block_of_word w = record { kind = 13; bytes = word_of w }
 
--- no two words have one score, and none has the zero score
+-- Under this scorer no two words have one score, and none has the zero score.
 pub record AreApart (score : List ℕ → List ℕ) : Type 0 where
   pub scores : (v w : ℕ) → v < WORDS → w < WORDS → score (word_of v) ≡ score (word_of w) → v ≡ w
   pub nonzero : (w : ℕ) → w < WORDS → score (word_of w) ≢ score []

@@ -45,6 +45,7 @@ impl<P: Plan> Crashable for MemDisk<P> {
 
     ghost leaves = { LeavesMemory };
 
+    /// The disk that a crash in this mode leaves.
     fn crashed(self, mode: CrashMode) -> Self {
         self.crash_in(mode)
     }

@@ -21,7 +21,7 @@ impl Model for Draws {
 }
 
 impl Draws {
-    /// Those that follow from this number.
+    /// The draws that follow from this number.
     pub fn new(seed: u64) -> Self
         ensures { result ≡ seed }
     {

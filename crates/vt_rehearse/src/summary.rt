@@ -10,15 +10,15 @@ pub struct Summary {
     pub events: u64,
     /// Writes.
     pub writes: u64,
-    /// Those that added a block.
+    /// How many writes added a block.
     pub accepted: u64,
-    /// Those of a block that the store held.
+    /// How many writes were of a block that the store held.
     pub held: u64,
     /// Reads.
     pub reads: u64,
-    /// Those that gave a block.
+    /// How many reads gave a block.
     pub found: u64,
-    /// Those for which there was none.
+    /// How many reads there was no block for.
     pub missing: u64,
     /// How many syncs were answered.
     pub syncs: u64,

@@ -41,7 +41,7 @@ impl Word {
         Word { bytes, len }
     }
 
-    /// Its bytes.
+    /// The bytes of a word.
     pub fn as_slice(&self) -> &[u8]
         ensures { result.now ≡ self.now }
     {

@@ -58,7 +58,7 @@ pub record Meets {L : Type 0} (link : LinkOf L) (score_of : List ℕ → List �
   pub sides : CountsSides {T = Unit {0}} link made c.link (Ok tt)
   pub client : c ≡ fresh_client c.link
 
--- or the greeting failed, for this cause
+-- A server was met in vain: the link was made, and the greeting failed, for this cause.
 pub record MeetsInVain {L : Type 0} (link : LinkOf L) (score_of : List ℕ → List ℕ)
     (why : ClientErr) (back : L) : Type 0 where
   pub made : L

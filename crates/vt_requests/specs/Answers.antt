@@ -38,7 +38,7 @@ pub record KeepsStopped {D : Type 0} (failed : Type 0) (old new : CoreState D) :
 
 -- ---- the answer
 
--- what it comes to for who asked for a sync
+-- What a commit comes to for who asked for a sync.
 abbrev pub done : Said → Result (Unit {0}) Why
 done (Refused why) = Err why
 done (Score given) = Ok tt

@@ -33,7 +33,7 @@ abbrev pub stops_in : {D : Type 0} → CoreState D → List (Part × ℕ)
 stops_in k = map (λ call. (log, call)) (option_to_list k.log.stopped)
     ++ section_stops 0 (map (λ s. s.section.stopped) k.shards)
 
--- what it tells of itself: nobody else adds blocks to it
+-- What a driven store tells of itself: nobody else adds blocks to it.
 abbrev pub condition_of : {D : Type 0} → DiskOf D → DrivenState D → Condition
 condition_of disk d = record {
   setup = setup_of d.core;
@@ -43,7 +43,7 @@ condition_of disk d = record {
   durable = d.core.log.durable;
 }
 
--- its devices tell what they hold, and are sound for this history
+-- The devices of the store tell what they hold, and are sound for this history.
 abbrev pub HoldsOn : {D : Type 0} → (List ℕ → List ℕ) → DiskOf D → DrivenState D → History
     → Type 0
 HoldsOn score disk d h = IsTrue disk.tells × IsSound score disk d.core h

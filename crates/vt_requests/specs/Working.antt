@@ -31,7 +31,7 @@ IsOwnWork (AskAnswer session) = ⊥
 IsOwnWork (EvictLump shard) = ⊥
 IsOwnWork (EvictIndex shard) = ⊥
 
--- it went on, or there was nothing to do
+-- The store went on, or there was nothing to do.
 abbrev pub WentOn : Out → Type 0
 WentOn Moved = ⊤
 WentOn Nothing = ⊤
@@ -139,7 +139,8 @@ left_in durable s None = if has_work durable s then most_left s else 0
 left_in durable s (Some below) = calls_left s.section
     + (if nat_lt below durable || nat_lt s.section.next.mark durable then most_left s else 0)
 
--- And those that it takes until it has spare: one of the log may bring something to write back.
+-- The steps that a shard takes at most until it has nothing to write back, and those that the log
+-- takes until it has spare: one of the log may bring something to write back.
 abbrev pub left_with : {D : Type 0} → LogState D → ShardState D → ℕ
 left_with log s = owed log * (most_left s + 1) + left_in log.durable s s.writeback
 

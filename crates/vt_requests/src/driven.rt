@@ -70,6 +70,8 @@ impl<D: Disk, S: Scorer> Store for Driven<D, S> {
     ghost durable_is_held = { λ d h hold. subst (λ n. d.core.log.durable ≤ n) hold.1.log.front
         (le-add_right d.core.log.durable (queued d.core.log)) };
 
+    /// Asks the store as its first session, and drives it until it has answered; a block gets the
+    /// time that is kept here.
     fn ask(&mut self, alloc: Global, operation: Operation<'_>) -> Said {
         let operation = asked_for(operation);
         ask(&mut self.core, alloc, 0, operation, self.now).said

@@ -43,7 +43,7 @@ HearsFrame left body item =
     bodies rest items ended
     → Hears left.offered left.greeted left.place (body ∷ bodies) rest (item ∷ items) ended
 
--- it ends what is heard
+-- The frame ends what is heard.
 abbrev pub EndsAtFrame : Unheard → List ℕ → Ended → Type 0
 EndsAtFrame left body ended =
     (bodies : List (List ℕ)) (rest : List ℕ)

@@ -25,7 +25,7 @@ abbrev pub HearsAll : List ℕ → List ℕ → List Turn → Ended → Type 0
 HearsAll input output turns ended =
     Heard input (items_of_turns turns) ended × (output ≡ output_of turns)
 
--- the same, where the input itself doesn't end the session
+-- Everything that was taken was heard and answered, and the input itself doesn't end the session.
 abbrev pub BreaksOff : List ℕ → List ℕ → List Turn → Type 0
 BreaksOff input output turns = HearsAll input output turns Closed ⊎ HearsAll input output turns Cut
 
@@ -80,7 +80,8 @@ over_both first next = record { before = first.before; after = next.after; stops
 
 -- ---- a link to which nobody else adds
 
--- The same where nobody else adds blocks, from history `before` to history `after`.
+-- A link's bytes are answered by one history, to which nobody else adds blocks, from history
+-- `before` to history `after`.
 pub record Alone (score : List ℕ → List ℕ) (c : Setup) (faults : Faults) (before : History)
     (input output : List ℕ) (turns : List Turn) (ended : Ended) (after : History) : Type 0 where
   pub carried : Carries input output turns ended
@@ -94,7 +95,7 @@ AnswersAll WriteFault = ⊥
 AnswersAll NoMemory = ⊥
 AnswersAll ended = ⊤
 
--- its input ended it
+-- The input of the link ended it.
 abbrev pub EndsByInput : Ended → Type 0
 EndsByInput Goodbye = ⊤
 EndsByInput Closed = ⊤

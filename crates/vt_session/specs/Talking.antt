@@ -50,7 +50,7 @@ line_heard bytes (Whole len offered) =
 line_heard bytes More = at_line bytes
 line_heard bytes (Bad place) = behind_line (over (Malformed place))
 
--- the same where a client's line may be whole with them
+-- The stage with one piece more that came in, where a client's line may be whole with it.
 abbrev pub fed_stage : Stage → List ℕ → Stage
 fed_stage (at_line bytes) piece = line_heard (bytes ++ piece) (line_of (bytes ++ piece))
 fed_stage (behind_line hearing) piece = behind_line (with_more hearing piece)
@@ -79,13 +79,13 @@ needs_more (behind_line (over ended)) = false
 abbrev pub IsOpen : Stage → Type 0
 IsOpen stage = HearsStage stage [] Closed ⊎ HearsStage stage [] Cut
 
--- this comes next, whatever comes in behind: the first message, or the end
+-- What comes next, whatever comes in behind: the first message, or the end.
 abbrev pub IsNextHeard : Stage → Next → Type 0
 IsNextHeard (at_line bytes) next = ⊥
 IsNextHeard (behind_line (going_on left)) next = (len : ℕ) × IsFrontFrame left next len
 IsNextHeard (behind_line (over ended)) next = next ≡ End ended
 
--- it ends a session whatever comes in behind
+-- What is heard next ends a session whatever comes in behind.
 abbrev pub EndsAnyhow : Ended → Type 0
 EndsAnyhow Goodbye = ⊤
 EndsAnyhow (Malformed place) = ⊤

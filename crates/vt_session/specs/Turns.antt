@@ -24,7 +24,7 @@ item_of_turn (told tag reply) = settled tag reply
 item_of_turn (served tag operation number outcome) = asked tag operation
 item_of_turn (failed tag operation number cause) = asked tag operation
 
--- the bytes of the reply
+-- The bytes of the reply of a turn.
 abbrev pub spelled_turn : Turn → List ℕ
 spelled_turn (told tag reply) = spelled_reply tag reply
 spelled_turn (served tag operation number outcome) = spelled_reply tag outcome.reply
@@ -44,7 +44,7 @@ server_line = codes "venti-02-rattle" ++ 10 ∷ []
 abbrev pub said_pieces : List Turn → List (List ℕ)
 said_pieces turns = server_line ∷ map spelled_turn turns
 
--- all bytes that go out
+-- All bytes that go out for these turns, the server's line in front.
 abbrev pub output_of : List Turn → List ℕ
 output_of turns = server_line ++ flat_map spelled_turn turns
 
@@ -65,7 +65,7 @@ added_number (served tag operation number outcome) =
     map (λ _. number) (option_to_list outcome.added)
 added_number (failed tag operation number cause) = []
 
--- the same of each turn that added one
+-- Of each turn that added a block, of how many blocks its answer tells.
 abbrev pub added_numbers : List Turn → List ℕ
 added_numbers turns = flat_map added_number turns
 

@@ -19,7 +19,7 @@ pub struct Waiting {
     buffer: Vec<u8>,
     /// The bytes that wait are those of the buffer from here on.
     start: usize,
-    /// And up to here.
+    /// The place behind the last of these bytes.
     end: usize,
 }
 
@@ -35,7 +35,7 @@ impl Model for Waiting {
 }
 
 impl Waiting {
-    /// None wait. The buffer's memory is taken here, and no other.
+    /// A buffer in which no bytes wait. Its memory is taken here, and no other.
     pub fn new(alloc: Global) -> Result<Self, AllocError>
         ensures { IfOk result (λ waiting. waiting ≡ []) }
     {

@@ -62,7 +62,8 @@ pub record LooksUp {D : Type 0} (disk : DiskOf D) (key : Key)
       → IfOk result (IsFoundIn new.bucket (bucket_at old key.score.0) (λ entry. entry.key ≡ key))
   pub looks : Looks disk (bucket_at old key.score.0) result (looked key old) new
 
--- the same of `others`, which finds an entry of a score under any type
+-- What `others` makes of a shard, whatever the disk holds. It finds an entry of a score under any
+-- type.
 pub record FindsOther {D : Type 0} (disk : DiskOf D) (score : List ℕ)
     (result : Result (Option Entry) ShardErr) (old new : ShardState D) : Type 0 where
   pub in_memory : KeepsScore old.index score → (new ≡ old) × IsOkAnd result (λ found.
@@ -71,7 +72,8 @@ pub record FindsOther {D : Type 0} (disk : DiskOf D) (score : List ℕ)
       (bucket_at old score) (λ entry. entry.key.score.0 ≡ score))
   pub looks : Looks disk (bucket_at old score) result old new
 
--- the same of `crowd`, which counts the entries of bucket n as it was read, and its dirty ones
+-- What `crowd` makes of a shard, whatever the disk holds. It counts the entries of bucket n as it
+-- was read, and its dirty ones.
 pub record CountsCrowd {D : Type 0} (disk : DiskOf D) (n : ℕ) (result : Result ℕ ShardErr)
     (old new : ShardState D) : Type 0 where
   pub in_bucket : IfOk result (λ count. MatchOption new.bucket ⊥ (λ bucket. (bucket.number ≡ n)

@@ -9,7 +9,7 @@ use Rattle.vt_model.specs.History.{History, HasScoreAt, HasKeyAt}
 use Rattle.vt_model.specs.Places.{Setup}
 use Rattle.vt_shard.specs.Shard.{ReadBucket}
 
--- block i has this key
+-- Block i of the history has this key.
 abbrev pub HasKeyOf : (List ℕ → List ℕ) → History → (i : ℕ) → Key → Type 0
 HasKeyOf score h i key = HasKeyAt score h i key.score.0 key.kind
 
@@ -20,13 +20,14 @@ abbrev pub FindsEntry : (List ℕ → List ℕ) → Setup → History → (from 
 FindsEntry score c h from key None = (i : ℕ) → from ≤ i → ¬ HasKeyOf score h i key
 FindsEntry score c h from key (Some entry) = (entry.key ≡ key) × IsEntryOfBlock score c h entry
 
--- the same for a score under any type
+-- The search for a score under any type: None says that none of the blocks from this number on has
+-- it; an entry is that of a block that does.
 abbrev pub FindsScore : (List ℕ → List ℕ) → Setup → History → (from : ℕ) → List ℕ → Option Entry
     → Type 0
 FindsScore score c h from s None = (i : ℕ) → from ≤ i → ¬ HasScoreAt score h i s
 FindsScore score c h from s (Some entry) = (entry.key.score.0 ≡ s) × IsEntryOfBlock score c h entry
 
--- these are the bytes of the block that has the key
+-- These are the bytes of the block of the history that has the key.
 abbrev pub IsLumpOf : (List ℕ → List ℕ) → History → Key → (bytes : List ℕ) → Type 0
 IsLumpOf score h key bytes =
     (i : ℕ) × (it : HasKeyOf score h i key) × (bytes ≡ it.block.block.bytes)

@@ -41,7 +41,7 @@ pub record ShardState (D : Type 0) : Type 0 where
   pub filed : ℕ
   pub ended_at : Option ℕ
 
--- it is a dirty entry
+-- The entry is one of the shard's dirty ones.
 abbrev pub IsDirty : {D : Type 0} → ShardState D → Entry → Type 0
 IsDirty t entry = (info : Info) × Contains t.index.dirty info × (entry_of info ≡ entry)
 

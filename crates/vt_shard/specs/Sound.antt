@@ -37,7 +37,7 @@ pub record IsEntryFiled {D : Type 0} (t : ShardState D) (known : KnownBuckets) (
 -- lack their entries, as while a log is read back from its end.
 pub record IsSoundFrom {D : Type 0} (score : List ℕ → List ℕ) (c : Setup) (disk : DiskOf D)
     (t : ShardState D) (h : History) (durable from : ℕ) : Type 0 where
-  -- no two blocks have one key
+  -- No two blocks of the history have one key.
   pub keys : AllPairs (HasOtherKey score) h
   pub durable_fits : durable ≤ length h
   -- Of the buckets something is known, and this agrees with the durable blocks: each entry that is
@@ -67,20 +67,22 @@ pub record IsSoundFrom {D : Type 0} (score : List ℕ → List ℕ) (c : Setup) 
   pub lumps : (key : Key) (bytes : List ℕ) → Contains t.lumps.entries (key, bytes)
       → IsLumpOf score h key bytes
 
--- the same where no block lacks its entry
+-- The disk is sound for a shard that has the blocks of a history, of which so many are durable, and
+-- no block lacks its entry.
 abbrev pub IsSoundShard : {D : Type 0} → (List ℕ → List ℕ) → Setup → DiskOf D → ShardState D
     → History
     → (durable : ℕ) → Type 0
 IsSoundShard score c disk t h durable = IsSoundFrom score c disk t h durable 0
 
--- and the bucket of this key lacks it
+-- The disk is sound for a shard of which the first `from` blocks may lack their entries, and the
+-- bucket of this key has no entry of it.
 abbrev pub IsSoundWithout : {D : Type 0} → (List ℕ → List ℕ) → Setup → DiskOf D → ShardState D
     → History → (durable from : ℕ) → Key → Type 0
 IsSoundWithout score c disk t h durable from key =
     (s : IsSoundFrom score c disk t h durable from)
     × ((entries : List Entry) → IsBucketOf t s.known key entries → ¬ HasKey (Contains entries) key)
 
--- for each history for which the disk was sound it is sound afterwards
+-- For each history for which the shard's disk was sound it is sound afterwards.
 abbrev pub KeepsSound : {D : Type 0} → DiskOf D → (old new : ShardState D) → Type 0
 KeepsSound disk old new = (score : List ℕ → List ℕ) (c : Setup) (h : History) (durable from : ℕ)
     → IsSoundFrom score c disk old h durable from → IsSoundFrom score c disk new h durable from
@@ -104,7 +106,8 @@ pub record IsLiveSection (score : List ℕ → List ℕ) (c : Setup) (h : Histor
   pub at_place : OnlyMark place head
   pub agrees : AgreesWith score c h buckets head entries
 
--- the same of the disk of a shard
+-- The file, of the disk of this shard, is a section in use, of the shard's name and at its place
+-- among the sections, that agrees with a history.
 abbrev pub LeavesLive : {D : Type 0} → (List ℕ → List ℕ) → Setup → History → ShardState D
     → (file : List ℕ) → Type 0
 LeavesLive score c h t file =

@@ -137,8 +137,8 @@ pub record ShardTakesStep {D : Type 0} (result : Result Step ShardErr) (old new 
 
 -- ---- what it reads and writes
 
--- where it tells, this is the frame of the bucket under way that a selector with this first byte
--- names
+-- Where the disk tells, this is the frame of the bucket under way that a selector with this first
+-- byte names.
 abbrev pub IsFrameOf : {D : Type 0} → DiskOf D → SectionState D → (selector : ℕ) → (frame : List ℕ)
     → Type 0
 IsFrameOf disk t selector frame = (region : Region) → IsTrue disk.tells
@@ -158,7 +158,7 @@ pub record ReadsFrame {D : Type 0} (disk : DiskOf D) (result : Result Step Shard
       × IsDamage old.section.bucket (entering old.section) read bad
       × IsFrameOf disk old.section s read)
 
--- It makes one device call or, where it is stopped, none.
+-- A step of a shard makes one device call or, where it is stopped, none.
 pub record ShardMakesCall {D : Type 0} (disk : DiskOf D) (result : Result Step ShardErr)
     (old new : ShardState D) : Type 0 where
   pub faults : CountsFault is_section_fault result (disk.faults old.section.disk)

@@ -134,7 +134,7 @@ impl<D: Disk> Shard<D> {
         Ok(())
     }
 
-    /// The same where nobody counts the steps.
+    /// Reads the frame of this bucket as `read` does, where nobody counts the steps.
     fn read_uncounted(&mut self, number: u32) -> Result<(), ShardErr>
         requires in_range { InRange self.old.section.head self.old.section.buckets number }
         ensures has { OnOk result (HasRead self.new number) }
@@ -144,7 +144,8 @@ impl<D: Disk> Shard<D> {
         self.read_on::<Brand>(number, Blank::new(1))
     }
 
-    /// The same on a new ledger, in which steps are counted in contracts alone (`vt_base`).
+    /// Reads the frame of this bucket as `read` does, on a new ledger, in which steps are counted
+    /// in contracts alone (`vt_base`).
     fn read_on<L: Ledger>(&mut self, number: u32, blank: Blank) -> Result<(), ShardErr>
         requires in_range { InRange self.old.section.head self.old.section.buckets number }
         requires name { blank.name ≡ L.name }
@@ -159,7 +160,7 @@ impl<D: Disk> Shard<D> {
     }
 }
 
-/// The number of the bucket that was read.
+/// The number of the bucket that was read; None where none is.
 fn number_of(bucket: &Option<Bucket>) -> Option<u32>
     ensures { result ≡ option_map (λ b. number_of_bucket b) bucket.now }
 {
@@ -180,7 +181,7 @@ fn len_of(bucket: &Option<Bucket>) -> u32
     }
 }
 
-/// The entry of a key in the bucket that was read.
+/// The entry of a key in the bucket that was read, or None where it has none.
 fn find_in(bucket: &Option<Bucket>, key: &Key) -> Option<Entry>
     ensures { IsOneOf (option_map_or bucket_entries bucket.now [])
         (λ entry. entry.key ≡ key.now) result }
@@ -191,7 +192,7 @@ fn find_in(bucket: &Option<Bucket>, key: &Key) -> Option<Entry>
     }
 }
 
-/// An entry of this score, of any type, in the bucket that was read.
+/// An entry of this score, of any type, in the bucket that was read, or None where it has none.
 fn find_score_in(bucket: &Option<Bucket>, score: &Score) -> Option<Entry>
     ensures { IsOneOf (option_map_or bucket_entries bucket.now [])
         (λ entry. entry.key.score.0 ≡ score.now.0) result }
@@ -202,7 +203,7 @@ fn find_score_in(bucket: &Option<Bucket>, score: &Score) -> Option<Entry>
     }
 }
 
-/// One of these entries of a score.
+/// One of these entries that has the score; None where none does.
 fn entry_of_score(entries: &[Entry], score: &Score) -> Option<Entry>
     ensures { IsOneOf entries.now (λ entry. entry.key.score.0 ≡ score.now.0) result }
 {

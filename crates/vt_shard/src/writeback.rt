@@ -247,7 +247,8 @@ fn end_at_rest<D: Disk>(
     *ended_at = bucket;
 }
 
-/// The memory for the entries of a writeback, which the section at rest hands back.
+/// The memory for the entries of a writeback, which the section at rest hands back; None where it
+/// has none.
 fn take_back<D: Disk>(section: &mut Section<D>) -> Option<Vec<Entry>>
     requires { IsAtRest section.old }
     ensures taken { section.new ≡ record section.old { entries = None } }
@@ -275,7 +276,7 @@ fn fill(list: &mut Vec<Entry>, dirty: &[Info], below: u64)
     }
 }
 
-/// The least number above those of all dirty entries.
+/// The least number above those of all dirty entries; None where there are none.
 fn above_all(dirty: &[Info]) -> Option<u64>
     requires { All (λ info. info.number < 2 ^ 64 - 1) dirty.now }
     ensures some { IfSome result (IsAboveAll dirty.now) }

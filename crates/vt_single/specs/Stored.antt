@@ -25,7 +25,8 @@ abbrev pub as_stored : {T : Type 0} → Result T Why → Result T StoredError
 as_stored (Ok value) = Ok value
 as_stored (Err why) = Err (Refused why)
 
--- That was done, with this result; or the store wasn't opened, for its cause.
+-- The store of a configuration was opened and used so, with this result; or it wasn't opened, for
+-- its cause.
 abbrev pub UsesStore : {D T : Type 0} → (List ℕ → List ℕ) → DiskOf D → (told : Type 0) → Conf
     → (Does : Result T Why → (opened left : CoreState D) → Type 0)
     → (old new : List ℕ → Standing D) → (faults faults' : ℕ) → Result T StoredError → Type 0

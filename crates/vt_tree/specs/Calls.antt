@@ -17,7 +17,7 @@ pub data Call : Type 0 where
   put : Block → Result Score BlockErr → Call
   sync : Result (Unit {0}) BlockErr → Call
 
--- what is asked by it (venti(6): Tread, Twrite, Tsync)
+-- The request of a write that puts this block (venti(6)).
 abbrev pub write_of_block : Block → Operation
 write_of_block b = write b.kind b.bytes
 
@@ -27,7 +27,7 @@ asked_of (get kind s answer) = read s kind MAX_BLOCK
 asked_of (put b answer) = write_of_block b
 asked_of (sync answer) = sync_all
 
--- it asks for a block
+-- The call asks for a block.
 abbrev pub IsGet : Call → Type 0
 IsGet (get kind s answer) = ⊤
 IsGet (put b answer) = ⊥
@@ -48,7 +48,7 @@ refusal_of (sync (Err err)) = Some err
 abbrev pub refusals_of : List Call → List BlockErr
 refusals_of calls = filter_map refusal_of calls
 
--- it is neither a fault nor want of memory
+-- The error is neither a fault nor want of memory.
 abbrev pub IsBlockRefusal : BlockErr → Type 0
 IsBlockRefusal Fault = ⊥
 IsBlockRefusal (Refused text) = ⊤

@@ -113,7 +113,8 @@ way_through leaves score_at way first end = flat_map
     (λ s. way s (first - place * leaves) (min (end - place * leaves) leaves)))
     (range_with_len (first / leaves) ((end - 1) / leaves + 1 - first / leaves))
 
--- the same below a score, that one's block first; there is no block below the zero score
+-- The blocks on the way to the leaves from `first` up to `end`, below a score, that one's block
+-- first; there is no block below the zero score.
 abbrev pub way_below : (zero_score : List ℕ) → BlockMap → Entry → (depth : ℕ) → (score : List ℕ)
     → (first end : ℕ) → List Operation
 way_below zero_score map e zero score first end =

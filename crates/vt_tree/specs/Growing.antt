@@ -55,7 +55,8 @@ pub record TakesNextLeaf (dsize : ℕ) (old new : Next) (taken : List ℕ → Ty
   pub size : new.size ≡ old.size + length bytes
   pub next : IsNextLeaf dsize new
 
--- or the source, from which these come, failed, or has too many bytes; behind its end it isn't asked
+-- The next leaf wasn't taken: the source, from which these bytes come, failed, or it has too many.
+-- Behind its end it isn't asked.
 pub record StopsAhead (old : Next) (coming : List ℕ → Type 0) (err : TreeErr) : Type 0 where
   pub going : old.ended ≡ false
   pub own : refusal_in err ≡ None
@@ -110,8 +111,8 @@ pub record WritesTree {S : Type 0} (does : S → Call → S → Type 0) (score_o
   pub puts : map asked_of calls
       ≡ map write_of_block (stream_of score_of shape (old.leaf ++ bytes)).blocks
 
--- It was given up: of the tree of the leaf that was taken and of all that comes, the first blocks
--- were put.
+-- The stream was given up: of the tree of the leaf that was taken and of all that comes, the first
+-- blocks were put.
 pub record StopsStream {S : Type 0} (does : S → Call → S → Type 0) (score_of : List ℕ → List ℕ)
     (s s' : S) (shape : Shape) (old : Next) (coming : List ℕ → Type 0) (err : TreeErr)
     : Type 0 where
@@ -125,7 +126,7 @@ pub record StopsStream {S : Type 0} (does : S → Call → S → Type 0) (score_
   pub puts : map asked_of calls ++ map write_of_block rest
       ≡ map write_of_block (stream_of score_of shape (old.leaf ++ bytes)).blocks
 
--- It was given up: of the tree of these, as far as it reaches, the first blocks were put.
+-- The tree was given up: of the tree of these, as far as it reaches, the first blocks were put.
 pub record StopsTree {S : Type 0} (does : S → Call → S → Type 0) (score_of : List ℕ → List ℕ)
     (s s' : S) (shape : Shape) (depth : ℕ) (old : Next) (coming : List ℕ → Type 0)
     (first : List (List ℕ)) (written : List Block) (err : TreeErr) : Type 0 where
@@ -149,7 +150,7 @@ pub record HasFirst (score_of : List ℕ → List ℕ) (shape : Shape) (depth : 
   pub full : 0 < length next.leaf → length leaves ≡ scores_in shape.psize ^ depth
   pub score_is : score.0 ≡ (tree_of score_of shape depth leaves).score
 
--- it is the answer to a call, or want of memory
+-- The error is the answer to a call, or want of memory.
 abbrev pub IsOfCall : TreeErr → Type 0
 IsOfCall (BlockRefused err) = ⊤
 IsOfCall SourceFault = ⊥

@@ -4,7 +4,8 @@ use Rattle.vt_tree.specs.declared.error.BlockErr.{BlockErr}
 use Rattle.vt_tree.specs.Calls.{Call, refusal_of, refusals_of, TellsOfMap, after}
 use Rattle.vt_tree.specs.Maps.{Maps}
 
--- it was called for these, in this order, answered so, and wasn't called for anything else
+-- The store of blocks was called for these, in this order, answered so, and wasn't called for
+-- anything else.
 abbrev pub Makes : {S : Type 0} → (does : S → Call → S → Type 0) → S → List Call → S → Type 0
 Makes does s [] last = last ≡ s
 Makes {S} does s (call ∷ calls) last = (next : S) × does s call next × Makes does next calls last
@@ -17,7 +18,7 @@ pub record IsRefusedLast (err : BlockErr) (calls : List Call) : Type 0 where
   pub accepted : refusals_of before ≡ []
   pub refused : refusal_of last ≡ Some err
 
--- they were all answered; or the last was refused so, and nothing was called behind it
+-- The calls were all answered; or the last was refused so, and nothing was called behind it.
 abbrev pub EndsBy : Option BlockErr → List Call → Type 0
 EndsBy None calls = refusals_of calls ≡ []
 EndsBy (Some err) calls = IsRefusedLast err calls

@@ -27,7 +27,7 @@ with_blocks score_of (b ∷ blocks) map = with_blocks score_of blocks (with_bloc
 abbrev pub Has : (score_of : List ℕ → List ℕ) → BlockMap → Block → Type 0
 Has score_of map b = map (score_of b.bytes) b.kind ≡ Some b.bytes
 
--- what it has under the block's score, under any type, are the block's bytes
+-- What the map has under the block's score, under any type, are the block's bytes.
 abbrev pub HasNoOther : (score_of : List ℕ → List ℕ) → BlockMap → Block → Type 0
 HasNoOther score_of map b =
     (kind : ℕ) (bytes : List ℕ) → map (score_of b.bytes) kind ≡ Some bytes → bytes ≡ b.bytes

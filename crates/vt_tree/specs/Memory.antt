@@ -33,7 +33,7 @@ pub record BlocksMemory : Type 0 where
 abbrev pub block_of : Stored → Block
 block_of b = record { kind = b.key.kind; bytes = b.bytes }
 
--- it is kept under its own score, and isn't too long
+-- The block is kept under its own score, and isn't too long.
 pub record IsKeptBlock (score_of : List ℕ → List ℕ) (b : Stored) : Type 0 where
   pub own : b.key.score.0 ≡ score_of b.bytes
   pub most : length b.bytes ≤ MAX_BLOCK
@@ -46,7 +46,8 @@ map_of score_of blocks = with_blocks score_of blocks (no_blocks score_of)
 abbrev pub held_in : (score_of : List ℕ → List ℕ) → BlocksMemory → BlockMap
 held_in score_of m = map_of score_of m.blocks
 
--- it holds these maps; one that refuses on demand, be the block there or not, tells none
+-- The store of blocks in memory holds these maps; one that refuses on demand, be the block there or
+-- not, tells none.
 pub record HoldsInMemory (score_of : List ℕ → List ℕ) (m : BlocksMemory) (maps : Maps)
     : Type 0 where
   pub held : (s : List ℕ) (kind : ℕ) → maps.held s kind ≡ held_in score_of m s kind
@@ -120,7 +121,7 @@ blocks_after score_of m (put b (Ok score)) =
 blocks_after score_of m (put b (Err err)) = m.blocks
 blocks_after score_of m (sync answer) = m.blocks
 
--- how many of them are synced after it
+-- How many of the blocks are synced after a call.
 abbrev pub synced_after : BlocksMemory → Call → ℕ
 synced_after m (get kind s answer) = m.synced
 synced_after m (put b answer) = m.synced

@@ -26,7 +26,7 @@ unfit_by None size = if nat_lt (2 ^ 40) size then Some errs.TooLong else None
 abbrev pub unfit : Entry → Option TreeErr
 unfit e = unfit_by (entry_fault e) (size_of e)
 
--- it is neither about a block nor want of memory
+-- The refusal is neither about a block nor want of memory, but about the entry.
 abbrev pub IsOfEntry : TreeErr → Type 0
 IsOfEntry (errs.Block err) = ⊥
 IsOfEntry errs.SourceFault = ⊤
@@ -81,7 +81,7 @@ EndsBadlyBy e (errs.BadBlock depth len) calls = IsBadLast e depth len calls
 EndsBadlyBy e errs.TooLong calls = ⊤
 EndsBadlyBy e errs.NoMemory calls = ⊤
 
--- where it fails, the calls that were made show why
+-- Where a read fails, the calls that were made show why.
 abbrev pub EndsBadly : {X : Type 0} → Entry → Result X TreeErr → List Call → Type 0
 EndsBadly e (Ok x) calls = ⊤
 EndsBadly e (Err err) calls = EndsBadlyBy e err calls

@@ -64,7 +64,8 @@ pub record AppendsRange {S : Type 0} (does : S → Call → S → Type 0) (score
       → AllByRecursion (TellsOfMap score_of blocks) calls
       → GivesBytes (byte blocks) from len (answered_bytes result bytes)
 
--- the same below a score
+-- What lies below a score in the range was appended to a buffer, and the blocks on the way there
+-- were asked for.
 abbrev pub ReadsBelow : {S : Type 0} → (does : S → Call → S → Type 0)
     → (score_of : List ℕ → List ℕ) → (s s' : S) → Entry → (depth : ℕ) → (score : List ℕ)
     → (from len : ℕ) → (old new : List ℕ) → Result (Unit {0}) TreeErr → Type 0
@@ -75,7 +76,7 @@ ReadsBelow does score_of s s' e depth score from len old new result =
     ((from + len - 1) / e.dsize + 1))
     from len old new result
 
--- and below the scores of a pointer block, each of which leads d blocks further down
+-- What `byte` gives below the scores of a pointer block, each of which leads d blocks further down.
 abbrev pub byte_under : BlockMap → Entry → (d : ℕ) → (pointers : List ℕ) → (p : ℕ)
     → Result ℕ ContentError
 byte_under blocks e d pointers p =
@@ -94,7 +95,7 @@ ReadsEach does score_of s s' e d pointers from len old new result =
     (way_below (score_of []) blocks e d) (from / e.dsize) ((from + len - 1) / e.dsize + 1))
     from len old new result
 
--- and below one of them
+-- What lies below one of these pointers in the range is put behind what was read.
 abbrev pub ReadsAt : {S : Type 0} → (does : S → Call → S → Type 0)
     → (score_of : List ℕ → List ℕ) → (s s' : S) → Entry → (d : ℕ) → (pointers : List ℕ)
     → (from len : ℕ) → (old new : List ℕ) → Result (Unit {0}) TreeErr → Type 0
@@ -108,7 +109,7 @@ ReadsAt does score_of s s' e d pointers from len old new result =
     ((inside + len - 1) / e.dsize + 1)))
     from len old new result
 
--- and of the whole file
+-- What lies in the range of the whole file is put behind what was read.
 abbrev pub ReadsFile : {S : Type 0} → (does : S → Call → S → Type 0)
     → (score_of : List ℕ → List ℕ) → (s s' : S) → Entry
     → (from len : ℕ) → (old new : List ℕ) → Result (Unit {0}) TreeErr → Type 0

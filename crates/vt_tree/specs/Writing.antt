@@ -58,7 +58,7 @@ IsGivenUpFor (BadBlock depth bytes) len = ⊥
 IsGivenUpFor TooLong len = 2 ^ 40 < len
 IsGivenUpFor NoMemory len = ⊤
 
--- whether it tells of a failed read of what is written
+-- Whether an error tells of a failed read of what is written.
 abbrev pub is_source_fault : TreeErr → Bool
 is_source_fault (BlockRefused err) = false
 is_source_fault SourceFault = true

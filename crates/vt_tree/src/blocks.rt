@@ -28,12 +28,14 @@ pub trait Blocks: Scorer {
     /// memory.
     ghost counts: { Self → Counts };
 
-    /// The block of this type and score.
+    /// The block of this type and score. It is refused where there is none, and fails where the
+    /// store does.
     fn get(&mut self, alloc: Global, kind: Kind, score: &Score) -> Result<Bytes, BlockErr>
         ensures done { does self.old (get kind score.now.0 result) self.new }
         ensures most { IfOk result (λ bytes. length bytes ≤ MAX_BLOCK) };
 
-    /// Takes a block in, and gives its score.
+    /// Takes a block in, and gives its score. It is refused where the store doesn't take it in, and
+    /// fails where the store does.
     fn put(&mut self, alloc: Global, kind: Kind, bytes: &[u8]) -> Result<Score, BlockErr>
         requires { length bytes.now ≤ MAX_BLOCK }
         ensures done { does self.old

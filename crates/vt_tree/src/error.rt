@@ -15,6 +15,7 @@ pub enum BlockErr {
     WrongScore { want: Score, found: Score },
     /// What was read differs from what should stand there.
     Damaged { want: FieldValue, found: FieldValue },
+    /// Memory ran out.
     NoMemory,
 }
 
@@ -24,6 +25,7 @@ impl From<AllocError> for BlockErr {
 
     ghost from_gives = { λ _ err. err ≡ NoMemory };
 
+    /// Memory that wasn't there is `NoMemory`.
     fn from(_error: AllocError) -> Self {
         BlockErr::NoMemory
     }
@@ -43,6 +45,7 @@ pub enum TreeErr {
     BadBlock { depth: u8, len: usize },
     /// The file has more than 2^40 bytes.
     TooLong,
+    /// Memory ran out.
     NoMemory,
 }
 
@@ -52,6 +55,7 @@ impl From<AllocError> for TreeErr {
 
     ghost from_gives = { λ _ err. err ≡ NoMemory };
 
+    /// Memory that wasn't there is `NoMemory`.
     fn from(_error: AllocError) -> Self {
         TreeErr::NoMemory
     }
@@ -63,6 +67,7 @@ impl<T: Drop> From<AllocFailed<T>> for TreeErr {
 
     ghost from_gives = { λ _ err. err ≡ NoMemory };
 
+    /// Memory that wasn't there is `NoMemory`; what should have gone there is dropped.
     fn from(_error: AllocFailed<T>) -> Self {
         TreeErr::NoMemory
     }

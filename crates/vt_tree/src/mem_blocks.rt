@@ -114,7 +114,7 @@ impl<S: Scorer> MemBlocks<S> {
         blocks
     }
 
-    /// The bytes of this type and score. The zero score has no bytes.
+    /// The bytes of this type and score, or None where none are kept. The zero score has no bytes.
     pub fn held(&self, kind: Kind, score: &Score) -> Option<&[u8]>
         ensures found { option_copied result ≡ held_in S.score_of self.now score.now.0 kind }
         ensures most { IfSome result (λ bytes. length bytes.now ≤ MAX_BLOCK) }
@@ -253,7 +253,7 @@ impl<S: Scorer> MemBlocks<S> {
         }
     }
 
-    /// The block of a key, which is noted.
+    /// The block of a key, which is noted. It is refused where there is none.
     fn give(&mut self, alloc: Global, key: Key) -> Result<Bytes, BlockErr>
         ensures given { GivesInMemory S.score_of self.old self.new key result }
         ensures most { IfOk result (λ bytes. length bytes ≤ MAX_BLOCK) }
@@ -338,6 +338,7 @@ impl<S: Scorer> Scorer for MemBlocks<S> {
 
     ghost score_bytes = { S.score_bytes };
 
+    /// The score by its scorer.
     fn score(&self, block: &[u8]) -> Score {
         self.scorer.score(block)
     }
@@ -361,6 +362,8 @@ impl<S: Scorer> Blocks for MemBlocks<S> {
 
     ghost counting = { λ m m' call does. does.leaves.counts };
 
+    /// The block that is kept under this type and score, unless the call is one of those that fail
+    /// or are refused.
     fn get(&mut self, alloc: Global, kind: Kind, score: &Score) -> Result<Bytes, BlockErr> {
         match self.begin() {
             Fate::Fails => Err(self.fault()),
@@ -375,6 +378,7 @@ impl<S: Scorer> Blocks for MemBlocks<S> {
         }
     }
 
+    /// Keeps the block, unless the call is one of those that fail or are refused.
     fn put(&mut self, alloc: Global, kind: Kind, bytes: &[u8]) -> Result<Score, BlockErr> {
         match self.begin() {
             Fate::Fails => Err(self.fault()),
@@ -383,6 +387,8 @@ impl<S: Scorer> Blocks for MemBlocks<S> {
         }
     }
 
+    /// All blocks that it keeps are synced, unless the call is one of those that fail or are
+    /// refused.
     fn sync(&mut self, alloc: Global) -> Result<(), BlockErr> {
         match self.begin() {
             Fate::Fails => Err(self.fault()),

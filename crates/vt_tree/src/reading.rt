@@ -197,7 +197,8 @@ impl<'a> Walk<'a> {
         }
     }
 
-    /// A block on the way, which fits the entry.
+    /// A block on the way, which fits the entry. It fails where the store does, or the block has a
+    /// length that the entry doesn't allow.
     fn block<B: Blocks>(
         &self,
         blocks: &mut B,

@@ -81,7 +81,8 @@ pub fn write_stream<B: Blocks, R: Source>(
 struct Ahead {
     /// A buffer of a whole leaf, of `dsize` bytes.
     leaf: Vec<u8>,
-    /// How many bytes the leaf has; none at the stream's end.
+    /// How many bytes were taken into the leaf: all that it has room for, fewer where the source
+    /// ended in it, and none behind that.
     filled: usize,
     /// Whether the source has given its last bytes.
     ended: bool,
@@ -137,7 +138,8 @@ impl Ahead {
     }
 }
 
-/// Fills the buffer as far as the source goes, and says how far.
+/// Fills the buffer as far as the source goes, and says how far. It fails where a read of the
+/// source does.
 fn fill<R: Source>(source: &mut R, buf: &mut [u8]) -> Result<usize, TreeErr>
     ensures within { IfOk result (λ n. n ≤ length buf.new) }
     ensures taken { IfOk result (λ n.
@@ -175,7 +177,8 @@ struct Cut {
 
 impl Cut {
     /// Writes all leaves to the stream's end, and what stands above them, and gives the depth of
-    /// the topmost block and its score.
+    /// the topmost block and its score. It fails where a call of the store or the source does, or
+    /// the source has too many bytes.
     fn tree<B: Blocks, R: Source>(
         &self,
         blocks: &mut B,
@@ -207,7 +210,8 @@ impl Cut {
         Ok((depth, score))
     }
 
-    /// Writes the next leaf, and takes the one behind it.
+    /// Writes the next leaf, and takes the one behind it. It fails where a call of the store or the
+    /// source does, or the source has too many bytes.
     fn leaf<B: Blocks, R: Source>(
         &self,
         blocks: &mut B,
@@ -233,7 +237,8 @@ impl Cut {
         Ok(score)
     }
 
-    /// Writes the next leaves as a tree of this depth, as many as it reaches.
+    /// Writes the next leaves as a tree of this depth, as many as it reaches. It fails where a call
+    /// of the store or the source does, or the source has too many bytes.
     #[cycle(subtree)]
     fn subtree<B: Blocks, R: Source>(
         &self,
@@ -265,7 +270,8 @@ impl Cut {
     }
 
     /// Writes further trees behind a first one, as many as a pointer block names or there are
-    /// leaves for, and the pointer block of this depth above them.
+    /// leaves for, and the pointer block of this depth above them. It fails where a call of the
+    /// store or the source does, or the source has too many bytes.
     #[cycle(subtree)]
     fn above<B: Blocks, R: Source>(
         &self,
@@ -306,7 +312,7 @@ impl Cut {
         self.put_pointers(blocks, depth, &scores)
     }
 
-    /// Puts the block of a leaf with these bytes.
+    /// Puts the block of a leaf with these bytes. It fails where the call of the store does.
     fn put_leaf<B: Blocks>(&self, blocks: &mut B, bytes: &[u8]) -> Result<Score, TreeErr>
         requires zero { self.now.zero.0 ≡ B.score_of [] }
         requires most { length bytes.now ≤ MAX_BLOCK }
@@ -321,7 +327,8 @@ impl Cut {
         self.put(blocks, leaf_kind(self.is_dir), &bytes[..kept])
     }
 
-    /// Puts the pointer block of this depth over these scores.
+    /// Puts the pointer block of this depth over these scores. It fails where the call of the store
+    /// does.
     fn put_pointers<B: Blocks>(
         &self,
         blocks: &mut B,

@@ -14,7 +14,7 @@ use Rattle.vt_turns.specs.Rule.{Apart, Stands, WasSet}
 use Rattle.vt_turns.specs.Steps.{Sees, LacksBit}
 
 module _ {P B : Type 0} where
-  -- how many parts are shared, with how many words of Bloom bits, and how the store was opened
+  -- How many parts are shared.
   abbrev pub part_count : Turns P B → ℕ
   part_count turns = turns.table.shared.table_id.slots
 
@@ -82,7 +82,7 @@ module _ {P B : Type 0} (M : Meaning P B) where
     pub has_log : turn_of v 0 ≡ Some x
     pub has_shard : turn_of v j ≡ Some o
     pub front : M.front y ≡ M.front x + 1
-    -- it is that block's shard, and the pass knows that the block's bits are set
+    -- the shard is that of the block, and the pass knows that the block's bits are set
     pub covered : v.opening.kept ≡ true → M.covers o b ≡ true
     pub bits_set : v.opening.kept ≡ true → (k p : ℕ) → get_elem? (M.places b) k ≡ some p
         → (n : ℕ) × (get_elem? v.bits n ≡ some p)

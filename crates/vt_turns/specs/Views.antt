@@ -28,7 +28,7 @@ module _ {P B : Type 0} where
   abbrev pub faults_of : View P B → ℕ → ℕ
   faults_of v k = slice_index v.faults k
 
-  -- it holds no part
+  -- The pass holds no part.
   abbrev pub HoldsNone : View P B → Type 0
   HoldsNone v = (k : ℕ) → turn_of v k ≡ None
 
@@ -36,7 +36,7 @@ module _ {P B : Type 0} where
   abbrev pub IsSole : View P B → Type 0
   IsSole v = (v.share ≡ 65536) × (length v.seen ≡ length v.opening.history + length v.own)
 
-  -- it is still sole, and has seen nothing new
+  -- The pass is still sole, and has seen nothing new.
   abbrev pub StaysSole : (old new : View P B) → Type 0
   StaysSole old new = (new.seen ≡ old.seen) × IsSole new
 
@@ -51,26 +51,27 @@ module _ {P B : Type 0} where
     pub bits : (i p : ℕ) → get_elem? old.bits i ≡ some p
         → (j : ℕ) × (get_elem? new.bits j ≡ some p)
 
-  -- who gives the part k holds it no longer
+  -- The view of who gives the part k, which holds it no longer.
   abbrev pub without : ℕ → View P B → View P B
   without k v = record v { turns = put_at None v.turns k None; away = 0 }
 
-  -- these Bloom bits were set, or found set
+  -- The view in which these Bloom bits were set, or found set.
   abbrev pub with_bits : List ℕ → View P B → View P B
   with_bits places v = record v { bits = v.bits ++ places }
 
-  -- who splits a pass off gives a share, and the new one knows the same
+  -- The view of who splits a pass off: it gives a share.
   abbrev pub less_one : View P B → View P B
   less_one v = record v { share = v.share - 1 }
 
   abbrev pub split_off : View P B → View P B
   split_off v = record v { share = 1; olds = []; own = []; faults = []; turns = []; away = 0 }
 
-  -- a note knows the same and has no share
+  -- What a note knows of a view: the same, without a share.
   abbrev pub noted : View P B → View P B
   noted v = record v { share = 0; olds = []; own = []; faults = []; turns = []; away = 0 }
 
-  -- v with what w knows, added and has; what w has seen is told by the next load of the front
+  -- The view v with what w knows, added and has; what w has seen is told by the next load of the
+  -- front.
   abbrev pub joined_views : View P B → View P B → View P B
   joined_views v w = record v {
     share = v.share + w.share;
@@ -144,7 +145,7 @@ module _ {P B : Type 0} (M : Meaning P B) where
     turns = put_at None v.turns k (Some x);
   }
 
-  -- the same, with its slot out
+  -- The view with the part k, which is x, and with its slot out.
   abbrev pub taking : ℕ → (history : List B) → P → View P B → View P B
   taking k history x v = record (holding k history x v) { away = suc k }
 
@@ -162,7 +163,8 @@ module _ {P B : Type 0} (M : Meaning P B) where
     turns = put_at None v.turns k (Some y);
   }
 
-  -- the block b was added to the log, which is y now, and to the shard j, which is z
+  -- The view in which the block b was added to the log, which is y now, and to the shard j, which
+  -- is z.
   abbrev pub raising : P → ℕ → P → B → View P B → View P B
   raising y j z b v = record v {
     seen = v.seen ++ b ∷ [];

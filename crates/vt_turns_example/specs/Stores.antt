@@ -26,7 +26,7 @@ abbrev pub IsPassOfStore : Store → Pass → Type 0
 IsPassOfStore store p =
     IsPassOf store.turns p × (p.me.0.opening ≡ opening_of store.turns) × (0 < p.me.0.share)
 
--- the same, which holds no part
+-- A pass of this store, with a share, which holds no part.
 abbrev pub IsFree : Store → Pass → Type 0
 IsFree store p = IsPassOfStore store p × HoldsNone (view p)
 

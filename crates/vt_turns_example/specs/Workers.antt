@@ -75,7 +75,7 @@ module _ {L : Type 0} (told : L → List Line) where
     pub talks : (k : ℕ) (e : End L) → get_elem? ends k ≡ some e
         → IsTalk u.seen (length v.seen) (told e.link) (own_of e)
 
-  -- all of them were joined
+  -- All of the workers were joined.
   abbrev pub HasServed : (v u : TheView) → List (End L) → Type 0
   HasServed v u ends = Joining v u ends 0
 

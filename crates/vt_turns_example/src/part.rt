@@ -45,7 +45,7 @@ impl Held<Block> for Part {
 }
 
 impl Shard {
-    /// The number of the block of a key.
+    /// The number of the block of a key, or None where it has none.
     pub fn find(&self, key: u64) -> Option<u64>
         ensures { result ≡ get nat_cmp self.now.numbers key }
     {

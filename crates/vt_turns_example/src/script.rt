@@ -29,6 +29,7 @@ impl Link for Script {
 
     ghost asked = { λ s. ltb (vec_len s.lines) (vec_len s.asks) };
 
+    /// The next line of the script, or None behind its last.
     fn next(&mut self) -> Option<Ask> {
         if self.lines.len() >= self.asks.len() {
             return None;
@@ -36,6 +37,7 @@ impl Link for Script {
         Some(self.asks[self.lines.len()])
     }
 
+    /// Notes what was answered.
     fn answer(&mut self, line: Line) {
         self.lines.push_reserved(line);
     }
@@ -64,6 +66,7 @@ impl Scripts {
 impl Listener for Scripts {
     type Link = Script;
 
+    /// The next script, or None where none waits.
     fn accept(&mut self) -> Option<Script> {
         self.waiting.pop()
     }

@@ -11,8 +11,8 @@ abbrev pub TouchedByFirst : (many : ℕ) → Region → (n : ℕ) → ℕ → Ty
 TouchedByFirst many region n i = ((1 ≤ many) × Touches (frame_start region n 0) n i)
     ⊎ ((2 ≤ many) × Touches (selector_start region n) (selector_len region n) i)
 
--- It ended at a call that failed, where `made` calls before it didn't: nothing was written behind
--- that call, and a selector only behind a frame that was written whole.
+-- Formatting ended at a call that failed, where `made` calls before it didn't: nothing was written
+-- behind that call, and a selector only behind a frame that was written whole.
 pub record EndsFormat {D : Type 0} (disk : DiskOf D) (region : Region) (frame : List ℕ) (made : ℕ)
     (old new : D) : Type 0 where
   pub few : made < 3

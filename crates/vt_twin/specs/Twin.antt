@@ -27,7 +27,7 @@ pub record TwinState : Type 0 where
 abbrev pub twin_calls_made : TwinState → ℕ
 twin_calls_made t = option_map_or (λ it. it.made) t.change 0
 
--- how many of them were begun: the one that failed too
+-- How many calls of the change under way were begun: the one that failed too.
 abbrev pub calls_begun : TwinState → ℕ
 calls_begun t = twin_calls_made t + (if t.failed then 1 else 0)
 

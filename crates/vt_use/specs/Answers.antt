@@ -15,7 +15,7 @@ abbrev pub HasFailed : Result RMessage Why → Type 0
 HasFailed (Ok reply) = ⊥
 HasFailed (Err why) = (tells_failure why ≡ true) × IsUndamagedWhy why
 
--- it is what the model answers on a history, or the store failed
+-- The answer is what the model answers on a history, or the store failed.
 abbrev pub IsAnswer : (List ℕ → List ℕ) → Setup → History → Operation → Result RMessage Why
     → Type 0
 IsAnswer score c h m reply =
@@ -29,12 +29,12 @@ GoesOnAs score c exchange h next =
     × (next ≡ with_added h (answer score c h (asked_of_store exchange.0)).added))
     ⊎ (HasFailed exchange.1 × (next ≡ h))
 
--- where it is an answered sync, this history is durable at the end
+-- Where the exchange is an answered sync, this history is durable at the end.
 abbrev pub IsCovered : Exchange → (next : History) → (durable : ℕ) → Type 0
 IsCovered exchange next durable = exchange ≡ (sync, Ok r_sync) → length next ≤ durable
 
--- So it is with each of these, from the first history to the last; and of that so many blocks are
--- durable at the end.
+-- Each of these exchanges is what the model answers, from the first history to the last; and of
+-- that so many blocks are durable at the end.
 abbrev pub AreModelAnswers : (List ℕ → List ℕ) → Setup → (h : History) → List Exchange
     → (last : History) → (durable : ℕ) → Type 0
 AreModelAnswers score c h [] last durable = last ≡ h

@@ -13,7 +13,7 @@ use Rattle.vt_use.specs.Stores.{Exchange}
 
 -- ---- of a store of blocks
 
--- it is called for this block, and for nothing else
+-- The store is called for this block, and for nothing else.
 abbrev pub ReadsOne : (kind : ℕ) (s : List ℕ) → Result (List ℕ) BlockErr → List Call → Type 0
 ReadsOne kind s output calls =
     (calls ≡ get kind s output ∷ []) × IfOk output (λ bytes. length bytes ≤ MAX_BLOCK)
@@ -26,7 +26,8 @@ PutsOne b (Err err) calls =
     (calls ≡ put b (Err err) ∷ [])
     ⊎ ((score : Score) × (calls ≡ put b (Ok score) ∷ sync (Err err) ∷ []))
 
--- and the score is that of its bytes
+-- A block is put, and then all is synced; the score is told where both are done, and is that of the
+-- block's bytes.
 abbrev pub WritesOne : (score_of : List ℕ → List ℕ) → Block → Result Score BlockErr → List Call
     → Type 0
 WritesOne score_of b output calls =
@@ -34,18 +35,18 @@ WritesOne score_of b output calls =
 
 -- ---- of a store of this process
 
--- its own answer, where it said no last for this reason, if it did
+-- The store's own answer, where it said no last for this reason, if it did.
 abbrev pub own_answer : {T : Type 0} → Result T BlockErr → (last_refusal : Option Why) → Result T Why
 own_answer (Ok value) last_refusal = Ok value
 own_answer (Err err) (Some why) = Err why
 own_answer (Err err) None = Err NoMemory
 
--- it is asked for this block, and answers so
+-- The store is asked for this block, and answers so.
 abbrev pub asks_block : (kind : ℕ) (s : List ℕ) → Result (List ℕ) Why → List Exchange
 asks_block kind s result =
     (read s kind MAX_BLOCK, answered (λ (bytes : List ℕ). r_read bytes) result) ∷ []
 
--- it is asked for this block, and then for a sync
+-- The store is asked for this block, and then for a sync.
 abbrev pub ArePut : (kind : ℕ) (bytes : List ℕ) → Result Score Why → List Exchange → Type 0
 ArePut kind bytes (Ok given) exchanges =
     exchanges ≡ (write kind bytes, Ok (r_write given.0)) ∷ (sync_all, Ok r_sync) ∷ []

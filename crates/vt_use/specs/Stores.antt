@@ -14,14 +14,14 @@ use Rattle.vt_requests.specs.Driven.{DrivenState, DoesRequest, HoldsOn, conditio
 abbrev pub Exchange : Type 0
 Exchange = Operation × Result RMessage Why
 
--- it asks for a block
+-- The operation asks for a block.
 abbrev IsReading : Operation → Type 0
 IsReading ping = ⊥
 IsReading (read score kind count) = ⊤
 IsReading (write kind bytes) = ⊥
 IsReading sync = ⊥
 
--- it adds nothing, and has nothing made durable
+-- The exchange adds nothing, and has nothing made durable.
 abbrev pub AddsNothing : Exchange → Type 0
 AddsNothing exchange = IsReading exchange.0
 
@@ -38,8 +38,8 @@ store_on {D} score disk = record {
 abbrev pub at_time : {D : Type 0} → (now : ℕ) → CoreState D → DrivenState D
 at_time now k = record { core = k; now = now }
 
--- it made a run of events: at each moment of it a crash leaves a prefix of what was accepted, with
--- every durable block
+-- The store made a run of events: at each moment of it a crash leaves a prefix of what was
+-- accepted, with every durable block.
 abbrev pub MakesRun : {D : Type 0} → (List ℕ → List ℕ) → DiskOf D → (old new : CoreState D)
     → Type 0
 MakesRun score disk old new =

@@ -25,8 +25,8 @@ use Rattle.vt_use.specs.Stores.{Exchange, AddsNothing, at_time, store_on}
 
 -- ---- what is done
 
--- Where it may have been written to, its use was ended, and this came of that; else it is as it was
--- left.
+-- Where the store may have been written to, its use was ended, and this came of that; else it is as
+-- it was left.
 abbrev pub ClosesIf : {D : Type 0} → (List ℕ → List ℕ) → DiskOf D → (writes : Bool)
     → (closed : Result (Unit {0}) Why) → (kept new : CoreState D) → Type 0
 ClosesIf score disk true closed kept new = Ends score disk closed kept new
@@ -89,7 +89,8 @@ pub record LeftByUse {D : Type 0} (score : List ℕ → List ℕ) (disk : DiskOf
   pub done : writes ≡ true → closed ≡ Ok tt → AreMarkedOn disk (length last) (devices_of new)
       × AllStandFor score disk (setup_of old) old.log.tables (devices_of new) last (length last)
 
--- The same of the partitions under the names of a configuration, which read as history `g` before.
+-- What a use leaves of the partitions under the names of a configuration, which read as history `g`
+-- before: what it leaves of a store, and they are back.
 pub record LeftInStore {D : Type 0} (score : List ℕ → List ℕ) (disk : DiskOf D) (conf : Conf)
     (writes : Bool) (closed : Result (Unit {0}) Why) (last : History) (kept : CoreState D)
     (new : List ℕ → Standing D) (tables : List Table) (c : Setup) (g : History) : Type 0 where

@@ -67,10 +67,13 @@ impl<'a, X, J: BlockJob<X>, S: Scorer> Job<X> for LocalJob<'a, J, S> {
 
     ghost writes = { λ it. J.writes it.job };
 
+    /// Whether the job on blocks writes.
     fn writes(&self) -> bool {
         self.job.writes()
     }
 
+    /// Does the job with the store as a store of blocks, and tells beside its output why the store
+    /// said no last, if it did.
     fn run<T: Store>(
         &self,
         alloc: Global,

@@ -108,8 +108,9 @@ pub fn uses_leave<D: Disk>()
     stores_can_be_mounted::<D>();
 }
 
-/// The same of the store of a configuration, where every combination of the images of its partitions
-/// stands for a prefix of one legal history.
+/// Whatever device calls failed, what is left of the store of a configuration stands for a prefix
+/// of what it held behind what it was asked, with each durable block, where every combination of
+/// the images of its partitions stood for a prefix of one legal history.
 pub fn uses_leave_the_store<D: Disk>()
     ensures { (score : List ℕ → List ℕ) (told : Bool) (conf : Conf) (now : ℕ) (writes : Bool)
         (exchanges : List Exchange) (closed : Result (Unit {0}) Why) (last : History)

@@ -36,10 +36,12 @@ impl BlockJob<()> for ReadBlock {
 
     ghost writes = { λ it. false };
 
+    /// It only reads.
     fn writes(&self) -> bool {
         false
     }
 
+    /// Asks for the block.
     fn run<B: Blocks>(
         &self,
         alloc: Global,
@@ -71,10 +73,12 @@ impl<'a> BlockJob<()> for WriteBlock<'a> {
 
     ghost writes = { λ it. true };
 
+    /// It writes.
     fn writes(&self) -> bool {
         true
     }
 
+    /// Puts the block and then syncs; where the block is refused, nothing is synced.
     fn run<B: Blocks>(
         &self,
         alloc: Global,

@@ -55,7 +55,7 @@ wrong_version fresh place (b ∷ bytes) =
     else if b == 45 then if fresh then Some place else None
     else wrong_version false (place + 1) bytes
 
--- the same of a whole line, which is given without its newline
+-- The place of the first byte that can't stand in a whole line, which is given without its newline.
 abbrev pub first_wrong_place : List ℕ → Option ℕ
 first_wrong_place line =
     let same = common_prefix_len nat_eq line (codes "venti-") in

@@ -144,7 +144,7 @@ pub record SpellsReply (tag : ℕ) (reply : RMessage) (bytes : List ℕ) : Type 
   pub parameters_are : SpellsReplyParameters reply parameters
   pub frame : IsFrame bytes (reply_type reply ∷ tag ∷ parameters)
 
--- the reply can be sent
+-- The reply has room in a frame, and can be sent.
 abbrev pub FitsReply : RMessage → Type 0
 FitsReply (r_error text) = IsText text
 FitsReply r_ping = ⊤

@@ -33,7 +33,8 @@ pub fn decode(frame: &[u8]) -> Result<(u8, Request<'_>), WireBad>
     Ok((*tag, request_of(*kind, parameters)?))
 }
 
-/// The request that a type and its parameters spell.
+/// The request that a type and its parameters spell. It is `Unknown` where no request has the type,
+/// and `Bad` with the number of the first parameter that isn't spelled.
 fn request_of(kind: u8, parameters: &[u8]) -> Result<Request<'_>, WireBad>
     ensures known { is_request_type kind ≡ true → ReadsParameters kind parameters.now result }
     ensures unknown { is_request_type kind ≡ false → result ≡ Err (WireBad.Unknown kind) }
@@ -49,7 +50,8 @@ fn request_of(kind: u8, parameters: &[u8]) -> Result<Request<'_>, WireBad>
     }
 }
 
-/// Thello: version[s] uid[s] strength[1] crypto[n] codec[n].
+/// Thello: version[s] uid[s] strength[1] crypto[n] codec[n]. It is `Bad` with the number of the
+/// first parameter that isn't spelled, or with one past the last where bytes stand behind it.
 fn hello(parameters: &[u8]) -> Result<Request<'_>, WireBad>
     ensures { ReadsParameters 4 parameters.now result }
 {
@@ -64,7 +66,8 @@ fn hello(parameters: &[u8]) -> Result<Request<'_>, WireBad>
     Ok(Request::Hello { version })
 }
 
-/// Tread: score[20] type[1] pad[1] count[2].
+/// Tread: score[20] type[1] pad[1] count[2]. It is `Bad` with the number of the first parameter
+/// that isn't spelled, or with one past the last where bytes stand behind it.
 fn read(parameters: &[u8]) -> Result<Request<'_>, WireBad>
     ensures { ReadsParameters 12 parameters.now result }
 {
@@ -81,7 +84,8 @@ fn read(parameters: &[u8]) -> Result<Request<'_>, WireBad>
     })
 }
 
-/// Twrite: type[1] pad[3], and the block to the frame's end.
+/// Twrite: type[1] pad[3], and the block to the frame's end. It is `Bad` with the number of the
+/// first parameter that isn't spelled.
 fn write(parameters: &[u8]) -> Result<Request<'_>, WireBad>
     ensures { ReadsParameters 14 parameters.now result }
 {

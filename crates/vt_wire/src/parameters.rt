@@ -7,7 +7,8 @@ ghost use Rattle.vt_wire.specs.Fields.{IsText, string, bytes_of, a_string, a_lis
 use crate::{MAX_STRING, WireBad};
 use vt_base::fields::u16_at;
 
-/// The parameter in front, which has so many bytes, and what stands behind it.
+/// The parameter in front, which has so many bytes, and what stands behind it. It is `Bad` with its
+/// number where there are fewer bytes.
 pub(crate) fn array_at<const N: usize>(
     bytes: &[u8],
     number: u8,
@@ -20,7 +21,8 @@ pub(crate) fn array_at<const N: usize>(
     bytes.split_first_chunk().ok_or(WireBad::Bad(number))
 }
 
-/// A string, which has two bytes of length.
+/// A string, which has two bytes of length. It is `Bad` with its number where there are fewer bytes
+/// than that counts, or they are no text.
 pub(crate) fn string_at(bytes: &[u8], number: u8) -> Result<(&[u8], &[u8]), WireBad>
     ensures found { IfOk result (λ r. IsText r.0.now × (bytes.now ≡ string r.0.now ++ r.1.now)) }
     ensures bad { IfErr result (λ e. e ≡ WireBad.Bad number) }
@@ -38,7 +40,8 @@ pub(crate) fn string_at(bytes: &[u8], number: u8) -> Result<(&[u8], &[u8]), Wire
     Ok((text, rest))
 }
 
-/// What stands behind a list, which has one byte of length.
+/// What stands behind a list, which has one byte of length. It is `Bad` with its number where there
+/// are fewer bytes than that counts.
 pub(crate) fn behind_list(bytes: &[u8], number: u8) -> Result<&[u8], WireBad>
     ensures found { IfOk result (λ rest. BeginsWithForm a_list bytes.now rest.now) }
     ensures bad { IfErr result (λ e. e ≡ WireBad.Bad number) }
@@ -51,7 +54,8 @@ pub(crate) fn behind_list(bytes: &[u8], number: u8) -> Result<&[u8], WireBad>
     Ok(rest)
 }
 
-/// Nothing, behind the last parameter.
+/// Nothing, behind the last parameter. Where bytes stand there it is `Bad`, with the number one
+/// past the last.
 pub(crate) fn at_end(bytes: &[u8], number: u8) -> Result<(), WireBad>
     ensures found { IfOk result (λ _. bytes.now ≡ []) }
     ensures bad { IfErr result (λ e. e ≡ WireBad.Bad number) }

@@ -32,7 +32,8 @@ pub fn decode_reply(frame: &[u8]) -> Result<(u8, Reply<'_>), WireBad>
     Ok((*tag, reply_from(*kind, parameters)?))
 }
 
-/// The reply that a type and its parameters spell.
+/// The reply that a type and its parameters spell. It is `Unknown` where no reply has the type, and
+/// `Bad` with the number of the first parameter that isn't spelled.
 fn reply_from(kind: u8, parameters: &[u8]) -> Result<Reply<'_>, WireBad>
     ensures known { is_reply_type kind ≡ true → ReadsReply kind parameters.now result }
     ensures unknown { is_reply_type kind ≡ false → result ≡ Err (WireBad.Unknown kind) }
@@ -48,7 +49,8 @@ fn reply_from(kind: u8, parameters: &[u8]) -> Result<Reply<'_>, WireBad>
     }
 }
 
-/// Rerror: error[s], the text of the refusal.
+/// Rerror: error[s], the text of the refusal. It is `Bad` with the number of the first parameter
+/// that isn't spelled, 0, or with 1 where bytes stand behind it.
 fn error(parameters: &[u8]) -> Result<Reply<'_>, WireBad>
     ensures { ReadsReply 1 parameters.now result }
 {
@@ -57,7 +59,8 @@ fn error(parameters: &[u8]) -> Result<Reply<'_>, WireBad>
     Ok(Reply::Error(text))
 }
 
-/// Rhello: sid[s] rcrypto[1] rcodec[1], none of which is looked at.
+/// Rhello: sid[s] rcrypto[1] rcodec[1], none of which is looked at. It is `Bad` with the number of
+/// the first that isn't spelled, or with 3 where bytes stand behind them.
 fn welcome(parameters: &[u8]) -> Result<Reply<'_>, WireBad>
     ensures { ReadsReply 5 parameters.now result }
 {
@@ -68,7 +71,8 @@ fn welcome(parameters: &[u8]) -> Result<Reply<'_>, WireBad>
     Ok(Reply::Hello)
 }
 
-/// Rwrite: score[20], that of the block.
+/// Rwrite: score[20], that of the block. It is `Bad` with 0 where that isn't spelled, or with 1
+/// where bytes stand behind it.
 fn written(parameters: &[u8]) -> Result<Reply<'_>, WireBad>
     ensures { ReadsReply 15 parameters.now result }
 {
