@@ -2,42 +2,42 @@
 use Rattle.std.proofs.Common.{◌≡◌, ◌≢◌, ℕ, ◌+◌, ◌-◌, ◌<◌, ◌^◌, Bool, List, Result, subst}
 use Rattle.std.specs.Prelude.{IsTrue, min}
 use Rattle.vt_base.specs.Faults.{CountsFault}
-use Rattle.vt_conf.specs.declared.conf.Conf.{Conf}
 use Rattle.vt_disk.specs.Members.{DiskOf}
 use Rattle.vt_out.specs.declared.folder_item.Facts.{Facts}
 use Rattle.vt_out.specs.FolderItems.{Items}
 use Rattle.vt_out.specs.FolderStanding.{Standing, lent, there}
 use Rattle.vac_write.specs.Archiving.{IsSeen}
 use Rattle.vac_store.specs.declared.outcome.ArchiveError.{ArchiveError}
-use Rattle.vac_store.specs.declared.outcome.StoredArchive.{StoredArchive}
-use Rattle.vac_store.specs.Stored.{ArchivesStored}
-use Rattle.vac_store.specs.Storing.{is_folder_fault}
-use Rattle.run_base.specs.Change.{PartsChange}
-use Rattle.run_archives.specs.Vac.{StoresFolder}
+use Rattle.vac_store.specs.declared.outcome.ArchivedAt.{ArchivedAt}
+use Rattle.vt_use.specs.declared.used_at.StoreAt.{StoreAt}
+use Rattle.vac_store.specs.Storing.{tells_folder_fault}
+use Rattle.run_base.specs.Change.{DialerChange, PartsChange}
+use Rattle.run_base.specs.Members.{LinkOf}
+use Rattle.run_archives.specs.Vac.{ArchivesAt, StoresFolder}
 use Rattle.run_archives.proofs.FoldersBack.{back_again, counts_back}
 
 -- a folder that was handed out, archived, and is back
-module _ {P D : Type 0} (score : List ℕ → List ℕ) (disk : DiskOf D) (name : List ℕ) (conf : Conf)
-    (bsize now : ℕ) (parts : PartsChange P D) (tells told : Bool) (held left : Items Facts)
+module _ {P D N L : Type 0} (score : List ℕ → List ℕ) (disk : DiskOf D) (link : LinkOf L)
+    (name : List ℕ) (at : StoreAt) (bsize now : ℕ) (parts : PartsChange P D)
+    (dialer : DialerChange N L) (tells told : Bool) (held left : Items Facts)
     (old mid new : List ℕ → Standing) where
-  pub stores_folder : (told_as result : Result StoredArchive ArchiveError) → told_as ≡ result
+  pub stores_folder : (told_as result : Result ArchivedAt ArchiveError) → told_as ≡ result
       → (before between after own own' : ℕ)
       → (IsTrue told → IsTrue tells × (old name ≡ there held)) → (IsTrue told → mid name ≡ lent)
       → (IsTrue told → (other : List ℕ) → other ≢ name → mid other ≡ old other)
       → (IsTrue told → mid name ≡ lent → new name ≡ there left)
       → (IsTrue told → (other : List ℕ) → other ≢ name → new other ≡ mid other)
       → (IsTrue tells → left ≡ held)
-      → ArchivesStored score disk (IsTrue parts.tells) conf now bsize (IsSeen tells held)
-      parts.old parts.new parts.faults parts.faults' told_as
-      → own ≡ 0 → CountsFault is_folder_fault told_as own own' → between ≡ before
+      → ArchivesAt score disk link at now bsize (IsSeen tells held) told_as parts dialer
+      → own ≡ 0 → CountsFault tells_folder_fault told_as own own' → between ≡ before
       → after ≡ min (between + own') (2 ^ 64 - 1) → between < 2 ^ 64
-      → StoresFolder score disk name conf bsize result (record {
+      → StoresFolder score disk link now name at bsize result (record {
         tells = told;
         old = old;
         new = new;
         faults = before;
         faults' = after;
-      }) parts
+      }) parts dialer
   stores_folder told_as result is before between after own own' out away apart back apart' stays
       archives fresh counts same sum fits =
       record {
@@ -47,10 +47,9 @@ module _ {P D : Type 0} (score : List ℕ → List ℕ) (disk : DiskOf D) (name 
         back = λ t. back_again old mid new name held left (out t).1 (away t) (back t)
             (stays (out t).0)
             (apart t) (apart' t);
-        now = now;
-        archives = subst (λ r. ArchivesStored score disk (IsTrue parts.tells) conf now bsize
-            (IsSeen tells held) parts.old parts.new parts.faults parts.faults' r) is archives;
-        fault = subst (λ r. CountsFault is_folder_fault r before after) is
-            (subst (λ (n : ℕ). CountsFault is_folder_fault told_as n after) same
-            (counts_back is_folder_fault told_as own own' between after fresh counts sum fits));
+        archives = subst (λ r. ArchivesAt score disk link at now bsize (IsSeen tells held) r parts
+            dialer) is archives;
+        fault = subst (λ r. CountsFault tells_folder_fault r before after) is
+            (subst (λ (n : ℕ). CountsFault tells_folder_fault told_as n after) same
+            (counts_back tells_folder_fault told_as own own' between after fresh counts sum fits));
       }

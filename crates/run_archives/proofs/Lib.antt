@@ -1,7 +1,6 @@
 pub mod FoldersBack
 pub mod VacCauses
+pub mod ArchiveUsed
 pub mod ArchiveDone
-pub mod VacServedCauses
-pub mod SentDone
 pub mod ViewCauses
 pub mod ViewMade

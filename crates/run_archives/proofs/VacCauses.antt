@@ -1,30 +1,28 @@
 -- Why a folder isn't archived.
-use Rattle.std.proofs.Common.{◌≡◌, ⊎_elim, ℕ, Bool, List, None, Option, Some, Result, Err, sym, subst}
-use Rattle.std.specs.Prelude.{IfErr}
-use Rattle.std.specs.List.{All}
+use Rattle.std.proofs.Common.{◌≡◌, ⊎_elim, ℕ, true, List, None, Option, Some, Result, Ok, Err, refl, sym, subst}
 use Rattle.vt_base.specs.Faults.{HasRisen}
-use Rattle.vt_conf.specs.declared.conf.Conf.{Conf}
 use Rattle.vt_disk.specs.Members.{DiskOf}
-use Rattle.vt_out.specs.declared.folder_item.Facts.{Facts}
-use Rattle.vt_out.specs.FolderItems.{Items}
+use Rattle.vt_use.specs.Places.{Doing, UsesAt}
+use Rattle.vt_use.specs.declared.used_at.StoreAt.{StoreAt}
+use Rattle.vt_use.specs.declared.used_at.StoreError.{StoreError}
+use Rattle.vt_use.specs.declared.used_at.UsedAt.{UsedAt}
 use Rattle.vt_tree.specs.declared.error.TreeErr.TheVariants as trees
-use Rattle.vt_core.specs.Core.{CoreState, stops_of}
+use Rattle.vac_write.specs.declared.archived.Archived.{Archived}
 use Rattle.vac_write.specs.declared.error.VacErr.{VacErr}
 use Rattle.vac_write.specs.declared.error.VacErr.TheVariants as vac
 use Rattle.vac_write.specs.Archiving.{IsSeen}
 use Rattle.vac_store.specs.declared.outcome.ArchiveError.{ArchiveError}
 use Rattle.vac_store.specs.declared.outcome.ArchiveError.TheVariants as bads
-use Rattle.vac_store.specs.declared.outcome.StoredArchive.{StoredArchive}
-use Rattle.vac_store.specs.Storing.{ArchivesInto, FailsAs}
+use Rattle.vac_store.specs.Storing.{ArchivesOrGivesUp, archived_at, came_to}
 use Rattle.run_base.specs.declared.error.CommandError.{CommandError}
 use Rattle.run_base.specs.declared.error.CommandError.TheVariants.{FolderFault, NoMemory}
-use Rattle.run_base.specs.Blocks.{refusal_for}
-use Rattle.run_base.specs.Change.{StreamChange, FilesChange, FoldersChange, PartsChange}
+use Rattle.run_base.specs.Blocks.{IsStoreRefusal}
+use Rattle.run_base.specs.Change.{StreamChange, DialerChange, FilesChange, FoldersChange, PartsChange}
+use Rattle.run_base.specs.Errors.{Causes, HasCauseIn, CommandOutcome, no_cause, with_dialer, with_files, with_folders, with_parts, with_sink}
+use Rattle.run_base.specs.Members.{LinkOf}
+use Rattle.run_base.proofs.Causes.{as_told, printed_has_cause}
+use Rattle.run_base.proofs.StoreCauses.{AreCaused, closed_cause, refusal_cause, unfound_cause, unused_cause}
 use Rattle.run_archives.specs.Vac.{ArchivesNone, AsksForNoSize, DoesVac, HandsOutNone, IsArchiveRefusal, StoresFolder, StoresNone, archive_line, unfit_for}
-use Rattle.run_base.specs.Errors.{Causes, HasCauseIn, CommandOutcome, no_cause, with_files, with_folders, with_parts, with_sink}
-use Rattle.run_base.proofs.StoredCauses.{used_rises, why_told}
-use Rattle.run_base.proofs.Causes.{as_told, none_has_cause, printed_has_cause}
-use Rattle.run_base.proofs.OpenCauses.{open_told}
 
 -- why no folder was handed out, and why a word asks for no size
 pub out_cause : (causes : Causes) (folders : FoldersChange) (failure : CommandError)
@@ -39,61 +37,110 @@ pub size_cause : (causes : Causes) (word : Option (List ℕ)) (failure : Command
 size_cause causes None failure none = absurd none
 size_cause causes (Some word) failure none = as_told causes failure _ none.1 tt
 
-module _ {I P D K : Type 0} (score : List ℕ → List ℕ) (disk : DiskOf D)
-    -- a failure of a store into which a folder was archived has its cause
-    (fails : (now bsize : ℕ) (tells : Bool) (held : Items Facts)
-    (result : Result StoredArchive ArchiveError) (old new : CoreState D)
-    → ArchivesInto score disk now bsize (IsSeen tells held) result old new
-    → All (λ stop. stop ≡ None) (stops_of old) → IfErr result (λ bad. FailsAs disk bad old new))
-    (file name : List ℕ) (size : Option (List ℕ)) (preface : List ℕ) (outcome : CommandOutcome)
-    (files : FilesChange I) (folders : FoldersChange) (parts : PartsChange P D)
-    (sink : StreamChange K) where
+module _ {I P D N L K : Type 0} (score : List ℕ → List ℕ) (disk : DiskOf D) (link : LinkOf L)
+    (laws : AreCaused score disk link) (now : ℕ) (store name : List ℕ) (size : Option (List ℕ))
+    (preface : List ℕ) (outcome : CommandOutcome) (files : FilesChange I) (folders : FoldersChange)
+    (parts : PartsChange P D) (dialer : DialerChange N L) (sink : StreamChange K)
+    (reads : dialer.read_faults ≡ link.read_faults)
+    (writes : dialer.write_faults ≡ link.write_faults) where
   abbrev causes : Causes
-  causes = with_files files (with_folders folders (with_parts disk parts (with_sink sink no_cause)))
+  causes = with_files files (with_folders folders (with_parts disk parts (with_dialer dialer
+      (with_sink sink no_cause))))
 
-  module _ (conf : Conf) (bsize : ℕ) where
+  module _ (at : StoreAt) (bsize : ℕ) where
     unfit_cause : (err : VacErr)
-        → StoresFolder score disk name conf bsize (Err (bads.Folder err)) folders parts
+        → StoresFolder score disk link now name at bsize (Err (bads.Folder err)) folders parts dialer
         → HasCauseIn causes (Err (unfit_for err))
     unfit_cause vac.FolderFault x = x.fault
     unfit_cause (vac.Tree trees.TooLong) x = tt
     unfit_cause err x = tt
 
-    refusal_cause : (bad : ArchiveError) (failure : CommandError)
-        → StoresFolder score disk name conf bsize (Err bad) folders parts
-        → IsArchiveRefusal file conf bad failure → HasCauseIn causes (Err failure)
-    refusal_cause (bads.Unopened bad) failure x told = open_told score disk file conf parts causes
-        (λ why. why) bad failure x.archives.0 x.archives.1 told
-    refusal_cause (bads.Folder err) failure x told =
+    -- the store is told as why only where it wasn't used, said no, or failed at its end
+    module _ (Does : Result Archived VacErr → Doing) (bad : StoreError)
+        (failure : CommandError) (told : IsStoreRefusal store bad at failure) where
+      refused_cause : (u : UsedAt (Result Archived VacErr))
+          → UsesAt score disk link at now true Does (Ok u) parts dialer → (b : StoreError)
+          → u.refusal ≡ Some b → b ≡ bad → HasCauseIn causes (Err failure)
+      refused_cause u x b said same = refusal_cause score disk link laws store now true parts dialer
+          reads writes causes (λ why. why) (λ b why. why) Does at u b failure x said
+          (subst (λ (e : StoreError). IsStoreRefusal store e at failure) (sym same) told)
+
+      of_used : (u : UsedAt (Result Archived VacErr))
+          → UsesAt score disk link at now true Does (Ok u) parts dialer
+          → (output : Result Archived VacErr) (refusal : Option StoreError) (blocks : ℕ)
+          (closed : Result (Unit {0}) StoreError) → u.refusal ≡ refusal → u.closed ≡ closed
+          → Err (bads.Store bad) ≡ came_to output refusal blocks closed
+          → HasCauseIn causes (Err failure)
+      of_used u x (Ok a) refusal blocks (Ok done) said ended is = let never : ⊥ = cc in absurd never
+      of_used u x (Ok a) refusal blocks (Err b) said ended is =
+          let same : b ≡ bad = cc in
+          closed_cause score disk link laws store now true parts dialer reads writes causes
+          (λ why. why) (λ b why. why) Does at u b failure x ended
+          (subst (λ (e : StoreError). IsStoreRefusal store e at failure) (sym same) told)
+      of_used u x (Err (vac.Tree (trees.Block e))) (Some b) blocks closed said ended is =
+          refused_cause u x b said (cc)
+      of_used u x (Err (vac.Tree (trees.Block e))) None blocks closed said ended is =
+          let never : ⊥ = cc in absurd never
+      of_used u x (Err vac.FolderFault) refusal blocks closed said ended is =
+          let never : ⊥ = cc in absurd never
+      of_used u x (Err (vac.Tree trees.SourceFault)) refusal blocks closed said ended is =
+          let never : ⊥ = cc in absurd never
+      of_used u x (Err (vac.Tree (trees.BadEntry b))) refusal blocks closed said ended is =
+          let never : ⊥ = cc in absurd never
+      of_used u x (Err (vac.Tree (trees.BadBlock depth len))) refusal blocks closed said ended is =
+          let never : ⊥ = cc in absurd never
+      of_used u x (Err (vac.Tree trees.TooLong)) refusal blocks closed said ended is =
+          let never : ⊥ = cc in absurd never
+      of_used u x (Err (vac.Tree trees.NoMemory)) refusal blocks closed said ended is =
+          let never : ⊥ = cc in absurd never
+      of_used u x (Err (vac.BadName path)) refusal blocks closed said ended is =
+          let never : ⊥ = cc in absurd never
+      of_used u x (Err (vac.TooDeep path)) refusal blocks closed said ended is =
+          let never : ⊥ = cc in absurd never
+      of_used u x (Err vac.NoMemory) refusal blocks closed said ended is =
+          let never : ⊥ = cc in absurd never
+
+      pub used_cause : (used : Result (UsedAt (Result Archived VacErr)) StoreError)
+          → UsesAt score disk link at now true Does used parts dialer
+          → Err (bads.Store bad) ≡ archived_at used → HasCauseIn causes (Err failure)
+      used_cause (Ok u) x is = of_used u x u.output u.refusal u.blocks u.closed refl refl is
+      used_cause (Err b) x is =
+          let same : bad ≡ b = cc in
+          unused_cause score disk link laws store now true parts dialer reads writes causes
+          (λ why. why) (λ b why. why) Does at b failure x
+          (subst (λ (e : StoreError). IsStoreRefusal store e at failure) same told)
+
+    refusal : (bad : ArchiveError) (failure : CommandError)
+        → StoresFolder score disk link now name at bsize (Err bad) folders parts dialer
+        → IsArchiveRefusal store at bad failure → HasCauseIn causes (Err failure)
+    refusal (bads.Folder err) failure x told =
         as_told causes failure (unfit_for err) told (unfit_cause err x)
-    refusal_cause (bads.Refused why) failure x told =
-        let u = x.archives.0 in
-        as_told causes failure (refusal_for why) told
-        (why_told score disk file conf parts causes (λ it. it) u.opened u.left
-        (used_rises score disk conf parts _ u) why
-        (fails x.now bsize x.tells x.held (Err (bads.Refused why)) u.opened u.left u.does
-        u.opens.mounts.fresh.stops))
+    refusal (bads.Store bad) failure x told = used_cause
+        (λ answer S act holds calls from to.
+        ArchivesOrGivesUp act holds score bsize (IsSeen x.tells x.held) answer calls from to) bad
+        failure told x.archives.used x.archives.uses x.archives.result_is
 
     stored_cause : (failure : CommandError)
-        → StoresNone score disk file name conf bsize failure folders parts
+        → StoresNone score disk link now store name at bsize failure folders parts dialer
         → HasCauseIn causes (Err failure)
     stored_cause failure none = ⊎_elim
         (λ absent. out_cause causes folders failure (λ rose. rose) absent.none)
-        (λ refused. refusal_cause refused.0 failure refused.1 refused.2)
+        (λ refused. refusal refused.0 failure refused.1 refused.2)
         none
 
   none_cause : (failure : CommandError)
-      → ArchivesNone score disk file name size failure files folders parts
+      → ArchivesNone score disk link now store name size failure files folders parts dialer
       → HasCauseIn causes (Err failure)
   none_cause failure none = ⊎_elim
       (λ word. size_cause causes size failure word.0)
       (λ sized. ⊎_elim
-      (λ unread. none_has_cause causes file files failure (λ rose. rose) unread.0)
-      (λ read. stored_cause read.0 sized.0 failure read.2)
+      (λ unfound. unfound_cause causes store files failure (λ rose. rose) unfound.0)
+      (λ found. stored_cause found.0 sized.0 failure found.2)
       sized.2)
       none
 
-  pub vac_cause : DoesVac score disk file name size preface outcome files folders parts sink
+  pub vac_cause
+      : DoesVac score disk link now store name size preface outcome files folders parts dialer sink
       → HasCauseIn causes outcome
   vac_cause does = ⊎_elim
       (λ none. subst (HasCauseIn causes) (sym none.outcome_is) (none_cause none.failure none.none))

@@ -1,8 +1,8 @@
 -- What is told of an archive that was served to a client, or couldn't be read.
 use Rattle.std.specs.Prelude.{ℕ, ◌&&◌, Option, Some, None, Result, Ok, Err}
 use Rattle.vt_base.specs.declared.why.FieldValue.TheVariants.{Score}
-use Rattle.vt_client.specs.declared.error.ClientErr.{ClientErr}
-use Rattle.vt_remote.specs.declared.remote.RemoteError.TheVariants as remote
+use Rattle.vt_use.specs.declared.used_at.StoreError.{StoreError}
+use Rattle.vt_use.specs.declared.used_at.StoreError.TheVariants as stores
 use Rattle.vt_tree.specs.declared.error.BlockErr.{BlockErr}
 use Rattle.vt_tree.specs.declared.error.BlockErr.TheVariants as blocks
 use Rattle.vt_tree.specs.declared.error.TreeErr.{TreeErr}
@@ -21,34 +21,36 @@ use Rattle.run_base.specs.Served.{first_outcome}
 
 -- ---- why an archive can't be read
 
--- a failed call: of a disk, or of the link to a server, whose client was refused so
-abbrev pub fault_by : Option ClientErr → CommandError
+-- a failed call: of a disk, or of the link to a server, which said no so
+abbrev pub fault_by : Option StoreError → CommandError
 fault_by None = DiskFault
-fault_by (Some why) = Server (remote.Refused why)
+fault_by (Some (stores.Server bad)) = Server bad
+fault_by (Some (stores.Unopened bad)) = DiskFault
+fault_by (Some (stores.Refused why)) = DiskFault
 
 -- a block isn't given
-abbrev pub unread_block : BlockErr → Option ClientErr → CommandError
-unread_block blocks.Fault refused = fault_by refused
-unread_block (blocks.Refused text) refused = NoBlock text
-unread_block (blocks.WrongScore want found) refused = Damaged (Score want) (Score found)
-unread_block (blocks.Damaged want found) refused = Damaged want found
-unread_block blocks.NoMemory refused = NoMemory
+abbrev pub unread_block : BlockErr → Option StoreError → CommandError
+unread_block blocks.Fault refusal = fault_by refusal
+unread_block (blocks.Refused text) refusal = NoBlock text
+unread_block (blocks.WrongScore want found) refusal = Damaged (Score want) (Score found)
+unread_block (blocks.Damaged want found) refusal = Damaged want found
+unread_block blocks.NoMemory refusal = NoMemory
 
 -- what is told where a tree of the archive can't be read
-abbrev pub unread_tree : TreeErr → Option ClientErr → CommandError
-unread_tree (trees.Block err) refused = unread_block err refused
-unread_tree trees.SourceFault refused = BadArchive 0
-unread_tree (trees.BadEntry bad) refused = BadArchive 0
-unread_tree (trees.BadBlock depth len) refused = BadArchive 0
-unread_tree trees.TooLong refused = BadArchive 0
-unread_tree trees.NoMemory refused = NoMemory
+abbrev pub unread_tree : TreeErr → Option StoreError → CommandError
+unread_tree (trees.Block err) refusal = unread_block err refusal
+unread_tree trees.SourceFault refusal = BadArchive 0
+unread_tree (trees.BadEntry bad) refusal = BadArchive 0
+unread_tree (trees.BadBlock depth len) refusal = BadArchive 0
+unread_tree trees.TooLong refusal = BadArchive 0
+unread_tree trees.NoMemory refusal = NoMemory
 
 -- what is told where the archive can't be read
-abbrev pub unread_for : VacBad → Option ClientErr → CommandError
-unread_for (vac.Tree err) refused = unread_tree err refused
-unread_for (vac.Root field) refused = BadArchive 0
-unread_for (vac.Meta at) refused = BadArchive at
-unread_for vac.NoMemory refused = NoMemory
+abbrev pub unread_for : VacBad → Option StoreError → CommandError
+unread_for (vac.Tree err) refusal = unread_tree err refusal
+unread_for (vac.Root field) refusal = BadArchive 0
+unread_for (vac.Meta at) refusal = BadArchive at
+unread_for vac.NoMemory refusal = NoMemory
 
 -- ---- how it ended
 
@@ -62,16 +64,16 @@ outcome_of_view_end ends.ReadFault taken = Err ReadFault
 outcome_of_view_end ends.WriteFault taken = Err WriteFault
 outcome_of_view_end ends.NoMemory taken = Err NoMemory
 
--- the outcome by what could not be read, if that is so
-abbrev pub unread_in : Option VacBad → Option ClientErr → CommandOutcome
-unread_in None refused = Ok tt
-unread_in (Some bad) refused = Err (unread_for bad refused)
+-- the outcome by what couldn't be read, if anything
+abbrev pub unread_in : Option VacBad → Option StoreError → CommandOutcome
+unread_in None refusal = Ok tt
+unread_in (Some bad) refusal = Err (unread_for bad refusal)
 
 -- the first cause in time: why the archive couldn't be read, or the connection's end
-abbrev pub outcome_of_view : Result Served VacBad → Option ClientErr → CommandOutcome
-outcome_of_view (Ok served) refused =
-    first_outcome (unread_in served.failure refused) (outcome_of_view_end served.ended served.taken)
-outcome_of_view (Err bad) refused = Err (unread_for bad refused)
+abbrev pub outcome_of_view : Result Served VacBad → Option StoreError → CommandOutcome
+outcome_of_view (Ok served) refusal =
+    first_outcome (unread_in served.failure refusal) (outcome_of_view_end served.ended served.taken)
+outcome_of_view (Err bad) refusal = Err (unread_for bad refusal)
 
 -- ---- what came in and went out
 

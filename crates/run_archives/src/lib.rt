@@ -8,5 +8,4 @@ mod viewed;
 mod watched;
 
 pub use commands::vac::vac;
-pub use commands::vac_at::vac_at;
 pub use commands::vacfs::vacfs;

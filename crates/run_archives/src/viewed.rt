@@ -9,24 +9,23 @@ use nine_view::{Ended, Served};
 use run_base::CommandError;
 use vac_read::VacBad;
 use vt_base::FieldValue;
-use vt_client::ClientErr;
-use vt_remote::RemoteError;
 use vt_tree::{BlockErr, TreeErr};
+use vt_use::StoreError;
 
-/// The first cause in time: why the archive couldn't be read, or the connection's end. Of a server
-/// it is told why the client of that was refused first, if it was.
+/// The first cause in time: why the archive couldn't be read, or the connection's end. Of a server a
+/// failed call is told by why that said no first.
 pub fn outcome_of_view(
     answer: Result<Served, VacBad>,
-    refused: Option<ClientErr>,
+    refusal: Option<StoreError>,
 ) -> Result<(), CommandError>
-    ensures { result ≡ outcome_of_view answer refused }
+    ensures { result ≡ outcome_of_view answer refusal }
 {
     let served = match answer {
         Ok(served) => served,
-        Err(bad) => return Err(unread_for(bad, refused)),
+        Err(bad) => return Err(unread_for(bad, refusal)),
     };
     match served.failure {
-        Some(bad) => Err(unread_for(bad, refused)),
+        Some(bad) => Err(unread_for(bad, refusal)),
         None => end_of_view(served.ended, served.taken),
     }
 }
@@ -47,35 +46,35 @@ fn end_of_view(ended: Ended, taken: u64) -> Result<(), CommandError>
 }
 
 /// What is told where an archive can't be read.
-fn unread_for(bad: VacBad, refused: Option<ClientErr>) -> CommandError
-    ensures { result ≡ unread_for bad refused }
+fn unread_for(bad: VacBad, refusal: Option<StoreError>) -> CommandError
+    ensures { result ≡ unread_for bad refusal }
 {
     match bad {
-        VacBad::Tree(err) => unread_tree(err, refused),
+        VacBad::Tree(err) => unread_tree(err, refusal),
         VacBad::Root { .. } => CommandError::BadArchive(0),
         VacBad::Meta { at } => CommandError::BadArchive(at as u64),
         VacBad::NoMemory => CommandError::NoMemory,
     }
 }
 
-/// What is told where a stream in it can't be read.
-fn unread_tree(err: TreeErr, refused: Option<ClientErr>) -> CommandError
-    ensures { result ≡ unread_tree err refused }
+/// The same, of a stream in it.
+fn unread_tree(err: TreeErr, refusal: Option<StoreError>) -> CommandError
+    ensures { result ≡ unread_tree err refusal }
 {
     match err {
-        TreeErr::Block(err) => unread_block(err, refused),
+        TreeErr::Block(err) => unread_block(err, refusal),
         TreeErr::NoMemory => CommandError::NoMemory,
         TreeErr::SourceFault | TreeErr::BadEntry(_) | TreeErr::BadBlock { .. } | TreeErr::TooLong =>
             CommandError::BadArchive(0),
     }
 }
 
-/// What is told where a block of it can't be read.
-fn unread_block(err: BlockErr, refused: Option<ClientErr>) -> CommandError
-    ensures { result ≡ unread_block err refused }
+/// The same, of a block.
+fn unread_block(err: BlockErr, refusal: Option<StoreError>) -> CommandError
+    ensures { result ≡ unread_block err refusal }
 {
     match err {
-        BlockErr::Fault => fault_by(refused),
+        BlockErr::Fault => fault_by(refusal),
         BlockErr::Refused(text) => CommandError::NoBlock(text),
         BlockErr::WrongScore { want, found } => CommandError::Damaged {
             want: FieldValue::Score(want),
@@ -86,12 +85,12 @@ fn unread_block(err: BlockErr, refused: Option<ClientErr>) -> CommandError
     }
 }
 
-/// A failed call: of a disk, or of the link to a server, whose client was refused so.
-fn fault_by(refused: Option<ClientErr>) -> CommandError
-    ensures { result ≡ fault_by refused }
+/// A failed call: of a disk, or of the link to a server, which said no so.
+fn fault_by(refusal: Option<StoreError>) -> CommandError
+    ensures { result ≡ fault_by refusal }
 {
-    match refused {
-        None => CommandError::DiskFault,
-        Some(why) => CommandError::Server(RemoteError::Refused(why)),
+    match refusal {
+        Some(StoreError::Server(bad)) => CommandError::Server(bad),
+        Some(StoreError::Unopened(_) | StoreError::Refused(_)) | None => CommandError::DiskFault,
     }
 }

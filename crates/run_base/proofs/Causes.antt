@@ -1,12 +1,12 @@
 -- Why a command ends with a status other than 0.
-use Rattle.std.proofs.Common.{◌≡◌, ◌≢◌, ⊎_elim, inl, inr, ◌<◌, ◌≤◌, ◌-◌, ◌^◌, ℕ, List, sym, subst, Ok, Err, arith, ◌⊎◌}
+use Rattle.std.proofs.Common.{◌≡◌, ◌≢◌, ⊎_elim, inl, inr, ◌<◌, ◌≤◌, ◌-◌, ◌^◌, ℕ, List, sym, subst, Ok, Err, arith}
 use Rattle.std.proofs.Math.Nat.{eq-or-lt_of_le}
 use Rattle.vt_base.specs.Faults.{HasRisen}
 use Rattle.run_base.specs.declared.error.CommandError.{CommandError}
 use Rattle.run_base.specs.declared.error.CommandError.TheVariants.{BadConf, BadWords, DiskFault, FileFault, FolderFault, NoMemory, ReadFault, Server, WriteFault}
 use Rattle.vt_client.specs.declared.error.ClientErr.TheVariants as errs
-use Rattle.vt_remote.specs.declared.remote.RemoteError.{RemoteError}
-use Rattle.vt_remote.specs.declared.remote.RemoteError.TheVariants as remote
+use Rattle.vt_remote.specs.declared.talk.RemoteError.{RemoteError}
+use Rattle.vt_remote.specs.declared.talk.RemoteError.TheVariants as remote
 use Rattle.run_base.specs.Change.{StreamChange, FilesChange}
 use Rattle.run_base.specs.Errors.{Causes, CommandOutcome, HasCauseIn, HaveFailed, server_status, status_of}
 use Rattle.run_base.specs.Formatting.{Prints}

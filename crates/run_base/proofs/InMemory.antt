@@ -21,9 +21,9 @@ use Rattle.vt_empty.specs.declared.shape.Shape.{Shape}
 use Rattle.vt_empty.specs.Shape.{setup_for}
 use Rattle.vt_empty.specs.Store.{IsFreshStore}
 use Rattle.vt_shard.specs.declared.mounting.Sizes.{Sizes}
-use Rattle.vt_single.specs.Single.{IsAnswer}
-use Rattle.vt_alone.specs.declared.serving.StoreServed.{StoreServed}
-use Rattle.vt_alone.specs.Sessions.{FailsFor, NoCallFails, OnlyMemory}
+use Rattle.vt_use.specs.Blocks.{IsAnswer}
+use Rattle.vt_use.specs.declared.session.StoreServed.{StoreServed}
+use Rattle.vt_use.specs.Sessions.{FailsFor, NoCallFails, OnlyMemory}
 use Rattle.run_base.specs.Blocks.{AnswersOfEmptyStore, FailsInMemory}
 use Rattle.run_base.specs.Memory.{IsMemoryStore, memory_setup}
 

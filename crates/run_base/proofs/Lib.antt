@@ -4,5 +4,5 @@ pub mod NameAt
 pub mod OpenCauses
 pub mod Puts
 pub mod SaidBefore
-pub mod StoredCauses
+pub mod StoreCauses
 pub mod WholeFile

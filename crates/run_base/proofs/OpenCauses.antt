@@ -1,5 +1,5 @@
 -- Why the store of a configuration is not opened.
-use Rattle.std.proofs.Common.{◌≡◌, ◌⊎◌, ⊎_elim, inl, inr, ℕ, zero, suc, List, [], ◌∷◌, length, map, None, Err, refl, sym, subst, arith}
+use Rattle.std.proofs.Common.{◌≡◌, ⊎_elim, inl, inr, ℕ, zero, suc, List, [], ◌∷◌, length, map, None, Err, refl, sym, subst, arith}
 use Rattle.std.specs.Prelude.{IsTrue, slice_index}
 use Rattle.std.proofs.lemmas.List.{length-append, length-map}
 use Rattle.vt_base.specs.declared.mount.MountBad.{MountBad}
@@ -20,7 +20,7 @@ use Rattle.vt_partitions.specs.Parts.{HandsOut, Standing}
 use Rattle.run_base.specs.declared.error.CommandError.{CommandError}
 use Rattle.run_base.specs.declared.error.CommandError.TheVariants.{DiskFault, NoMemory}
 use Rattle.run_base.specs.Change.{StreamChange, PartsChange}
-use Rattle.run_base.specs.Unopened.{IsOpenRefusal, OpensNone}
+use Rattle.run_base.specs.Unopened.{IsOpenRefusal, TellsUnopened}
 use Rattle.run_base.specs.Configurations.{IsRefusalAmong}
 use Rattle.run_base.specs.Errors.{Causes, HasCauseIn, HasDiskCause, PartHasFailed, HaveFailed, CommandOutcome}
 use Rattle.run_base.proofs.Causes.{as_told, have_failed}
@@ -130,6 +130,6 @@ module _ {P D : Type 0} (score : List ℕ → List ℕ) (disk : DiskOf D) (file 
         (λ memory. as_told causes failure NoMemory memory tt) is
 
     pub none_opened : {R K : Type 0} (outcome : CommandOutcome) (source : StreamChange R) (sink : StreamChange K)
-        → OpensNone score disk file conf outcome source sink parts → HasCauseIn causes outcome
+        → TellsUnopened score disk file conf outcome source sink parts → HasCauseIn causes outcome
     none_opened outcome source sink x = subst (λ (o : CommandOutcome). HasCauseIn causes o)
         (sym x.outcome_is) (open_told x.bad x.failure x.refused x.differs x.told)

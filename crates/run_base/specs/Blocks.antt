@@ -1,24 +1,22 @@
 -- One block of a store: what the words of a command say of it, and what is told where it isn't read
 -- or written.
-use Rattle.std.specs.Prelude.{ℕ, ◌≡◌, ◌≤◌, ◌⊎◌, ⊤, IfErr, IsTrue, List, [], Result, Ok, Err, decimal}
+use Rattle.std.specs.Prelude.{ℕ, ◌≡◌, ◌≤◌, ◌⊎◌, ⊤, IfErr, List, [], Result, Ok, Err, decimal}
 use Rattle.vt_base.specs.Damage.{Differ}
 use Rattle.vt_base.specs.Kind.{IsKind}
 use Rattle.vt_base.specs.ScoreText.{SpellsScore, wrong_place}
 use Rattle.vt_base.specs.Protocol.{Operation, RMessage}
 use Rattle.vt_base.specs.declared.why.Why.{Why}
 use Rattle.vt_base.specs.declared.why.Why.TheVariants as whys
-use Rattle.vt_conf.specs.declared.conf.Conf.{Conf}
 use Rattle.vt_conf.specs.Numbers.{wrong_digit}
-use Rattle.vt_core.specs.Core.{CoreState}
-use Rattle.vt_disk.specs.Members.{DiskOf}
 use Rattle.vt_model.specs.Answer.{answer}
 use Rattle.vt_handler.specs.Serving.{answered, reply_in}
-use Rattle.vt_single.specs.declared.stored.StoredError.{StoredError}
-use Rattle.vt_single.specs.declared.stored.StoredError.TheVariants as stored
-use Rattle.vt_single.specs.Stored.{UsesStore}
+use Rattle.vt_use.specs.declared.used_at.StoreAt.{StoreAt}
+use Rattle.vt_use.specs.declared.used_at.StoreAt.TheVariants as place
+use Rattle.vt_use.specs.declared.used_at.StoreError.{StoreError}
+use Rattle.vt_use.specs.declared.used_at.StoreError.TheVariants as stores
 use Rattle.run_base.specs.declared.error.CommandError.{CommandError}
-use Rattle.run_base.specs.declared.error.CommandError.TheVariants.{ArenasFull, BadNumber, BadScore, IndexFull, Refused}
-use Rattle.run_base.specs.Change.{StreamChange, FilesChange, PartsChange}
+use Rattle.run_base.specs.declared.error.CommandError.TheVariants.{ArenasFull, BadNumber, BadScore, IndexFull, NoMemory, Refused, Server}
+use Rattle.run_base.specs.Change.{StreamChange, FilesChange}
 use Rattle.run_base.specs.Unopened.{IsOpenRefusal}
 use Rattle.run_base.specs.Configurations.{ReadsNone}
 use Rattle.run_base.specs.Errors.{CommandOutcome}
@@ -72,29 +70,26 @@ refusal_for (whys.Stopped call) = failure_for (whys.Stopped call)
 refusal_for (whys.Damaged site want found) = failure_for (whys.Damaged site want found)
 refusal_for whys.NoMemory = failure_for whys.NoMemory
 
--- Why the store of a configuration wasn't opened, or what it refused with.
-abbrev pub IsStoredRefusal : (file : List ℕ) → Conf → StoredError → CommandError → Type 0
-IsStoredRefusal file conf (stored.Unopened bad) failure = IsOpenRefusal file conf bad failure
-IsStoredRefusal file conf (stored.Refused why) failure = failure ≡ refusal_for why
+-- Why a store at a place wasn't used, or what it said no for. That of a server isn't opened, and so
+-- never told as unopened: for that stands want of memory, which tells of no fault.
+abbrev pub IsStoreRefusal : (file : List ℕ) → StoreError → StoreAt → CommandError → Type 0
+IsStoreRefusal file (stores.Unopened bad) (place.Conf conf) failure =
+    IsOpenRefusal file conf bad failure
+IsStoreRefusal file (stores.Unopened bad) (place.Server address) failure = failure ≡ NoMemory
+IsStoreRefusal file (stores.Refused why) at failure = failure ≡ refusal_for why
+IsStoreRefusal file (stores.Server bad) at failure = failure ≡ Server bad
+
+-- the outcome is why a store at this place wasn't used, or what it said no for
+abbrev pub TellsRefusal : (file : List ℕ) → StoreAt → StoreError → CommandOutcome → Type 0
+TellsRefusal file at bad outcome =
+    (failure : CommandError) × (outcome ≡ Err failure) × IsStoreRefusal file bad at failure
 
 -- what came of it is printed, or it is told why not; then nothing is printed
-abbrev pub TellsStoredBlock : {K T : Type 0} → (file : List ℕ) → Conf → (text : T → List ℕ)
-    → Result T StoredError → CommandOutcome → StreamChange K → Type 0
-TellsStoredBlock file conf text (Ok value) outcome sink = Prints (text value) outcome sink
-TellsStoredBlock file conf text (Err bad) outcome sink =
-    ((failure : CommandError) × (outcome ≡ Err failure) × IsStoredRefusal file conf bad failure)
-    × (sink.after ≡ sink.before)
-
--- This was done with the store of a configuration, and what came of it was told.
-pub record DoesStored {K P D T : Type 0} (score : List ℕ → List ℕ) (disk : DiskOf D)
-    (file : List ℕ) (conf : Conf) (Does : Result T Why → (opened left : CoreState D) → Type 0)
-    (text : T → List ℕ) (outcome : CommandOutcome) (sink : StreamChange K) (parts : PartsChange P D)
-    : Type 0
-  where
-    pub result : Result T StoredError
-    pub uses : UsesStore score disk (IsTrue parts.tells) conf Does parts.old parts.new parts.faults
-        parts.faults' result
-    pub told : TellsStoredBlock file conf text result outcome sink
+abbrev pub TellsBlock : {K T : Type 0} → (file : List ℕ) → StoreAt → (text : T → List ℕ)
+    → Result T StoreError → CommandOutcome → StreamChange K → Type 0
+TellsBlock file at text (Ok value) outcome sink = Prints (text value) outcome sink
+TellsBlock file at text (Err bad) outcome sink =
+    TellsRefusal file at bad outcome × (sink.after ≡ sink.before)
 
 -- ---- in memory
 

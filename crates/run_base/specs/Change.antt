@@ -3,9 +3,8 @@ use Rattle.std.specs.Prelude.{ℕ, ◌≡◌, ◌⊎◌, ◌++◌, Bool, IsTrue,
 use Rattle.vt_base.specs.Faults.{HasRisen}
 use Rattle.vt_out.specs.Streams.{AppendsPrefix}
 use Rattle.vt_out.specs.FolderStanding.{Standing as FolderStanding}
-use Rattle.vt_partitions.specs.Parts.{Standing}
-use Rattle.vt_dial.specs.Dialled.{Dialled}
-use Rattle.run_base.specs.Members.{SourceOf, SinkOf, FilesOf, PartsOf, FoldersOf, DialerOf, LinkOf}
+pub use Rattle.vt_use.specs.Change.{PartsChange, parts_change, DialerChange, dialer_change, NoneHandedOut, NoneDialled}
+use Rattle.run_base.specs.Members.{SourceOf, SinkOf, FilesOf, FoldersOf}
 
 -- A stream before the run and behind it: the stream itself; its bytes, left or written, where it
 -- tells them, and of one that is read those that were taken; and its count of faults.
@@ -69,57 +68,6 @@ files_change files before after = record {
   faults' = files.faults after;
 }
 
--- The partitions before the run and behind it: they themselves; what stands under which name, where
--- they tell it; and their count of faults.
-pub record PartsChange (Parts Disk : Type 0) : Type 0 where
-  pub before : Parts
-  pub after : Parts
-  pub tells : Bool
-  pub old : (name : List ℕ) → Standing Disk
-  pub new : (name : List ℕ) → Standing Disk
-  pub faults : ℕ
-  pub faults' : ℕ
-
--- what a command did to the partitions by name
-abbrev pub parts_change : {P D : Type 0} → PartsOf P D → (before after : P) → PartsChange P D
-parts_change parts before after = record {
-  before = before;
-  after = after;
-  tells = parts.tells;
-  old = parts.standing before;
-  new = parts.standing after;
-  faults = parts.faults before;
-  faults' = parts.faults after;
-}
-
--- The dialer before the run and behind it: it itself; what became of its link, where it tells it;
--- its count of faults; and how many calls of reading and of writing a link of it counts as failed.
-pub record DialerChange (Dialer Link : Type 0) : Type 0 where
-  pub before : Dialer
-  pub after : Dialer
-  pub tells : Bool
-  pub old : Dialled Link
-  pub new : Dialled Link
-  pub faults : ℕ
-  pub faults' : ℕ
-  pub read_faults : Link → ℕ
-  pub write_faults : Link → ℕ
-
--- what a command did to the dialer and to its links
-abbrev pub dialer_change : {N L : Type 0} → DialerOf N L → LinkOf L → (before after : N)
-    → DialerChange N L
-dialer_change dialer link before after = record {
-  before = before;
-  after = after;
-  tells = dialer.tells;
-  old = dialer.dialled before;
-  new = dialer.dialled after;
-  faults = dialer.faults before;
-  faults' = dialer.faults after;
-  read_faults = link.read_faults;
-  write_faults = link.write_faults;
-}
-
 -- The folders before the run and behind it: what stands under which name, where they tell it; and
 -- their count of faults.
 pub record FoldersChange : Type 0 where
@@ -155,17 +103,16 @@ pub record PassesNothing {R K : Type 0} (source : StreamChange R) (sink : Stream
 abbrev pub NoneRead : {I : Type 0} → FilesChange I → Type 0
 NoneRead files = files.after ≡ files.before
 
--- no partition was handed out
-abbrev pub NoneHandedOut : {P D : Type 0} → PartsChange P D → Type 0
-NoneHandedOut parts = parts.after ≡ parts.before
-
--- no link was made
-abbrev pub NoneDialled : {N L : Type 0} → DialerChange N L → Type 0
-NoneDialled dialer = dialer.after ≡ dialer.before
-
 -- no folder was handed out, and no call of one failed
 abbrev pub AreUnused : FoldersChange → Type 0
 AreUnused folders = (folders.new ≡ folders.old) × (folders.faults' ≡ folders.faults)
+
+-- no partition was handed out, no link was made, and nothing was written
+pub record UsesNoStore {P D N L K : Type 0} (parts : PartsChange P D) (dialer : DialerChange N L)
+    (sink : StreamChange K) : Type 0 where
+  pub unused : NoneHandedOut parts
+  pub undialled : NoneDialled dialer
+  pub unwritten : IsUntouched sink
 
 -- no partition was handed out, and nothing was written
 pub record MakesNothing {P D K : Type 0} (parts : PartsChange P D) (sink : StreamChange K)
@@ -173,7 +120,7 @@ pub record MakesNothing {P D K : Type 0} (parts : PartsChange P D) (sink : Strea
   pub unused : NoneHandedOut parts
   pub unwritten : IsUntouched sink
 
--- Nothing was written, no partition was handed out, no file was read, and no link was made.
+-- no file was read either, and no link made
 pub record UsesNothing {I P D N L K : Type 0} (files : FilesChange I) (parts : PartsChange P D)
     (dialer : DialerChange N L) (sink : StreamChange K) : Type 0 where
   pub unopened : NoneRead files

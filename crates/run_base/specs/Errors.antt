@@ -16,8 +16,8 @@ use Rattle.run_base.specs.declared.error.CommandError.{CommandError}
 use Rattle.run_base.specs.declared.error.CommandError.TheVariants.{BadWords, BadConf, NotFormatted, TooSmall, Disagree, SameName, DiskFault, BadNumber, BadName, BadScore, BadArchive, TooDeep, TooLong, Cut, Malformed, Spent, ReadFault, FileFault, FolderFault, WriteFault, NoMemory, Damaged, IndexFull, ArenasFull, Refused, NoBlock, Server}
 use Rattle.run_base.specs.Change.{StreamChange, DialerChange, FilesChange, FoldersChange, PartsChange}
 use Rattle.run_base.specs.Fields.{field_name, value_text}
-use Rattle.vt_remote.specs.declared.remote.RemoteError.{RemoteError}
-use Rattle.vt_remote.specs.declared.remote.RemoteError.TheVariants as remote
+use Rattle.vt_remote.specs.declared.talk.RemoteError.{RemoteError}
+use Rattle.vt_remote.specs.declared.talk.RemoteError.TheVariants as remote
 
 -- how a command ended: done, or why not
 abbrev pub CommandOutcome : Type 0

@@ -10,4 +10,3 @@ pub mod Unopened
 pub mod Blocks
 pub mod Places
 pub mod Said
-pub mod Servers

@@ -7,7 +7,7 @@ use Rattle.vt_session.specs.declared.Ended.{Ended}
 use Rattle.vt_session.specs.declared.Ended.TheVariants as ends
 use Rattle.vt_session.specs.Heard.{Item, Heard}
 use Rattle.vt_session.specs.Talk.{Took, spent_len}
-use Rattle.vt_alone.specs.declared.serving.StoreServed.{StoreServed}
+use Rattle.vt_use.specs.declared.session.StoreServed.{StoreServed}
 use Rattle.run_base.specs.declared.error.CommandError.{CommandError}
 use Rattle.run_base.specs.declared.error.CommandError.TheVariants.{Cut, Damaged, DiskFault, Malformed, NoMemory, ReadFault, Spent, WriteFault}
 use Rattle.run_base.specs.Change.{StreamChange}

@@ -18,8 +18,8 @@ IsOpenRefusal file conf (Missing part) failure = failure ≡ DiskFault
 IsOpenRefusal file conf (Refused bad) failure =
     IsRefusalAmong file (files_in_order conf) bad failure ⊎ (failure ≡ NoMemory)
 
--- No store was opened, and nothing was read or written.
-pub record OpensNone {R K P D : Type 0} (score : List ℕ → List ℕ) (disk : DiskOf D)
+-- It is told why the store wasn't opened, and nothing was read or written.
+pub record TellsUnopened {R K P D : Type 0} (score : List ℕ → List ℕ) (disk : DiskOf D)
     (file : List ℕ) (conf : Conf) (outcome : CommandOutcome) (source : StreamChange R)
     (sink : StreamChange K)
     (parts : PartsChange P D) : Type 0 where

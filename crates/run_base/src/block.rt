@@ -2,16 +2,16 @@
 
 ghost use Rattle.std.specs.Prelude.{◌≡◌, IfErr, IfOk};
 ghost use Rattle.vt_base.specs.ScoreText.{SpellsScore};
-ghost use Rattle.run_base.specs.Blocks.{IsStoredRefusal, SaysNoScore, SaysNoType, SaysType, refusal_for};
+ghost use Rattle.run_base.specs.Blocks.{IsStoreRefusal, SaysNoScore, SaysNoType, SaysType, refusal_for};
 
 use crate::error::CommandError;
 use crate::served::failure_for;
 use crate::unopened::told;
 use std::alloc::Global;
 use vt_base::{Kind, Score, Text, Why, parse_score};
-use vt_conf::{Conf, parse_number};
+use vt_conf::parse_number;
 use vt_out::Sink;
-use vt_single::StoredError;
+use vt_use::{StoreAt, StoreError};
 
 /// The score that a word spells.
 pub fn score_in(word: &Text) -> Result<Score, CommandError>
@@ -36,19 +36,25 @@ pub fn type_in(word: &Text) -> Result<Kind, CommandError>
     Kind::from_wire(number).ok_or(CommandError::Refused(Why::BadType))
 }
 
-/// What is told where a block of a configuration's store isn't read or written.
-pub fn told_stored<T: Sink + Drop>(
+/// What is told where a store at a place isn't used, or says no. The word that names it is that of its
+/// configuration's file.
+pub fn told_at<T: Sink + Drop>(
     alloc: Global,
     terminal: Option<T>,
     file: &Text,
-    conf: &Conf,
-    bad: StoredError,
+    at: &StoreAt,
+    bad: StoreError,
 ) -> CommandError
-    ensures { IsStoredRefusal file.now conf.now bad result }
+    ensures { IsStoreRefusal file.now bad at.now result }
 {
     match bad {
-        StoredError::Unopened(bad) => told(alloc, terminal, file, conf, bad),
-        StoredError::Refused(why) => refusal_for(why),
+        StoreError::Unopened(bad) => match at {
+            StoreAt::Conf(conf) => told(alloc, terminal, file, conf, bad),
+            // (a server's store isn't opened, so nothing has failed there)
+            StoreAt::Server(_) => CommandError::NoMemory,
+        },
+        StoreError::Refused(why) => refusal_for(why),
+        StoreError::Server(bad) => CommandError::Server(bad),
     }
 }
 

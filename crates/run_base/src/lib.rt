@@ -15,13 +15,13 @@ mod served;
 mod shown;
 mod unopened;
 
-pub use block::{refusal_for, score_in, told_stored, type_in};
+pub use block::{refusal_for, score_in, told_at, type_in};
 pub use complaint::{complain_of, hexadecimal, put_line};
 pub use configuration::read_conf;
 pub use error::{CommandError, status};
 pub use host::Outside;
 pub use memory::{memory_store, read_made, write_made};
-pub use place::{Place, is_in_memory, place_of};
+pub use place::{Place, find_store, is_in_memory, store_at};
 pub use printing::{print, put_pieces};
 pub use served::outcome_of;
 pub use shown::{Shown, Unit};

@@ -17,7 +17,7 @@ use vt_empty::laws::memory_never_fails;
 use vt_empty::{Shape, fresh_store};
 use vt_memdisk::MemDisk;
 use vt_shard::Sizes;
-use vt_single::{blocks_are_kept, blocks_are_read, failures_have_causes, read_block, write_block};
+use vt_use::{blocks_are_kept, blocks_are_read, blocks_have_causes, read_block, write_block};
 
 /// The shape of the store in memory.
 const MEMORY: Shape = Shape {
@@ -59,7 +59,7 @@ pub fn read_made<S: Scorer>(
 {
     memory_never_fails();
     blocks_are_read::<MemDisk>();
-    failures_have_causes::<MemDisk>();
+    blocks_have_causes::<MemDisk>();
     let Ok(core) = memory_store(alloc, scorer) else {
         return Err(Why::NoMemory);
     };
@@ -83,7 +83,7 @@ pub fn write_made<S: Scorer>(
 {
     memory_never_fails();
     blocks_are_kept::<MemDisk>();
-    failures_have_causes::<MemDisk>();
+    blocks_have_causes::<MemDisk>();
     let Ok(core) = memory_store(alloc, scorer) else {
         return Err(Why::NoMemory);
     };

@@ -4,9 +4,9 @@ ghost use Rattle.std.specs.Prelude.{◌≡◌};
 ghost use Rattle.run_base.specs.Served.{failure_for, outcome_of, outcome_of_end};
 
 use crate::error::CommandError;
-use vt_alone::StoreServed;
 use vt_base::Why;
 use vt_session::Ended;
+use vt_use::StoreServed;
 
 /// The first cause in time: a failure in a request, the session's end, the end of the store's use.
 pub fn outcome_of(served: StoreServed) -> Result<(), CommandError>

@@ -1,31 +1,23 @@
 -- Why a block of a store isn't read or written.
-use Rattle.std.proofs.Common.{◌≡◌, ⊎_elim, ℕ, Bool, List, None, Result, Ok, Err, sym, subst}
-use Rattle.std.specs.List.{All}
+use Rattle.std.proofs.Common.{◌≡◌, ⊎_elim, ℕ, true, false, List, Result, Ok, Err, sym, subst}
 use Rattle.std.specs.Prelude.{IfErr}
 use Rattle.vt_base.specs.Faults.{HasRisen}
-use Rattle.vt_base.specs.declared.score.Score.{Score}
 use Rattle.vt_base.specs.declared.why.Why.{Why}
 use Rattle.vt_base.specs.declared.why.Why.TheVariants as whys
-use Rattle.vt_client.specs.declared.error.ClientErr.{ClientErr}
 use Rattle.vt_disk.specs.Members.{DiskOf}
-use Rattle.vt_handler.specs.Serving.{tells_failure}
-use Rattle.vt_core.specs.Core.{CoreState, stops_of}
-use Rattle.vt_alone.specs.Sessions.{FailsFor}
-use Rattle.vt_remote.specs.Refused.{HasCauseOver}
-use Rattle.vt_remote.specs.Remote.{AsksForBlock, MeetsInVain, PutsAndSyncs, TalksToServer}
-use Rattle.vt_single.specs.Single.{ReadsBlock, WritesBlock}
+use Rattle.vt_use.specs.OneBlock.{ReadsOne, WritesOne}
 use Rattle.run_base.specs.declared.error.CommandError.{CommandError}
 use Rattle.run_base.specs.declared.error.CommandError.TheVariants.{NoMemory, ReadFault, Refused as RefusedBy}
 use Rattle.run_base.specs.declared.place.Place.{Place}
-use Rattle.run_base.specs.declared.place.Place.TheVariants.{Memory, Server, Conf as InFile}
+use Rattle.run_base.specs.declared.place.Place.TheVariants.{Memory, At}
 use Rattle.run_base.specs.Blocks.{FailsInMemory, SaysNoType, TellsMade, refusal_for}
 use Rattle.run_base.specs.Change.{StreamChange, DialerChange, FilesChange, PartsChange}
 use Rattle.run_sessions.specs.Read.{DoesRead, PrintsBlock, SaysNoBlock}
-use Rattle.run_sessions.specs.Write.{DoesWrite, TakesNoBlock, TakesNone, WritesInput, score_line}
+use Rattle.run_sessions.specs.Write.{DoesWrite, TakesNoBlock, TakesNone, WritesBlockTo, WritesInput, score_line}
 use Rattle.run_base.specs.Errors.{Causes, HasCauseIn, CommandOutcome, no_cause, with_dialer, with_files, with_parts, with_sink, with_source}
 use Rattle.run_base.specs.Members.{LinkOf}
 use Rattle.run_base.proofs.Causes.{as_told, printed_has_cause}
-use Rattle.run_base.proofs.StoredCauses.{done_cause, asked_cause, no_conf_cause, place_cause, word_cause}
+use Rattle.run_base.proofs.StoreCauses.{AreCaused, block_cause as store_cause, place_cause, word_cause}
 
 -- ---- where a word is refused, or no block is taken
 
@@ -71,37 +63,24 @@ made_told_cause causes text (Err why) outcome sink rises told fails =
 -- ---- the commands
 
 module _ {D L : Type 0} (score : List ℕ → List ℕ) (disk : DiskOf D) (link : LinkOf L)
-    (met : (why : ClientErr) (back : L) → MeetsInVain link score why back
-    → HasCauseOver link why back) where
-  module _ (fails : (kind : ℕ) (s : List ℕ) (result : Result (List ℕ) Why)
-      (old new : CoreState D) → ReadsBlock score disk kind s result old new
-      → All (λ stop. stop ≡ None) (stops_of old)
-      → IfErr result (λ why. tells_failure why ≡ Bool.true → FailsFor disk why old new))
-      (asks : (kind : ℕ) (s : List ℕ) (why : ClientErr) (back : L)
-      → TalksToServer link score (AsksForBlock link score kind s (Err why)) back
-      → HasCauseOver link why back) {I P N K : Type 0} (store score_word type_word : List ℕ)
-      (outcome : CommandOutcome) (files : FilesChange I) (parts : PartsChange P D)
-      (dialer : DialerChange N L) (sink : StreamChange K)
-      (reads : dialer.read_faults ≡ link.read_faults)
+    (laws : AreCaused score disk link) where
+  module _ {I P N K : Type 0} (store score_word type_word : List ℕ) (outcome : CommandOutcome)
+      (files : FilesChange I) (parts : PartsChange P D) (dialer : DialerChange N L)
+      (sink : StreamChange K) (reads : dialer.read_faults ≡ link.read_faults)
       (writes : dialer.write_faults ≡ link.write_faults) where
     abbrev read_causes : Causes
     read_causes =
         with_files files (with_parts disk parts (with_dialer dialer (with_sink sink no_cause)))
 
     printed_cause : (s : List ℕ) (kind : ℕ) (place : Place)
-        → PrintsBlock score disk link store s kind outcome files parts dialer sink place
+        → PrintsBlock score disk link store s kind outcome parts dialer sink place
         → HasCauseIn read_causes outcome
     printed_cause s kind Memory it = made_told_cause read_causes (λ (bytes : List ℕ). bytes)
         it.0.result outcome sink (λ rose. rose) it.0.told it.0.fails
-    printed_cause s kind (Server address) it = asked_cause link score address dialer reads writes
-        met (AsksForBlock link score kind s) (asks kind s) read_causes (λ (bytes : List ℕ). bytes)
-        outcome sink (λ bad why. why) (λ rose. rose) it.0.does
-    printed_cause s kind InFile it = ⊎_elim
-        (no_conf_cause read_causes store outcome files (λ rose. rose))
-        (λ done. done_cause score disk store done.conf parts read_causes (λ why. why)
-        (ReadsBlock score disk kind s)
-        (λ why opened left none does. fails kind s (Err why) opened left does none)
-        (λ (bytes : List ℕ). bytes) outcome sink (λ rose. rose) done.does) it.0
+    printed_cause s kind (At at) it = store_cause score disk link laws store 0 false parts dialer reads
+        writes read_causes (λ why. why) (λ bad why. why)
+        (λ output S act holds calls from to. ReadsOne kind s output calls) at
+        (λ (bytes : List ℕ). bytes) outcome sink (λ rose. rose) it.used it.uses it.told
 
     pub read_cause
         : DoesRead score disk link store score_word type_word outcome files parts dialer sink
@@ -109,19 +88,13 @@ module _ {D L : Type 0} (score : List ℕ → List ℕ) (disk : DiskOf D) (link 
     read_cause does = ⊎_elim
         (word_cause read_causes (SaysNoBlock score_word type_word) outcome
         (block_cause read_causes score_word type_word))
-        (λ it. place_cause read_causes store
-        (PrintsBlock score disk link store it.0 it.1 outcome files parts dialer sink) outcome
-        (printed_cause it.0 it.1) it.3)
+        (λ it. place_cause read_causes store files
+        (PrintsBlock score disk link store it.0 it.1 outcome parts dialer sink) outcome
+        (λ rose. rose) (printed_cause it.0 it.1) it.3)
         does
 
-  module _ (fails : (now kind : ℕ) (bytes : List ℕ) (result : Result Score Why)
-      (old new : CoreState D) → WritesBlock score disk now kind bytes result old new
-      → All (λ stop. stop ≡ None) (stops_of old)
-      → IfErr result (λ why. tells_failure why ≡ Bool.true → FailsFor disk why old new))
-      (asks : (kind : ℕ) (bytes : List ℕ) (why : ClientErr) (back : L)
-      → TalksToServer link score (PutsAndSyncs link score kind bytes (Err why)) back
-      → HasCauseOver link why back) {R K I P N : Type 0} (store type_word : List ℕ)
-      (outcome : CommandOutcome) (source : StreamChange R) (sink : StreamChange K) (files : FilesChange I)
+  module _ {R K I P N : Type 0} (store type_word : List ℕ) (outcome : CommandOutcome)
+      (source : StreamChange R) (sink : StreamChange K) (files : FilesChange I)
       (parts : PartsChange P D) (dialer : DialerChange N L)
       (reads : dialer.read_faults ≡ link.read_faults)
       (writes : dialer.write_faults ≡ link.write_faults) where
@@ -129,33 +102,30 @@ module _ {D L : Type 0} (score : List ℕ → List ℕ) (disk : DiskOf D) (link 
     write_causes = with_source source (with_sink sink (with_files files (with_parts disk parts
         (with_dialer dialer no_cause))))
 
-    none_cause : TakesNoBlock outcome source sink → HasCauseIn write_causes outcome
-    none_cause = takes_cause write_causes outcome source sink (λ rose. rose)
+    given_cause : (now kind : ℕ) (bytes : List ℕ) (place : Place)
+        → WritesBlockTo score disk link store now kind bytes outcome sink parts dialer place
+        → HasCauseIn write_causes outcome
+    given_cause now kind bytes Memory it = made_told_cause write_causes score_line it.0.does.result
+        outcome sink (λ rose. rose) it.0.does.told it.0.does.fails
+    given_cause now kind bytes (At at) it = store_cause score disk link laws store now true parts
+        dialer reads writes write_causes (λ why. why) (λ bad why. why)
+        (λ output S act holds calls from to.
+        WritesOne score (record { kind = kind; bytes = bytes }) output calls) at score_line outcome
+        sink (λ rose. rose) it.used it.uses it.told
 
     written_cause : (kind : ℕ) (place : Place)
-        → WritesInput score disk link store kind outcome source sink files parts dialer place
+        → WritesInput score disk link store kind outcome source sink parts dialer place
         → HasCauseIn write_causes outcome
-    written_cause kind Memory it = ⊎_elim none_cause
-        (λ done. made_told_cause write_causes score_line done.does.result outcome sink
-        (λ rose. rose) done.does.told done.does.fails) it.0
-    written_cause kind (Server address) it = ⊎_elim (λ none. none_cause none.0)
-        (λ done. asked_cause link score address dialer reads writes met
-        (PutsAndSyncs link score kind done.bytes) (asks kind done.bytes) write_causes score_line
-        outcome sink (λ bad why. why) (λ rose. rose) done.does) it.0
-    written_cause kind InFile it = ⊎_elim
-        (no_conf_cause write_causes store outcome files (λ rose. rose))
-        (λ read. ⊎_elim (λ none. none_cause none.0)
-        (λ done. done_cause score disk store read.0 parts write_causes (λ why. why)
-        (WritesBlock score disk done.now kind done.bytes)
-        (λ why opened left none does. fails done.now kind done.bytes (Err why) opened left does
-        none) score_line outcome sink (λ rose. rose) done.does) read.2) it.0
+    written_cause kind place it = ⊎_elim
+        (λ none. takes_cause write_causes outcome source sink (λ rose. rose) none.0)
+        (λ done. given_cause done.now kind done.bytes place done.writes) it
 
     pub write_cause
         : DoesWrite score disk link store type_word outcome source sink files parts dialer
         → HasCauseIn write_causes outcome
     write_cause does = ⊎_elim
         (word_cause write_causes (SaysNoType type_word) outcome (type_cause write_causes type_word))
-        (λ it. place_cause write_causes store
-        (WritesInput score disk link store it.0 outcome source sink files parts dialer) outcome
-        (written_cause it.0) it.2)
+        (λ it. place_cause write_causes store files
+        (WritesInput score disk link store it.0 outcome source sink parts dialer) outcome
+        (λ rose. rose) (written_cause it.0) it.2)
         does

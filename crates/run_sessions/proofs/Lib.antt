@@ -1,3 +1,4 @@
+pub mod Scored
 pub mod BlockCauses
 pub mod MemorySessions
 pub mod SessionCauses

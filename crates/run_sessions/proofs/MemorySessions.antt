@@ -5,10 +5,9 @@ use Rattle.vt_disk.specs.Members.{DiskOf}
 use Rattle.vt_model.specs.Places.{Setup}
 use Rattle.vt_session.specs.Turns.{causes_of}
 use Rattle.vt_session.specs.Answered.{AnsweredAlone}
-use Rattle.vt_handler.specs.Serving.{answered}
 use Rattle.vt_core.specs.Core.{CoreState, setup_of}
-use Rattle.vt_alone.specs.declared.serving.StoreServed.{StoreServed}
-use Rattle.vt_alone.specs.Sessions.{AreUnsaid, IsSession as IsSessionOver, NoCallFails}
+use Rattle.vt_use.specs.declared.session.StoreServed.{StoreServed}
+use Rattle.vt_use.specs.Sessions.{AreUnsaid, IsSession as IsSessionOver, NoCallFails}
 use Rattle.run_base.specs.Change.{StreamChange}
 use Rattle.run_sessions.specs.Session.{IsSession, ServesMemory}
 use Rattle.run_base.specs.Memory.{memory_setup}

@@ -1,5 +1,5 @@
 -- Why a session ends with a status other than 0.
-use Rattle.std.proofs.Common.{◌≡◌, ◌⊎◌, ⊎_elim, inr, ℕ, ◌<◌, ◌^◌, List, Option, None, Some, Result, Ok, Err, sym, subst}
+use Rattle.std.proofs.Common.{◌≡◌, ⊎_elim, inr, ℕ, ◌<◌, ◌^◌, List, Option, None, Some, Result, Ok, Err, sym, subst}
 use Rattle.std.specs.Prelude.{◌&&◌, IfErr, IfSome, slice_index}
 use Rattle.vt_base.specs.Faults.{HasRisen}
 use Rattle.vt_base.specs.declared.why.Why.{Why}
@@ -14,9 +14,9 @@ use Rattle.vt_handler.specs.Sessions.{SinkCause}
 use Rattle.vt_core.specs.Core.{CoreState, devices_of, each_of}
 use Rattle.vt_core.specs.Files.{all_of}
 use Rattle.vt_open.specs.Names.{files_of}
-use Rattle.vt_alone.specs.declared.serving.StoreServed.{StoreServed}
-use Rattle.vt_alone.specs.Sessions.{FailsFor}
-use Rattle.vt_alone.proofs.Leaves.{tells_causes}
+use Rattle.vt_use.specs.declared.session.StoreServed.{StoreServed}
+use Rattle.vt_use.specs.Sessions.{FailsFor}
+use Rattle.vt_use.proofs.SessionLeaves.{tells_causes}
 use Rattle.run_base.specs.Change.{StreamChange, FilesChange, PartsChange}
 use Rattle.run_sessions.specs.Session.{DoesSession}
 use Rattle.run_sessions.specs.SessionAt.{DoesSessionAt}
@@ -24,7 +24,7 @@ use Rattle.run_sessions.specs.SessionConf.{DoesSessionConf, ServesConf}
 use Rattle.run_base.specs.Errors.{Causes, HasCauseIn, PartHasFailed, HaveFailed, CommandOutcome, no_cause, with_files, with_parts, with_sink, with_source}
 use Rattle.run_base.specs.Served.{closed_with, failed_in, failure_for, first_outcome, outcome_of, outcome_of_end}
 use Rattle.run_base.proofs.OpenCauses.{has_failed, same_len, none_opened}
-use Rattle.run_base.proofs.StoredCauses.{no_conf_cause}
+use Rattle.run_base.proofs.StoreCauses.{no_conf_cause}
 
 -- ---- how a session ends
 

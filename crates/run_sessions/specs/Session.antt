@@ -7,8 +7,8 @@ use Rattle.vt_session.specs.Answered.{no_faults}
 use Rattle.vt_session.specs.Talk.{Alone}
 use Rattle.vt_handler.specs.Links.{ReadCause}
 use Rattle.vt_handler.specs.Sessions.{SinkCause}
-use Rattle.vt_alone.specs.declared.serving.StoreServed.{StoreServed}
-use Rattle.vt_alone.specs.Sessions.{AreUnsaid, NeedsMemory, OnlyMemory}
+use Rattle.vt_use.specs.declared.session.StoreServed.{StoreServed}
+use Rattle.vt_use.specs.Sessions.{AreUnsaid, NeedsMemory, OnlyMemory}
 use Rattle.run_base.specs.Change.{StreamChange, PassesNothing}
 use Rattle.run_base.specs.Errors.{CommandOutcome}
 use Rattle.run_base.specs.Memory.{memory_setup}

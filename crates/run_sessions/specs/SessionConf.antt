@@ -19,14 +19,14 @@ use Rattle.vt_open.specs.Names.{AreUnder, files_of, HaveOneShape}
 use Rattle.vt_open.specs.Opening.{Opens}
 use Rattle.vt_open.specs.Taking.{AreHandedBack}
 use Rattle.vt_partitions.specs.Parts.{Standing}
-use Rattle.vt_alone.specs.declared.serving.StoreServed.{StoreServed}
-use Rattle.vt_alone.specs.Sessions.{AreMarkedOn, AreUnsaid, OnlyMemory, ServesStore}
+use Rattle.vt_use.specs.declared.session.StoreServed.{StoreServed}
+use Rattle.vt_use.specs.Sessions.{AreMarkedOn, AreUnsaid, OnlyMemory, ServesStore}
 use Rattle.run_base.specs.Blocks.{FindsNoConf}
 use Rattle.run_base.specs.Change.{StreamChange, FilesChange, NoneHandedOut, PartsChange, PassesNothing}
 use Rattle.run_base.specs.Configurations.{ReadsConf}
 use Rattle.run_base.specs.Errors.{CommandOutcome}
 use Rattle.run_base.specs.Served.{PassesOver, outcome_of}
-use Rattle.run_base.specs.Unopened.{OpensNone}
+use Rattle.run_base.specs.Unopened.{TellsUnopened}
 
 -- ---- what is done
 
@@ -68,7 +68,7 @@ abbrev pub DoesSessionConf : {R K I P D : Type 0} → (List ℕ → List ℕ) �
 DoesSessionConf score disk file outcome source sink files parts =
     FindsNoConf file outcome files (PassesNothing source sink × NoneHandedOut parts)
     ⊎ ((conf : Conf) × ReadsConf file conf files
-    × (OpensNone score disk file conf outcome source sink parts
+    × (TellsUnopened score disk file conf outcome source sink parts
     ⊎ ServesConf score disk conf outcome source sink parts))
 
 -- ---- the promise

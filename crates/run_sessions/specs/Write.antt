@@ -1,29 +1,30 @@
 -- The command `write STORE TYPE`: what comes in is one block of a store, whose score is printed
 -- (venti(8)).
-use Rattle.std.specs.Prelude.{ℕ, ◌≡◌, ◌⊎◌, ◌≤◌, ◌+◌, ◌++◌, IfOk, IsTrue, List, [], ◌∷◌, Err, length}
+use Rattle.std.specs.Prelude.{ℕ, ◌≡◌, ◌⊎◌, ◌≤◌, ◌+◌, ◌++◌, true, IfOk, IsTrue, List, [], ◌∷◌, Result, Err, length}
 use Rattle.hex.specs.Hex.{encode_lower}
 use Rattle.vt_base.specs.Faults.{HasRisen}
 use Rattle.vt_base.specs.Protocol.{write, r_write}
 use Rattle.vt_base.specs.declared.TheConstants.{MAX_BLOCK}
 use Rattle.vt_base.specs.declared.score.Score.{Score}
 use Rattle.vt_base.specs.declared.why.Why.TheVariants.{TooBig}
-use Rattle.vt_conf.specs.declared.address.Address.{Address}
-use Rattle.vt_conf.specs.declared.conf.Conf.{Conf}
 use Rattle.vt_disk.specs.Members.{DiskOf}
-use Rattle.vt_remote.specs.Remote.{PutsAndSyncs}
-use Rattle.vt_single.specs.Single.{WritesBlock}
+use Rattle.vt_use.specs.PlaceAnswers.{answer_at}
+use Rattle.vt_use.specs.Places.{UsesAt}
+use Rattle.vt_use.specs.declared.used_at.StoreAt.{StoreAt}
+use Rattle.vt_use.specs.declared.used_at.StoreError.{StoreError}
+use Rattle.vt_use.specs.declared.used_at.UsedAt.{UsedAt}
+use Rattle.vt_tree.specs.declared.error.BlockErr.{BlockErr}
+use Rattle.vt_use.specs.OneBlock.{WritesOne}
 use Rattle.run_base.specs.declared.error.CommandError.{CommandError}
 use Rattle.run_base.specs.declared.error.CommandError.TheVariants.{NoMemory, ReadFault, Refused}
 use Rattle.run_base.specs.declared.place.Place.{Place}
-use Rattle.run_base.specs.declared.place.Place.TheVariants.{Memory, Server, Conf as InFile}
-use Rattle.run_base.specs.Blocks.{AsksMade, DoesStored, FindsNoConf, SaysNoType, SaysType}
-use Rattle.run_base.specs.Change.{StreamChange, DialerChange, FilesChange, IsUntouched, NoneDialled, NoneHandedOut, NoneRead, PartsChange, PassesNothing, UsesNothing}
-use Rattle.run_base.specs.Configurations.{ReadsConf}
+use Rattle.run_base.specs.declared.place.Place.TheVariants.{Memory, At}
+use Rattle.run_base.specs.Blocks.{AsksMade, SaysNoType, SaysType, TellsBlock}
+use Rattle.run_base.specs.Change.{StreamChange, DialerChange, FilesChange, IsUntouched, NoneDialled, NoneHandedOut, PartsChange, UsesNoStore, UsesNothing}
 use Rattle.run_base.specs.Errors.{CommandOutcome}
 use Rattle.run_base.specs.Formatting.{RefusesWord}
 use Rattle.run_base.specs.Members.{LinkOf}
 use Rattle.run_base.specs.Places.{AtPlace}
-use Rattle.run_base.specs.Servers.{AsksAt}
 
 -- ---- what comes in
 
@@ -65,84 +66,58 @@ pub record TakesNoBlock {R K : Type 0} (outcome : CommandOutcome) (source : Stre
 
 -- ---- in memory
 
--- the store in memory was given the block that came in
-pub record WritesMade {R K : Type 0} (score : List ℕ → List ℕ) (kind : ℕ) (outcome : CommandOutcome)
-    (source : StreamChange R) (sink : StreamChange K) : Type 0 where
-  pub bytes : List ℕ
-  pub takes : TakesBlock bytes source
+-- the store in memory was given this block
+pub record GivesMade {K : Type 0} (score : List ℕ → List ℕ) (kind : ℕ) (bytes : List ℕ)
+    (outcome : CommandOutcome) (sink : StreamChange K) : Type 0 where
   pub does : AsksMade score (write kind bytes) (λ (given : Score). r_write given.0) score_line
       outcome sink
   pub scored : IfOk does.result (λ (given : Score). given.0 ≡ score bytes)
 
--- no block was taken; or one was written
-abbrev pub MakesInput : {R K : Type 0} → (List ℕ → List ℕ) → (kind : ℕ) → CommandOutcome
-    → StreamChange R
-    → StreamChange K → Type 0
-MakesInput score kind outcome source sink =
-    TakesNoBlock outcome source sink ⊎ WritesMade score kind outcome source sink
+-- ---- at a configuration or a server
 
--- ---- over a configuration
-
--- the store that this configuration names was given the block that came in, committed it, and its
--- score was printed, or it is told why not
-pub record WritesToStore {R K P D : Type 0} (score : List ℕ → List ℕ) (disk : DiskOf D)
-    (file : List ℕ) (conf : Conf) (kind : ℕ) (outcome : CommandOutcome) (source : StreamChange R)
-    (sink : StreamChange K) (parts : PartsChange P D) : Type 0 where
-  pub bytes : List ℕ
-  pub takes : TakesBlock bytes source
-  -- the time that a clump was stamped with, which no clause ties to a clock
-  pub now : ℕ
-  pub does : DoesStored score disk file conf (WritesBlock score disk now kind bytes) score_line
-      outcome sink parts
-  pub scored : IfOk does.result (λ (given : Score). given.0 ≡ score bytes)
-
--- no configuration was read; or no block was taken, and no partition handed out; or one was written
-abbrev pub KeepsInput : {R K I P D : Type 0} → (List ℕ → List ℕ) → DiskOf D → (file : List ℕ)
-    → (kind : ℕ) → CommandOutcome → StreamChange R → StreamChange K → FilesChange I
-    → PartsChange P D → Type 0
-KeepsInput score disk file kind outcome source sink files parts =
-    FindsNoConf file outcome files (PassesNothing source sink × NoneHandedOut parts)
-    ⊎ ((conf : Conf) × ReadsConf file conf files
-    × ((TakesNoBlock outcome source sink × NoneHandedOut parts)
-    ⊎ WritesToStore score disk file conf kind outcome source sink parts))
-
--- ---- over an address
-
--- The server at this address was given the block that came in, and committed it, and its score was
--- printed, or it is told why not. Whatever the server sent, that is the block's score.
-pub record PutsTo {R K N L : Type 0} (link : LinkOf L) (score : List ℕ → List ℕ)
-    (address : Address) (kind : ℕ) (outcome : CommandOutcome) (source : StreamChange R)
-    (sink : StreamChange K)
+-- The store at this place was given this block, and committed it, and its score was printed when it was
+-- closed, or the link to it; or it is told why not. Whatever a server sent, that is the block's score.
+pub record GivesTo {K P D N L : Type 0} (score : List ℕ → List ℕ) (disk : DiskOf D)
+    (link : LinkOf L) (file : List ℕ) (at : StoreAt) (now kind : ℕ) (bytes : List ℕ)
+    (outcome : CommandOutcome) (sink : StreamChange K) (parts : PartsChange P D)
     (dialer : DialerChange N L) : Type 0 where
-  pub bytes : List ℕ
-  pub takes : TakesBlock bytes source
-  pub does : AsksAt link score address (PutsAndSyncs link score kind bytes) score_line outcome
-      dialer
-      sink
-  pub scored : IfOk does.result (λ (given : Score). given.0 ≡ score bytes)
-
--- no block was taken, and no link made; or one was written
-abbrev pub PutsInput : {R K N L : Type 0} → LinkOf L → (List ℕ → List ℕ) → Address → (kind : ℕ)
-    → CommandOutcome → StreamChange R → StreamChange K → DialerChange N L → Type 0
-PutsInput link score address kind outcome source sink dialer =
-    (TakesNoBlock outcome source sink × NoneDialled dialer)
-    ⊎ PutsTo link score address kind outcome source sink dialer
+  pub used : Result (UsedAt (Result Score BlockErr)) StoreError
+  pub uses : UsesAt score disk link at now true (λ output S act holds calls from to.
+      WritesOne score (record { kind = kind; bytes = bytes }) output calls) used parts dialer
+  pub told : TellsBlock file at score_line (answer_at used) outcome sink
+  pub scored : IfOk (answer_at used) (λ (given : Score). given.0 ≡ score bytes)
 
 -- ---- the command
 
--- what came in was written to the store at this place, or it is told why not
-abbrev pub WritesInput : {R K I P D N L : Type 0} → (List ℕ → List ℕ) → DiskOf D → LinkOf L
-    → (store : List ℕ) → (kind : ℕ) → CommandOutcome → StreamChange R → StreamChange K
-    → FilesChange I
+-- this block was written to the store at this place; `now` is the time that a clump was stamped with,
+-- which no clause ties to a clock
+abbrev pub WritesBlockTo : {K P D N L : Type 0} → (List ℕ → List ℕ) → DiskOf D → LinkOf L
+    → (store : List ℕ) → (now kind : ℕ) → (bytes : List ℕ) → CommandOutcome → StreamChange K
     → PartsChange P D → DialerChange N L → Place → Type 0
-WritesInput score disk link store kind outcome source sink files parts dialer Memory =
-    MakesInput score kind outcome source sink
-    × NoneRead files × NoneHandedOut parts × NoneDialled dialer
-WritesInput score disk link store kind outcome source sink files parts dialer (Server address) =
-    PutsInput link score address kind outcome source sink dialer
-    × NoneRead files × NoneHandedOut parts
-WritesInput score disk link store kind outcome source sink files parts dialer InFile =
-    KeepsInput score disk store kind outcome source sink files parts × NoneDialled dialer
+WritesBlockTo score disk link store now kind bytes outcome sink parts dialer Memory =
+    GivesMade score kind bytes outcome sink × NoneHandedOut parts × NoneDialled dialer
+WritesBlockTo score disk link store now kind bytes outcome sink parts dialer (At at) =
+    GivesTo score disk link store at now kind bytes outcome sink parts dialer
+
+-- what came in was taken as one block, and it was written to the store at this place, or it is told why
+-- not
+pub record WritesTaken {R K P D N L : Type 0} (score : List ℕ → List ℕ) (disk : DiskOf D)
+    (link : LinkOf L) (store : List ℕ) (kind : ℕ) (outcome : CommandOutcome)
+    (source : StreamChange R) (sink : StreamChange K) (parts : PartsChange P D)
+    (dialer : DialerChange N L) (place : Place) : Type 0 where
+  pub bytes : List ℕ
+  pub takes : TakesBlock bytes source
+  pub now : ℕ
+  pub writes : WritesBlockTo score disk link store now kind bytes outcome sink parts dialer place
+
+-- no block was taken, no partition handed out, and no link made; or what came in was written to the
+-- store at this place, or it is told why not
+abbrev pub WritesInput : {R K P D N L : Type 0} → (List ℕ → List ℕ) → DiskOf D → LinkOf L
+    → (store : List ℕ) → (kind : ℕ) → CommandOutcome → StreamChange R → StreamChange K
+    → PartsChange P D → DialerChange N L → Place → Type 0
+WritesInput score disk link store kind outcome source sink parts dialer place =
+    (TakesNoBlock outcome source sink × NoneHandedOut parts × NoneDialled dialer)
+    ⊎ WritesTaken score disk link store kind outcome source sink parts dialer place
 
 -- What `write` does: its word was refused, or what came in was written as a block of its type.
 abbrev pub DoesWrite : {R K I P D N L : Type 0} → (List ℕ → List ℕ) → DiskOf D → LinkOf L
@@ -152,5 +127,5 @@ DoesWrite score disk link store type_word outcome source sink files parts dialer
     RefusesWord (SaysNoType type_word) outcome
     (IsUntouched source × UsesNothing files parts dialer sink)
     ⊎ ((kind : ℕ) × SaysType type_word kind
-    × AtPlace store (WritesInput score disk link store kind outcome source sink files parts dialer)
-    outcome (IsUntouched source × UsesNothing files parts dialer sink))
+    × AtPlace store files (WritesInput score disk link store kind outcome source sink parts dialer)
+    outcome (IsUntouched source × UsesNoStore parts dialer sink))

@@ -19,7 +19,7 @@ use Rattle.run_stores.specs.Fmtindex.{DoesFmtindex, FormatsIndex, IndexesConf, I
 use Rattle.run_base.specs.Configurations.{IsRefusalAmong}
 use Rattle.run_base.specs.Errors.{Causes, CommandOutcome, HasCauseIn, HasDiskCause, no_cause, with_files, with_parts, with_sink}
 use Rattle.run_base.proofs.Causes.{as_told, have_failed, printed_has_cause}
-use Rattle.run_base.proofs.StoredCauses.{no_conf_cause}
+use Rattle.run_base.proofs.StoreCauses.{no_conf_cause}
 
 -- ---- what a fault comes of
 

@@ -44,7 +44,7 @@ use Rattle.run_base.specs.Errors.{Causes, HasCauseIn, HaveFailed, CommandOutcome
 use Rattle.run_base.specs.Formatting.{Prints}
 use Rattle.run_base.proofs.Causes.{as_told, have_failed, printed_has_cause}
 use Rattle.run_base.proofs.OpenCauses.{has_failed, open_told, same_len}
-use Rattle.run_base.proofs.StoredCauses.{no_conf_cause}
+use Rattle.run_base.proofs.StoreCauses.{no_conf_cause}
 
 -- ---- a store that isn't found, or on which a call failed
 

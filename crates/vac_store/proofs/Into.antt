@@ -1,5 +1,5 @@
--- An archiving, as a use of the store came to.
-use Rattle.std.proofs.Common.{◌≡◌, ℕ, ◌-◌, true, Option, Some, None, Result, Ok, Err, List, refl, sym, ◌∙◌, ap, subst}
+-- An archiving, as what a use of the store came to.
+use Rattle.std.proofs.Common.{◌≡◌, ℕ, ◌-◌, true, Option, Some, None, Result, Ok, Err, List, refl, ◌∙◌, ap, subst}
 use Rattle.std.specs.Prelude.{IfErr, IfOk}
 use Rattle.vt_base.specs.Faults.{CountsFault}
 use Rattle.vt_base.specs.declared.why.Why.{Why}
@@ -8,22 +8,39 @@ use Rattle.vt_out.specs.declared.folder_item.Facts.{Facts}
 use Rattle.vt_out.specs.FolderItems.{Items}
 use Rattle.vt_core.specs.Core.{CoreState, history_len}
 use Rattle.vt_requests.specs.Driven.{DrivenState}
-use Rattle.vt_requests.specs.Ending.{Ends}
 use Rattle.vt_local.specs.Local.{DoesLocal, HoldsLocal, LocalState}
+use Rattle.vt_tree.specs.declared.error.TreeErr.TheVariants as trees
 use Rattle.vt_tree.specs.Calls.{Call}
 use Rattle.vt_tree.specs.Making.{Makes}
 use Rattle.vt_tree.specs.Maps.{Maps}
-use Rattle.vt_use.specs.LocalJobs.{DoesOnStore, new_local}
-use Rattle.vt_use.specs.Stores.{at_time, store_on}
-use Rattle.vt_use.specs.Uses.{UsesCore}
+use Rattle.vt_use.specs.LocalJobs.{new_local}
+use Rattle.vt_use.specs.Stores.{Exchange, at_time, store_on}
+use Rattle.vt_use.specs.Uses.{AsksAndEnds}
+use Rattle.vt_use.specs.Places.{as_ended, as_refused}
+use Rattle.vt_use.specs.declared.used_at.StoreError.{StoreError}
 use Rattle.vac_write.specs.declared.archived.Archived.{Archived}
 use Rattle.vac_write.specs.declared.error.VacErr.{VacErr}
 use Rattle.vac_write.specs.declared.error.VacErr.TheVariants.{FolderFault, Tree, BadName, TooDeep, NoMemory}
-use Rattle.vac_write.specs.Archiving.{WritesArchive, GivesUpArchive, is_folder_fault as of_folder}
-use Rattle.vt_tree.specs.declared.error.TreeErr.TheVariants as trees
+use Rattle.vac_write.specs.Archiving.{WritesArchive, GivesUpArchive, is_folder_fault}
+use Rattle.vac_store.specs.declared.outcome.ArchivedAt.{ArchivedAt}
 use Rattle.vac_store.specs.declared.outcome.ArchiveError.{ArchiveError}
-use Rattle.vac_store.specs.declared.outcome.StoredArchive.{StoredArchive}
-use Rattle.vac_store.specs.Storing.{ArchivesOrGivesUp, ArchivesInto, came_to, is_folder_fault, told}
+use Rattle.vac_store.specs.Storing.{ArchivesByJob, ArchivesOrGivesUp, came_to, tells_folder_fault, told}
+
+-- A folder was archived into a store, or that was given up, and the store's use was then ended.
+pub record ArchivesInto {D : Type 0} (score : List ℕ → List ℕ) (disk : DiskOf D) (now bsize : ℕ)
+    (is_seen : Items Facts → Type 0) (result : Result ArchivedAt ArchiveError)
+    (old new : CoreState D) : Type 0 where
+  pub answer : Result Archived VacErr
+  pub kept : LocalState (DrivenState D)
+  pub archives : IfOk answer (WritesArchive (DoesLocal (store_on score disk))
+      (HoldsLocal (store_on score disk) score) score (new_local (at_time now old)) kept bsize is_seen)
+  pub gives_up : IfErr answer (GivesUpArchive (DoesLocal (store_on score disk))
+      (HoldsLocal (store_on score disk) score) score (new_local (at_time now old)) kept bsize is_seen)
+  pub exchanges : List Exchange
+  pub closed : Result (Unit {0}) Why
+  pub asks : AsksAndEnds score disk now true exchanges closed old kept.store.core new
+  pub result_is : result ≡ came_to answer (as_refused kept.refused)
+      (history_len new - history_len old) (as_ended closed)
 
 module _ {D : Type 0} (score : List ℕ → List ℕ) (disk : DiskOf D) (now bsize : ℕ)
     (is_seen : Items Facts → Type 0) (old new : CoreState D) where
@@ -47,63 +64,53 @@ module _ {D : Type 0} (score : List ℕ → List ℕ) (disk : DiskOf D) (now bsi
   gave_by (Err err) calls l l' it = it.gives_up.0
 
   -- a use of the store, by a job that archives
-  pub into : (answer : Result Archived VacErr) (Does : List Call → State → State → Type 0)
-      → ((calls : List Call) (l l' : State) → Does calls l l' → By answer calls l l')
-      → (refused : Option Why) (added : ℕ) (closed : Result (Unit {0}) Why)
-      (result : Result StoredArchive ArchiveError)
-      → UsesCore score disk now true (DoesOnStore (store_on score disk) Does refused) added closed
-      old new
-      → result ≡ came_to answer refused added closed
-      → ArchivesInto score disk now bsize is_seen result old new
-  into answer Does by refused added closed result x is =
+  pub into : (answer : Result Archived VacErr) (said : Option Why) (added : ℕ)
+      (closed : Result (Unit {0}) Why)
+      → ArchivesByJob score disk now bsize is_seen answer said added closed old new
+      → ArchivesInto score disk now bsize is_seen
+      (came_to answer (as_refused said) added (as_ended closed)) old new
+  into answer said added closed x =
       let d = x.does in
       let first = new_local (at_time now old) in
-      let it = by d.calls first d.kept d.does in
       record {
         answer = answer;
         kept = d.kept;
-        archives = wrote_by answer d.calls first d.kept it;
-        gives_up = gave_by answer d.calls first d.kept it;
+        archives = wrote_by answer d.calls first d.kept d.does;
+        gives_up = gave_by answer d.calls first d.kept d.does;
+        exchanges = x.exchanges;
         closed = closed;
-        ends = subst (λ (e : DrivenState D). Ends score disk closed e.core new) d.new_is
-            x.asks.ends;
-        result_is = is ∙ ap (λ (o : Option Why). came_to answer o added closed) d.refused_is
-            ∙ ap (λ (n : ℕ). came_to answer d.kept.refused n closed) x.added_is;
+        asks = subst (λ (e : DrivenState D). AsksAndEnds score disk now true x.exchanges closed old
+            e.core new) d.new_is x.asks;
+        result_is = ap (λ (o : Option Why). came_to answer (as_refused o) added (as_ended closed))
+            d.refused_is
+            ∙ ap (λ (n : ℕ). came_to answer (as_refused d.kept.refused) n (as_ended closed))
+            x.added_is;
       }
 
 -- ---- faults of the folder
 
 module _ (before after : ℕ) where
-  told_fault : (err : VacErr) (refused : Option Why)
-      → CountsFault {T = Archived} of_folder (Err err) before after
-      → CountsFault {T = StoredArchive} is_folder_fault (Err (told err refused))
-      before after
-  told_fault FolderFault refused counts = counts
+  told_fault : (err : VacErr) (refusal : Option StoreError)
+      → CountsFault {T = Archived} is_folder_fault (Err err) before after
+      → CountsFault {T = ArchivedAt} tells_folder_fault (Err (told err refusal)) before after
+  told_fault FolderFault refusal counts = counts
   told_fault (Tree (trees.Block err)) None counts = counts
-  told_fault (Tree (trees.Block err)) (Some why) counts = counts
-  told_fault (Tree trees.SourceFault) refused counts = counts
-  told_fault (Tree (trees.BadEntry bad)) refused counts = counts
-  told_fault (Tree (trees.BadBlock depth len)) refused counts = counts
-  told_fault (Tree trees.TooLong) refused counts = counts
-  told_fault (Tree trees.NoMemory) refused counts = counts
-  told_fault (BadName path) refused counts = counts
-  told_fault (TooDeep path) refused counts = counts
-  told_fault NoMemory refused counts = counts
+  told_fault (Tree (trees.Block err)) (Some bad) counts = counts
+  told_fault (Tree trees.SourceFault) refusal counts = counts
+  told_fault (Tree (trees.BadEntry bad)) refusal counts = counts
+  told_fault (Tree (trees.BadBlock depth len)) refusal counts = counts
+  told_fault (Tree trees.TooLong) refusal counts = counts
+  told_fault (Tree trees.NoMemory) refusal counts = counts
+  told_fault (BadName path) refusal counts = counts
+  told_fault (TooDeep path) refusal counts = counts
+  told_fault NoMemory refusal counts = counts
 
-  came_fault : (answer : Result Archived VacErr) (refused : Option Why) (added : ℕ)
-      (closed : Result (Unit {0}) Why) → CountsFault of_folder answer before after
-      → CountsFault is_folder_fault (came_to answer refused added closed) before after
-  came_fault (Ok a) refused added (Ok done) counts = counts
-  came_fault (Ok a) refused added (Err why) counts = counts
-  came_fault (Err err) refused added closed counts = told_fault err refused counts
-
-  pub counts_fault : (answer : Result Archived VacErr) (refused : Option Why) (added : ℕ)
-      (closed : Result (Unit {0}) Why) (result : Result StoredArchive ArchiveError)
-      → result ≡ came_to answer refused added closed → CountsFault of_folder answer before after
-      → CountsFault is_folder_fault result before after
-  counts_fault answer refused added closed result is counts =
-      subst (λ (r : Result StoredArchive ArchiveError). CountsFault is_folder_fault r before after)
-      (sym is) (came_fault answer refused added closed counts)
+  pub came_fault : (answer : Result Archived VacErr) (refusal : Option StoreError) (blocks : ℕ)
+      (closed : Result (Unit {0}) StoreError) → CountsFault is_folder_fault answer before after
+      → CountsFault tells_folder_fault (came_to answer refusal blocks closed) before after
+  came_fault (Ok a) refusal blocks (Ok done) counts = counts
+  came_fault (Ok a) refusal blocks (Err bad) counts = counts
+  came_fault (Err err) refusal blocks closed counts = told_fault err refusal counts
 
 -- ---- of any store of blocks
 

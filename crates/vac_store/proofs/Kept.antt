@@ -16,9 +16,8 @@ use Rattle.vt_tree.specs.Calls.{Call, asked_of}
 use Rattle.vt_tree.specs.Maps.{BlockMap, Maps, with_blocks}
 use Rattle.vt_core.specs.Core.{CoreState, devices_of, history_len, setup_of}
 use Rattle.vt_core.specs.Causes.{IsUndamagedWhy}
-use Rattle.vt_core.specs.Mounting.{AllStandFor, EachStands}
+use Rattle.vt_core.specs.Mounting.{AllStandFor}
 use Rattle.vt_core.specs.Sound.{IsSound}
-use Rattle.vt_requests.specs.Answers.{KeepsAll}
 use Rattle.vt_requests.specs.Driven.{DrivenState}
 use Rattle.vt_requests.specs.Ending.{EndsFor}
 use Rattle.vt_use.specs.LocalJobs.{new_local}
@@ -34,17 +33,19 @@ use Rattle.vac_write.specs.declared.error.VacErr.TheVariants.{FolderFault, Tree,
 use Rattle.vac_write.specs.Archiving.{KeepsArchive, WritesArchive, GivesUpArchive, IsGivenUpAs, refusal_of}
 use Rattle.vac_model.specs.Limits.{first_unfit}
 use Rattle.vac_store.specs.declared.outcome.ArchiveError.{ArchiveError}
-use Rattle.vac_store.specs.declared.outcome.StoredArchive.{StoredArchive}
-use Rattle.vac_store.specs.Storing.{ArchivesInto, IsBecause, IsRefusedFor, KeepsFolder, StandsIn, all_written, came_to, told}
-use Rattle.vac_store.proofs.Written.{Holds, IsLastRefusal, puts_so}
+use Rattle.vac_store.specs.declared.outcome.ArchivedAt.{ArchivedAt}
+use Rattle.vt_use.specs.Places.{as_ended, as_refused}
+use Rattle.vac_store.proofs.Into.{ArchivesInto}
+use Rattle.vac_store.specs.Storing.{IsBecause, IsRefusedFor, KeepsFolder, StandsIn, all_written, came_to, told}
+use Rattle.vac_store.proofs.Written.{Holds, IsOwnRefusal, puts_so}
 
 -- ---- why there is no archive
 
--- the last refusal is that of the store, and nothing else is told of it
+-- what the store said no for is told of a refusal of its, and nothing else
 told_because : (score : List ℕ → List ℕ) (c : Setup) (last : History) (rest : List Block)
     (seen : Items Facts) (err : VacErr) (refused : Option Why) → IsGivenUpAs err (first_unfit seen)
-    → IfSome (refusal_of err) (λ e. IsLastRefusal score c last rest refused)
-    → IsBecause score c last rest seen (told err refused)
+    → IfSome (refusal_of err) (λ e. IsOwnRefusal score c last rest refused)
+    → IsBecause score c last rest seen (told err (as_refused refused))
 told_because score c last rest seen FolderFault refused cause because = cause
 told_because score c last rest seen (Tree (trees.Block err)) None cause because = absurd because
 told_because score c last rest seen (Tree (trees.Block err)) (Some why) cause because = because
@@ -89,11 +90,14 @@ module _ {D : Type 0} (score : List ℕ → List ℕ) (disk : DiskOf D)
   abbrev Has : LocalState (DrivenState D) → Maps → Type 0
   Has = HoldsLocal (store_on score disk) score
 
-  -- what the store holds at first
+  -- the store as a store of blocks, before its first call, and what it holds then
+  abbrev start : LocalState (DrivenState D)
+  start = new_local (at_time now old)
+
   before : Maps
   before = record { held = held score h; synced = held score (take old.log.durable h) }
 
-  holds_before : Has (new_local (at_time now old)) before
+  holds_before : Has start before
   unfolding before
   holds_before = record {
     scores = λ bytes. refl;
@@ -107,22 +111,22 @@ module _ {D : Type 0} (score : List ℕ → List ℕ) (disk : DiskOf D)
     synced = λ s kind. refl;
   }
 
-  module _ (result : Result StoredArchive ArchiveError)
+  module _ (result : Result ArchivedAt ArchiveError)
       (it : ArchivesInto score disk now bsize is_seen result old new)
       (leave : (last : History) → IsSound score disk it.kept.store.core last
       → LeftByUse score disk true it.closed last old it.kept.store.core new) where
     module _ (seen : Items Facts) (none_left : Type 0) (err : Option BlockErr)
         (so : Holds score disk tells (archive_of score bsize seen).blocks none_left err h
-        (new_local (at_time now old)) it.kept) where
+        start it.kept) where
       abbrev last : History
       last = all_written score (setup_of old) h so.put
 
       leaves : LeftByUse score disk true it.closed last old it.kept.store.core new
       leaves = leave last so.sound
 
-      abbrev Stored : StoredArchive → Type 0
+      abbrev Stored : ArchivedAt → Type 0
       Stored s = (so.rest ≡ []) × StandsIn score bsize seen last s.archived
-          × (length last ≡ length h + s.added)
+          × (length last ≡ length h + s.blocks)
           × AllStandFor score disk (setup_of old) old.log.tables (devices_of new) last
           (length last)
 
@@ -151,13 +155,13 @@ module _ {D : Type 0} (score : List ℕ → List ℕ) (disk : DiskOf D)
 
     -- it was archived
     module _ (a : Archived)
-        (w : WritesArchive Does Has score (new_local (at_time now old)) it.kept bsize is_seen a) where
+        (w : WritesArchive Does Has score start it.kept bsize is_seen a) where
       abbrev blocks : List Block
       blocks = (archive_of score bsize w.seen).blocks
 
-      so : Holds score disk tells blocks all_asked None h (new_local (at_time now old)) it.kept
-      so = puts_so score disk tells None [] blocks w.calls h (new_local (at_time now old)) it.kept sound w.made
-          w.accepted (append-nil (map asked_of w.calls) ∙ w.asked)
+      so : Holds score disk tells blocks all_asked None h start it.kept
+      so = puts_so score disk tells None [] blocks w.calls h start it.kept sound refl w.made w.accepted
+          (append-nil (map asked_of w.calls) ∙ w.asked)
 
       abbrev added : ℕ
       added = history_len new - history_len old
@@ -184,20 +188,21 @@ module _ {D : Type 0} (score : List ℕ → List ℕ) (disk : DiskOf D)
 
       -- nothing is left but the end of the store's use
       because : (closed : Result (Unit {0}) Why) → it.closed ≡ closed
-          → IfErr (came_to (Ok a) it.kept.refused added closed)
+          → IfErr (came_to (Ok a) (as_refused it.kept.refused) added (as_ended closed))
           (IsBecause score (setup_of old) whole so.rest w.seen)
       because (Ok end) is = tt
       because (Err why) is = subst (λ (bs : List Block). IsRefusedFor score (setup_of old) whole bs
           why) (sym (so.whole refl)) (
             end_fails disk why it.kept.store.core new
                 (subst (λ (r : Result (Unit {0}) Why). IfErr r (λ w. EndsFor disk w
-                it.kept.store.core new)) is it.ends.cause),
+                it.kept.store.core new)) is it.asks.ends.cause),
             subst (λ (r : Result (Unit {0}) Why). IfErr r IsUndamagedWhy) is
-                (it.ends.undamaged whole tells so.sound),
+                (it.asks.ends.undamaged whole tells so.sound),
           )
 
       done : (closed : Result (Unit {0}) Why) → it.closed ≡ closed
-          → IfOk (came_to (Ok a) it.kept.refused added closed) (Stored w.seen all_asked None so)
+          → IfOk (came_to (Ok a) (as_refused it.kept.refused) added (as_ended closed))
+          (Stored w.seen all_asked None so)
       done (Err why) well = tt
       done (Ok end) well = (
         so.whole refl,
@@ -211,41 +216,42 @@ module _ {D : Type 0} (score : List ℕ → List ℕ) (disk : DiskOf D)
         ((leaves w.seen all_asked None so).done refl well).1,
       )
 
-      wrote_so : result ≡ came_to (Ok a) it.kept.refused added it.closed
+      wrote_so : result ≡ came_to (Ok a) (as_refused it.kept.refused) added (as_ended it.closed)
           → KeepsFolder score disk bsize is_seen result h old new
       wrote_so is = keeps_so w.seen all_asked None so w.is
-          (subst (λ (r : Result StoredArchive ArchiveError). IfErr r
+          (subst (λ (r : Result ArchivedAt ArchiveError). IfErr r
           (IsBecause score (setup_of old) whole so.rest w.seen)) (sym is)
           (because it.closed refl))
-          (subst (λ (r : Result StoredArchive ArchiveError). IfOk r
+          (subst (λ (r : Result ArchivedAt ArchiveError). IfOk r
           (Stored w.seen all_asked None so)) (sym is) (done it.closed refl))
 
     -- it was given up
     gave_so : (err : VacErr)
-        → GivesUpArchive Does Has score (new_local (at_time now old)) it.kept bsize is_seen err
-        → result ≡ Err (told err it.kept.refused)
+        → GivesUpArchive Does Has score start it.kept bsize is_seen err
+        → result ≡ Err (told err (as_refused it.kept.refused))
         → KeepsFolder score disk bsize is_seen result h old new
     gave_so err gave is = keeps_so gave.seen (gave.rest ≡ []) (refusal_of err) so gave.is
-        (subst (λ (r : Result StoredArchive ArchiveError). IfErr r (IsBecause score (setup_of old)
+        (subst (λ (r : Result ArchivedAt ArchiveError). IfErr r (IsBecause score (setup_of old)
         (all_written score (setup_of old) h so.put) so.rest gave.seen)) (sym is)
         (told_because score (setup_of old) (all_written score (setup_of old) h so.put) so.rest
         gave.seen err it.kept.refused gave.cause so.because))
-        (subst (λ (r : Result StoredArchive ArchiveError). IfOk r
+        (subst (λ (r : Result ArchivedAt ArchiveError). IfOk r
         (Stored gave.seen (gave.rest ≡ []) (refusal_of err) so)) (sym is) tt)
       where
         so : Holds score disk tells (archive_of score bsize gave.seen).blocks (gave.rest ≡ [])
-            (refusal_of err) h (new_local (at_time now old)) it.kept
+            (refusal_of err) h start it.kept
         so = puts_so score disk tells (refusal_of err) gave.rest
-            (archive_of score bsize gave.seen).blocks gave.calls h (new_local (at_time now old)) it.kept sound
-            gave.made gave.refused gave.asked
+            (archive_of score bsize gave.seen).blocks gave.calls h start it.kept sound refl gave.made
+            gave.refused gave.asked
 
     pub keeps_folder : KeepsFolder score disk bsize is_seen result h old new
     keeps_folder = of it.answer it.archives it.gives_up it.result_is
       where
         of : (answer : Result Archived VacErr)
-            → IfOk answer (WritesArchive Does Has score (new_local (at_time now old)) it.kept bsize is_seen)
-            → IfErr answer (GivesUpArchive Does Has score (new_local (at_time now old)) it.kept bsize is_seen)
-            → result ≡ came_to answer it.kept.refused (history_len new - history_len old) it.closed
+            → IfOk answer (WritesArchive Does Has score start it.kept bsize is_seen)
+            → IfErr answer (GivesUpArchive Does Has score start it.kept bsize is_seen)
+            → result ≡ came_to answer (as_refused it.kept.refused)
+            (history_len new - history_len old) (as_ended it.closed)
             → KeepsFolder score disk bsize is_seen result h old new
         of (Ok a) w gave is = wrote_so a w is
         of (Err err) w gave is = gave_so err gave is

@@ -1,23 +1,14 @@
 -- Of the calls of an archiving the last alone may be refused.
-use Rattle.std.proofs.Common.{◌≡◌, ◌⊎◌, inl, inr, Option, Some, None, List, [], ◌∷◌, ◌++◌, refl, ◌∙◌, ap}
-use Rattle.std.specs.List.{cons_option}
+use Rattle.std.proofs.Common.{◌≡◌, ◌⊎◌, inl, inr, Option, Some, None, List, [], ◌∷◌, ◌++◌, ◌∙◌, ap}
 use Rattle.vt_tree.specs.declared.error.BlockErr.{BlockErr}
 use Rattle.vt_tree.specs.Calls.{Call, refusal_of, refusals_of}
 use Rattle.vt_tree.specs.Making.{EndsBy}
+use Rattle.vt_remote.proofs.Calling.{accepted_first}
 
 -- the first of these calls is answered, and the others end so; or it is the last, and refused so
 abbrev pub IsLastOr : Option BlockErr → Call → List Call → Type 0
 IsLastOr err call calls =
     ((refusal_of call ≡ None) × EndsBy err calls) ⊎ ((calls ≡ []) × (refusal_of call ≡ err))
-
-accepted_first : (call : Call) (calls : List Call) → refusals_of (call ∷ calls) ≡ []
-    → (refusal_of call ≡ None) × (refusals_of calls ≡ [])
-accepted_first call calls accepted = of (refusal_of call) refl accepted
-  where
-    of : (o : Option BlockErr) → refusal_of call ≡ o → cons_option o (refusals_of calls) ≡ []
-        → (refusal_of call ≡ None) × (refusals_of calls ≡ [])
-    of None is none = (is, none)
-    of (Some e) is none = let never : ⊥ = cc in absurd never
 
 pub not_ended : (before : List Call) (last : Call) → [] ≡ before ++ last ∷ [] → ⊥
 not_ended [] last is = cc

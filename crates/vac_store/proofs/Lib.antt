@@ -1,8 +1,8 @@
-pub mod Asks
-pub mod Causes
 pub mod Into
 pub mod Kept
 pub mod Last
+pub mod Leaving
 pub mod Maps
-pub mod Using
+pub mod Sending
+pub mod Unfit
 pub mod Written

@@ -16,7 +16,7 @@ use Rattle.vt_model.specs.Places.{Setup, next_arena, crowd, bucket_of, bucket_co
 use Rattle.vt_model.specs.declared.TheConstants.{BUCKET_ROOM}
 use Rattle.vt_tree.specs.MapLaws.{Same, is_key}
 use Rattle.vt_tree.specs.Maps.{with_block}
-use Rattle.vt_single.specs.Single.{written_to}
+use Rattle.vt_use.specs.Blocks.{written_to}
 
 -- with a block more
 added_map : (score : List ℕ → List ℕ) (h : History) (e : Accepted)

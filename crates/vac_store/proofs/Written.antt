@@ -20,18 +20,19 @@ use Rattle.vt_core.specs.Sound.{IsSound}
 use Rattle.vt_requests.specs.Driven.{DrivenState, DoesRequest}
 use Rattle.vt_use.specs.Answers.{HasFailed}
 use Rattle.vt_use.specs.Stores.{store_on}
-use Rattle.vt_single.specs.Single.{written_to}
+use Rattle.vt_use.specs.Blocks.{written_to}
 use Rattle.vt_use.proofs.Answered.{Goes, request_goes}
-use Rattle.vt_local.specs.Local.{DoesLocal, LocalState, refused_after}
+use Rattle.vt_use.proofs.OneBlocks.{refused_first, unrefused}
+use Rattle.vt_local.specs.Local.{DoesLocal, LocalState}
 use Rattle.vac_store.specs.Storing.{IsRefusedFor, all_written}
 use Rattle.vac_store.proofs.Last.{IsLastOr, ends_so, not_ended}
 use Rattle.vac_store.proofs.Maps.{taken_map}
 
--- why the store said no last, of which these blocks were still to be put
-abbrev pub IsLastRefusal : (List ℕ → List ℕ) → Setup → History → (rest : List Block) → Option Why
+-- why the store said no, before which these blocks were still to be put
+abbrev pub IsOwnRefusal : (List ℕ → List ℕ) → Setup → History → (rest : List Block) → Option Why
     → Type 0
-IsLastRefusal score c h rest None = ⊥
-IsLastRefusal score c h rest (Some why) = IsRefusedFor score c h rest why
+IsOwnRefusal score c h rest None = ⊥
+IsOwnRefusal score c h rest (Some why) = IsRefusedFor score c h rest why
 
 -- ---- one call
 
@@ -52,6 +53,7 @@ module _ {D : Type 0} (score : List ℕ → List ℕ) (disk : DiskOf D) (tells :
     setup : setup_of l'.store.core ≡ setup_of l.store.core
     map : Same (held score (written_to score (setup_of l.store.core) h b.kind b.bytes))
         (with_block score b (held score h))
+    unrefused : l.refused ≡ None → l'.refused ≡ None
 
   take_in : (b : Block) (given : Score) (h : History) (l l' : State)
       → IsSound score disk l.store.core h
@@ -72,6 +74,8 @@ module _ {D : Type 0} (score : List ℕ → List ℕ) (disk : DiskOf D) (tells :
             sound = subst (IsSound score disk l'.store.core) model.1 went.sound;
             setup = same_setup l l' (write b.kind b.bytes) (Ok (r_write given.0)) request;
             map = taken_map score (setup_of l.store.core) h b given.0 (sym model.0);
+            unrefused = λ none. unrefused (store_on score disk) l l' (put b (Ok given)) it
+                (r_write given.0) it.stands none;
           })
           (λ failed. absurd failed.0) went.how
 
@@ -90,12 +94,12 @@ module _ {D : Type 0} (score : List ℕ → List ℕ) (disk : DiskOf D) (tells :
   -- what a refused call leaves, behind which these blocks are still to be put
   record Refused (rest : List Block) (h : History) (l l' : State) : Type 0 where
     sound : IsSound score disk l'.store.core h
-    because : IsLastRefusal score (setup_of l.store.core) h rest l'.refused
+    because : IsOwnRefusal score (setup_of l.store.core) h rest l'.refused
 
   refused_put : (b : Block) (more : List Block) (err : BlockErr) (h : History) (l l' : State)
-      → IsSound score disk l.store.core h
+      → IsSound score disk l.store.core h → l.refused ≡ None
       → DoesLocal (store_on score disk) l (put b (Err err)) l' → Refused (b ∷ more) h l l'
-  refused_put b more err h l l' sound it =
+  refused_put b more err h l l' sound none it =
       let m = write b.kind b.bytes in
       let why = it.stands.0 in
       let request = subst (λ (r : Result RMessage Why). DoesRequest score disk m r l.store l'.store)
@@ -104,9 +108,9 @@ module _ {D : Type 0} (score : List ℕ → List ℕ) (disk : DiskOf D) (tells :
       record {
         sound = stay m (Err why) h l l' sound request
             (λ is. added-refused score (setup_of l.store.core) h m (why_words why) (sym is)) went;
-        because = subst (IsLastRefusal score (setup_of l.store.core) h (b ∷ more))
-            (sym (it.refused
-            ∙ ap (λ (r : Result RMessage Why). refused_after r l.refused) it.stands.1))
+        because = subst (IsOwnRefusal score (setup_of l.store.core) h (b ∷ more))
+            (sym (refused_first (store_on score disk) l l' l' (put b (Err err)) it why it.stands.1
+            none refl))
             (⊎_elim (λ model. inl model.0) (λ failed. inr failed.0) went.how);
       }
 
@@ -118,15 +122,14 @@ module _ {D : Type 0} (score : List ℕ → List ℕ) (disk : DiskOf D) (tells :
       (request_goes score disk tells sync_all it.reply l.store l'.store h sound it.once)
 
   refused_sync : (err : BlockErr) (h : History) (l l' : State) → IsSound score disk l.store.core h
-      → DoesLocal (store_on score disk) l (sync (Err err)) l'
-      → IsLastRefusal score (setup_of l.store.core) h [] l'.refused
-  refused_sync err h l l' sound it =
+      → l.refused ≡ None → DoesLocal (store_on score disk) l (sync (Err err)) l'
+      → IsOwnRefusal score (setup_of l.store.core) h [] l'.refused
+  refused_sync err h l l' sound none it =
       let why = it.stands.0 in
       let request = subst (λ (r : Result RMessage Why). DoesRequest score disk sync_all r l.store
       l'.store) it.stands.1 it.once in
-      subst (IsLastRefusal score (setup_of l.store.core) h [])
-      (sym (it.refused
-      ∙ ap (λ (r : Result RMessage Why). refused_after r l.refused) it.stands.1))
+      subst (IsOwnRefusal score (setup_of l.store.core) h [])
+      (sym (refused_first (store_on score disk) l l' l' (sync (Err err)) it why it.stands.1 none refl))
       (of why (request_goes score disk tells sync_all (Err why) l.store l'.store h sound request))
     where
       of : (why : Why)
@@ -150,7 +153,7 @@ module _ {D : Type 0} (score : List ℕ → List ℕ) (disk : DiskOf D) (tells :
         (all_written score (setup_of l.store.core) h put)
     pub map : Same (held score (all_written score (setup_of l.store.core) h put))
         (with_blocks score put (held score h))
-    pub because : IfSome err (λ e. IsLastRefusal score (setup_of l.store.core)
+    pub because : IfSome err (λ e. IsOwnRefusal score (setup_of l.store.core)
         (all_written score (setup_of l.store.core) h put) rest l'.refused)
 
   with_same : (blocks : List Block) (m n : List ℕ → ℕ → Option (List ℕ)) → Same m n
@@ -162,7 +165,7 @@ module _ {D : Type 0} (score : List ℕ → List ℕ) (disk : DiskOf D) (tells :
   -- nothing was taken in
   holds_none : (blocks : List Block) (none_left : Type 0) (err : Option BlockErr) (h : History)
       (l l' : State) → (none_left → blocks ≡ []) → IsSound score disk l'.store.core h
-      → IfSome err (λ e. IsLastRefusal score (setup_of l.store.core) h blocks l'.refused)
+      → IfSome err (λ e. IsOwnRefusal score (setup_of l.store.core) h blocks l'.refused)
       → Holds blocks none_left err h l l'
   holds_none blocks none_left err h l l' whole sound because = record {
     put = [];
@@ -193,7 +196,7 @@ module _ {D : Type 0} (score : List ℕ → List ℕ) (disk : DiskOf D) (tells :
             ≡ with_blocks score then.put (held score more) s kind) first.setup (then.map s kind)
             ∙ with_same then.put (held score more) (with_block score b (held score h)) first.map s
             kind;
-        because = subst (λ (c : Setup). IfSome err (λ e. IsLastRefusal score c
+        because = subst (λ (c : Setup). IfSome err (λ e. IsOwnRefusal score c
             (all_written score c more then.put) then.rest l'.refused)) first.setup then.because;
       }
 
@@ -228,15 +231,15 @@ module _ {D : Type 0} (score : List ℕ → List ℕ) (disk : DiskOf D) (tells :
 
   pub puts_so : (err : Option BlockErr) (rest : List Operation) (blocks : List Block)
       (calls : List Call) (h : History) (l l' : State) → IsSound score disk l.store.core h
-      → Makes (DoesLocal (store_on score disk)) l calls l' → EndsBy err calls
+      → l.refused ≡ None → Makes (DoesLocal (store_on score disk)) l calls l' → EndsBy err calls
       → map asked_of calls ++ rest ≡ map write_of_block blocks ++ sync_all ∷ []
       → Holds blocks (rest ≡ []) err h l l'
-  puts_so err rest blocks [] h l l' sound made ends asked =
+  puts_so err rest blocks [] h l l' sound none made ends asked =
       holds_none blocks (rest ≡ []) err h l l'
       (λ none. absurd (not_none blocks (sym asked ∙ none)))
       (subst (λ (x : State). IsSound score disk x.store.core h) (sym made) sound)
-      (none_ended err ends (IsLastRefusal score (setup_of l.store.core) h blocks l'.refused))
-  puts_so err rest [] (call ∷ calls) h l l' sound made ends asked =
+      (none_ended err ends (IsOwnRefusal score (setup_of l.store.core) h blocks l'.refused))
+  puts_so err rest [] (call ∷ calls) h l l' sound none made ends asked =
       let two = asks_first call calls sync_all [] rest asked in
       let end = none_asked calls rest two.1 in
       let stays = subst (λ (cs : List Call). Makes (DoesLocal (store_on score disk)) made.0 cs l')
@@ -244,7 +247,7 @@ module _ {D : Type 0} (score : List ℕ → List ℕ) (disk : DiskOf D) (tells :
       holds_none [] (rest ≡ []) err h l l' (λ none. refl)
       (subst (λ (x : State). IsSound score disk x.store.core h) (sym stays)
       (of call made.1 two.0))
-      (subst (λ (x : State). IfSome err (λ e. IsLastRefusal score (setup_of l.store.core) h []
+      (subst (λ (x : State). IfSome err (λ e. IsOwnRefusal score (setup_of l.store.core) h []
       x.refused)) (sym stays) (why call made.1 two.0 (ends_so err call calls ends)))
     where
       of : (x : Call) → DoesLocal (store_on score disk) l x made.0 → asked_of x ≡ sync_all
@@ -260,16 +263,16 @@ module _ {D : Type 0} (score : List ℕ → List ℕ) (disk : DiskOf D) (tells :
       answered P (inr end) = none_refused err end.1 P
 
       why : (x : Call) → DoesLocal (store_on score disk) l x made.0 → asked_of x ≡ sync_all
-          → IsLastOr err x calls → IfSome err (λ e. IsLastRefusal score (setup_of l.store.core) h []
+          → IsLastOr err x calls → IfSome err (λ e. IsOwnRefusal score (setup_of l.store.core) h []
           made.0.refused)
       why (get kind s told) does is last = let never : ⊥ = cc in absurd never
       why (put b told) does is last = let never : ⊥ = cc in absurd never
       why (sync (Ok done)) does is last =
-          answered (IsLastRefusal score (setup_of l.store.core) h [] made.0.refused) last
+          answered (IsOwnRefusal score (setup_of l.store.core) h [] made.0.refused) last
       why (sync (Err e)) does is last =
-          some_refused err (IsLastRefusal score (setup_of l.store.core) h [] made.0.refused)
-          (refused_sync e h l made.0 sound does)
-  puts_so err rest (b ∷ blocks) (call ∷ calls) h l l' sound made ends asked =
+          some_refused err (IsOwnRefusal score (setup_of l.store.core) h [] made.0.refused)
+          (refused_sync e h l made.0 sound none does)
+  puts_so err rest (b ∷ blocks) (call ∷ calls) h l l' sound none made ends asked =
       let two = asks_first call calls (write_of_block b) (map write_of_block blocks ++ sync_all ∷ []) rest asked
       in of call made.1 two.0 (ends_so err call calls ends) two.1
       (puts_so err rest blocks calls
@@ -292,7 +295,7 @@ module _ {D : Type 0} (score : List ℕ → List ℕ) (disk : DiskOf D) (tells :
           → DoesLocal (store_on score disk) l (put x (Err e)) made.0 → x ≡ b
           → Refused (b ∷ blocks) h l made.0
       refused x e does is = subst (λ (y : Block). Refused (y ∷ blocks) h l made.0) is
-          (refused_put x blocks e h l made.0 sound does)
+          (refused_put x blocks e h l made.0 sound none does)
 
       ended : calls ≡ [] → made.0 ≡ l'
       ended end = sym (subst (λ (cs : List Call). Makes (DoesLocal (store_on score disk)) made.0 cs
@@ -308,6 +311,7 @@ module _ {D : Type 0} (score : List ℕ → List ℕ) (disk : DiskOf D) (tells :
           → map asked_of calls ++ rest ≡ map write_of_block blocks ++ sync_all ∷ []
           → (then : IsSound score disk made.0.store.core
           (written_to score (setup_of l.store.core) h b.kind b.bytes)
+          → made.0.refused ≡ None
           → Makes (DoesLocal (store_on score disk)) made.0 calls l' → EndsBy err calls
           → map asked_of calls ++ rest ≡ map write_of_block blocks ++ sync_all ∷ []
           → Holds blocks (rest ≡ []) err
@@ -319,7 +323,7 @@ module _ {D : Type 0} (score : List ℕ → List ℕ) (disk : DiskOf D) (tells :
         | inl goes_on ↦
             let first = taken given x does (same_block x is) in
             holds_more b blocks (rest ≡ []) err h l made.0 l' first
-            (then first.sound made.2 goes_on.1 left)
+            (then first.sound (first.unrefused none) made.2 goes_on.1 left)
         | inr end ↦
             let first = taken given x does (same_block x is) in
             holds_more b blocks (rest ≡ []) err h l made.0 l' first
@@ -330,7 +334,7 @@ module _ {D : Type 0} (score : List ℕ → List ℕ) (disk : DiskOf D) (tells :
             (written_to score (setup_of l.store.core) h b.kind b.bytes)) (ended end.0)
             first.sound)
             (none_refused err end.1
-            (IsLastRefusal score (setup_of made.0.store.core)
+            (IsOwnRefusal score (setup_of made.0.store.core)
             (written_to score (setup_of l.store.core) h b.kind b.bytes) blocks l'.refused)))
       ]
       of (put x (Err e)) does is last left then = elim last [
@@ -341,8 +345,8 @@ module _ {D : Type 0} (score : List ℕ → List ℕ) (disk : DiskOf D) (tells :
             (λ none. absurd (some_left end.0 left none))
             (subst (λ (y : State). IsSound score disk y.store.core h) (ended end.0) it.sound)
             (some_refused err
-            (IsLastRefusal score (setup_of l.store.core) h (b ∷ blocks) l'.refused)
-            (subst (λ (y : State). IsLastRefusal score (setup_of l.store.core) h (b ∷ blocks)
+            (IsOwnRefusal score (setup_of l.store.core) h (b ∷ blocks) l'.refused)
+            (subst (λ (y : State). IsOwnRefusal score (setup_of l.store.core) h (b ∷ blocks)
             y.refused)
             (ended end.0) it.because))
       ]

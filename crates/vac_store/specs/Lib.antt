@@ -1,2 +1,4 @@
+pub mod Sent
 pub mod Storing
 pub mod Stored
+pub mod Truthful

@@ -1,6 +1,7 @@
 -- A folder that is archived into the store that a configuration names, on partitions that are handed
 -- out by name.
-use Rattle.std.specs.Prelude.{ℕ, ◌≡◌, ◌+◌, ◌≤◌, Result, Err, IfErr, IfOk, List, [], ◌++◌, length}
+use Rattle.std.specs.Prelude.{ℕ, ◌≡◌, ◌+◌, ◌≤◌, Option, Result, IfErr, IfOk, List, [], ◌++◌, length}
+use Rattle.vt_base.specs.declared.why.Why.{Why}
 use Rattle.vt_conf.specs.declared.conf.Conf.{Conf}
 use Rattle.vt_disk.specs.Members.{DiskOf}
 use Rattle.vt_out.specs.declared.folder_item.Facts.{Facts}
@@ -12,37 +13,29 @@ use Rattle.vt_partitions.specs.Parts.{Standing}
 use Rattle.vt_core.specs.Files.{PerDevice}
 use Rattle.vt_core.specs.Mounting.{AllStandFor, EachStands}
 use Rattle.vt_open.specs.Names.{AreUnder}
-use Rattle.vt_open.specs.Opening.{NamesCause, RefusesStore}
-use Rattle.vt_single.specs.Stored.{Uses}
+use Rattle.vt_use.specs.Uses.{Uses}
+use Rattle.vac_write.specs.declared.archived.Archived.{Archived}
+use Rattle.vac_write.specs.declared.error.VacErr.{VacErr}
 use Rattle.vac_model.specs.Archives.{archive_of}
 use Rattle.vac_store.specs.declared.outcome.ArchiveError.{ArchiveError}
-use Rattle.vac_store.specs.declared.outcome.ArchiveError.TheVariants.{Unopened}
-use Rattle.vac_store.specs.declared.outcome.StoredArchive.{StoredArchive}
-use Rattle.vac_store.specs.Storing.{ArchivesInto, IsBecause, StandsIn, all_written}
+use Rattle.vac_store.specs.declared.outcome.ArchivedAt.{ArchivedAt}
+use Rattle.vac_store.specs.Storing.{ArchivesByJob, IsBecause, StandsIn, all_written}
 
--- the store was opened, a folder was archived into it, with this result, and it was closed
+-- the store was opened, a folder was archived into it by its job, with this answer, and it was closed
 abbrev pub UsesFor : {D : Type 0} → (List ℕ → List ℕ) → DiskOf D → (told : Type 0) → Conf
-    → (now bsize : ℕ) → (is_seen : Items Facts → Type 0) → Result StoredArchive ArchiveError
+    → (now bsize : ℕ) → (is_seen : Items Facts → Type 0) → (answer : Result Archived VacErr)
+    → (said : Option Why) → (added : ℕ) → (closed : Result (Unit {0}) Why)
     → (old new : List ℕ → Standing D) → Type 0
-UsesFor score disk told conf now bsize is_seen result old new =
-    Uses score disk told conf (ArchivesInto score disk now bsize is_seen result) old new
-
--- The folder was archived into the store that was opened, with this result; or the store wasn't
--- opened, for its cause.
-abbrev pub ArchivesStored : {D : Type 0} → (List ℕ → List ℕ) → DiskOf D → (told : Type 0) → Conf
-    → (now bsize : ℕ) → (is_seen : Items Facts → Type 0) → (old new : List ℕ → Standing D)
-    → (faults faults' : ℕ) → Result StoredArchive ArchiveError → Type 0
-ArchivesStored score disk told conf now bsize is_seen old new faults faults' (Err (Unopened bad)) =
-    RefusesStore score disk told conf old new faults faults' bad × NamesCause bad
-ArchivesStored score disk told conf now bsize is_seen old new faults faults' result =
-    UsesFor score disk told conf now bsize is_seen result old new × (faults' ≡ faults)
+UsesFor score disk told conf now bsize is_seen answer said added closed old new =
+    Uses score disk told conf (ArchivesByJob score disk now bsize is_seen answer said added closed) old
+    new
 
 -- What it leaves of partitions that read as history `g`: whatever calls failed, and whatever a crash
 -- then leaves of them, they stand for all of it, and for the first blocks of the folder's archive,
 -- each if the model adds it. Where a score is told, they stand for all its blocks, and it is told
 -- how many are new.
 pub record KeepsStored {D : Type 0} (score : List ℕ → List ℕ) (disk : DiskOf D) (conf : Conf)
-    (bsize : ℕ) (is_seen : Items Facts → Type 0) (result : Result StoredArchive ArchiveError)
+    (bsize : ℕ) (is_seen : Items Facts → Type 0) (result : Result ArchivedAt ArchiveError)
     (new : List ℕ → Standing D) (tables : List Table) (c : Setup) (g : History) : Type 0 where
   pub seen : Items Facts
   pub is : is_seen seen
@@ -58,5 +51,5 @@ pub record KeepsStored {D : Type 0} (score : List ℕ → List ℕ) (disk : Disk
   pub stands : EachStands score disk c tables least back last
   pub because : IfErr result (IsBecause score c last rest seen)
   pub done : IfOk result (λ s. (rest ≡ []) × StandsIn score bsize seen last s.archived
-      × (length last ≡ length g + s.added)
+      × (length last ≡ length g + s.blocks)
       × AllStandFor score disk c tables back last (length last))

@@ -1,5 +1,5 @@
--- A folder that is archived into a store on devices.
-use Rattle.std.specs.Prelude.{ℕ, ◌≡◌, ◌+◌, ◌-◌, ⊤, Bool, Option, Some, None, Result, Ok, Err, IfOk, IfErr, List, [], ◌∷◌, ◌++◌, length}
+-- A folder that is archived into a store of blocks, and into one on devices.
+use Rattle.std.specs.Prelude.{ℕ, ◌≡◌, ◌+◌, true, false, Bool, Option, Some, None, Result, Ok, Err, IfOk, IfErr, List, [], ◌∷◌, ◌++◌, length}
 use Rattle.vt_base.specs.Protocol.{write}
 use Rattle.vt_base.specs.declared.why.Why.{Why}
 use Rattle.vt_disk.specs.Members.{DiskOf}
@@ -10,50 +10,56 @@ use Rattle.vt_model.specs.Places.{Setup}
 use Rattle.vt_tree.specs.declared.error.TreeErr.TheVariants as trees
 use Rattle.vt_tree.specs.Calls.{Call}
 use Rattle.vt_tree.specs.Maps.{Maps}
-use Rattle.vt_handler.specs.Serving.{tells_failure}
-use Rattle.vt_core.specs.Core.{CoreState, devices_of, history_len, setup_of}
+use Rattle.vt_core.specs.Core.{CoreState, devices_of, setup_of}
 use Rattle.vt_core.specs.Mounting.{AllStandFor, EachStands}
 use Rattle.vt_core.specs.Sound.{IsSound}
 use Rattle.vt_requests.specs.Answers.{KeepsAll}
-use Rattle.vt_requests.specs.Driven.{DrivenState}
-use Rattle.vt_requests.specs.Ending.{Ends}
 use Rattle.vt_use.specs.Answers.{HasFailed, IsAnswer}
-use Rattle.vt_use.specs.Causes.{FailsFor}
-use Rattle.vt_use.specs.LocalJobs.{new_local}
-use Rattle.vt_use.specs.Stores.{at_time, store_on}
-use Rattle.vt_single.specs.Single.{written_to}
-use Rattle.vt_local.specs.Local.{DoesLocal, HoldsLocal, LocalState}
+use Rattle.vt_use.specs.LocalJobs.{DoesOnStore}
+use Rattle.vt_use.specs.Stores.{store_on}
+use Rattle.vt_use.specs.Uses.{UsesCore}
+use Rattle.vt_use.specs.declared.used_at.StoreError.{StoreError}
+use Rattle.vt_use.specs.declared.used_at.StoreError.TheVariants.{Unopened, Refused, Server}
+use Rattle.vt_use.specs.declared.used_at.UsedAt.{UsedAt}
+use Rattle.vt_use.specs.Blocks.{written_to}
+use Rattle.vt_local.specs.Local.{DoesLocal, HoldsLocal}
 use Rattle.vac_model.specs.Archives.{archive_of}
 use Rattle.vac_model.specs.Kept.{archived, skipped}
 use Rattle.vac_model.specs.Limits.{Unfit, first_unfit}
 use Rattle.vac_model.specs.Trees.{IsTreeOf}
 use Rattle.vac_write.specs.declared.archived.Archived.{Archived}
 use Rattle.vac_write.specs.declared.error.VacErr.{VacErr}
-use Rattle.vac_write.specs.declared.error.VacErr.TheVariants.{FolderFault, Tree}
-use Rattle.vac_write.specs.Archiving.{WritesArchive, GivesUpArchive, IsGivenUpAs}
+use Rattle.vac_write.specs.declared.error.VacErr.TheVariants.{Tree}
+use Rattle.vac_write.specs.Archiving.{WritesArchive, GivesUpArchive, IsGivenUpAs, is_folder_fault}
 use Rattle.vac_store.specs.declared.outcome.ArchiveError.{ArchiveError}
-use Rattle.vac_store.specs.declared.outcome.ArchiveError.TheVariants.{Unopened, Folder, Refused}
-use Rattle.vac_store.specs.declared.outcome.StoredArchive.{StoredArchive}
+use Rattle.vac_store.specs.declared.outcome.ArchiveError.TheVariants.{Store, Folder}
+use Rattle.vac_store.specs.declared.outcome.ArchivedAt.{ArchivedAt}
 
 -- ---- what is told
 
--- why no folder was archived, of a store that said no last for this reason, if it did
-abbrev pub told : VacErr → Option Why → ArchiveError
-told (Tree (trees.Block err)) (Some why) = Refused why
-told err refused = Folder err
+-- why no folder was archived, of a store that said no for this reason, if it did
+abbrev pub told : VacErr → Option StoreError → ArchiveError
+told (Tree (trees.Block err)) (Some bad) = Store bad
+told err refusal = Folder err
 
--- What archiving into a store comes to, where so many blocks are new and the store's use ended so:
--- what failed first is told.
-abbrev pub came_to : Result Archived VacErr → (refused : Option Why) → (added : ℕ)
-    → (closed : Result (Unit {0}) Why) → Result StoredArchive ArchiveError
-came_to (Ok a) refused added (Ok done) = Ok (record { archived = a; added = added })
-came_to (Ok a) refused added (Err why) = Err (Refused why)
-came_to (Err err) refused added closed = Err (told err refused)
+-- what it comes to, of a store with so many blocks that are new or were sent, whose use ended so:
+-- what failed first is told
+abbrev pub came_to : Result Archived VacErr → (refusal : Option StoreError) → (blocks : ℕ)
+    → (closed : Result (Unit {0}) StoreError) → Result ArchivedAt ArchiveError
+came_to (Ok a) refusal blocks (Ok done) = Ok (record { archived = a; blocks = blocks })
+came_to (Ok a) refusal blocks (Err bad) = Err (Store bad)
+came_to (Err err) refusal blocks closed = Err (told err refusal)
 
--- Whether an error tells of a failed call of the folder.
-abbrev pub is_folder_fault : ArchiveError → Bool
-is_folder_fault (Folder FolderFault) = Bool.true
-is_folder_fault bad = Bool.false
+-- and what an archiving comes to: the same of a store that was used, or why none was
+abbrev pub archived_at : Result (UsedAt (Result Archived VacErr)) StoreError
+    → Result ArchivedAt ArchiveError
+archived_at (Ok used) = came_to used.output used.refusal used.blocks used.closed
+archived_at (Err bad) = Err (Store bad)
+
+-- Whether it is told that a call of the folder has failed.
+abbrev pub tells_folder_fault : ArchiveError → Bool
+tells_folder_fault (Folder err) = is_folder_fault err
+tells_folder_fault (Store bad) = false
 
 -- ---- what is done
 
@@ -66,27 +72,16 @@ pub record ArchivesOrGivesUp {S : Type 0} (does : S → Call → S → Type 0) (
   pub gives_up : IfErr answer (λ err.
       (w : GivesUpArchive does holds score_of old new bsize is_seen err) × (w.calls ≡ calls))
 
--- A folder was archived into a store, or that was given up, and the store's use was then ended.
-pub record ArchivesInto {D : Type 0} (score : List ℕ → List ℕ) (disk : DiskOf D)
-    (now bsize : ℕ) (is_seen : Items Facts → Type 0)
-    (result : Result StoredArchive ArchiveError) (old new : CoreState D) : Type 0 where
-  pub answer : Result Archived VacErr
-  pub kept : LocalState (DrivenState D)
-  pub archives : IfOk answer (WritesArchive (DoesLocal (store_on score disk))
-      (HoldsLocal (store_on score disk) score) score (new_local (at_time now old)) kept bsize is_seen)
-  pub gives_up : IfErr answer (GivesUpArchive (DoesLocal (store_on score disk))
-      (HoldsLocal (store_on score disk) score) score (new_local (at_time now old)) kept bsize is_seen)
-  pub closed : Result (Unit {0}) Why
-  pub ends : Ends score disk closed kept.store.core new
-  pub result_is : result
-      ≡ came_to answer kept.refused (history_len new - history_len old) closed
+-- so a store on devices is used by the job that archives a folder
+abbrev pub ArchivesByJob : {D : Type 0} → (List ℕ → List ℕ) → DiskOf D → (now bsize : ℕ)
+    → (is_seen : Items Facts → Type 0) → (answer : Result Archived VacErr) → (said : Option Why)
+    → (added : ℕ) → (closed : Result (Unit {0}) Why) → (old new : CoreState D) → Type 0
+ArchivesByJob score disk now bsize is_seen answer said added closed old new =
+    UsesCore score disk now true (DoesOnStore (store_on score disk)
+    (ArchivesOrGivesUp (DoesLocal (store_on score disk)) (HoldsLocal (store_on score disk) score) score
+    bsize is_seen answer) said) added closed old new
 
 -- ---- what follows
-
--- why a store failed in it before which no part had stopped
-abbrev pub FailsAs : {D : Type 0} → DiskOf D → ArchiveError → (old new : CoreState D) → Type 0
-FailsAs disk (Refused why) old new = tells_failure why ≡ Bool.true → FailsFor disk why old new
-FailsAs disk bad old new = ⊤
 
 -- the history behind writes of these blocks: with each that the model adds
 abbrev pub all_written : (List ℕ → List ℕ) → Setup → History → List Block → History
@@ -117,15 +112,16 @@ IsRefusedFor score c last (b ∷ rest) why =
 -- why there is no archive, of which these blocks aren't in the history
 abbrev pub IsBecause : (List ℕ → List ℕ) → Setup → History → (rest : List Block)
     → (seen : Items Facts) → ArchiveError → Type 0
-IsBecause score c last rest seen (Unopened bad) = ⊥
 IsBecause score c last rest seen (Folder err) = IsUnfitAs err (first_unfit seen)
-IsBecause score c last rest seen (Refused why) = IsRefusedFor score c last rest why
+IsBecause score c last rest seen (Store (Refused why)) = IsRefusedFor score c last rest why
+IsBecause score c last rest seen (Store (Unopened bad)) = ⊥
+IsBecause score c last rest seen (Store (Server bad)) = ⊥
 
 -- What the devices hold then: the history, and of the blocks of the folder's archive the first, each
 -- if the model adds it. A crash leaves a prefix of that with all that is durable. Where a score is
 -- told, these are all its blocks, it is told how many are new, and no crash takes one away.
 pub record KeepsFolder {D : Type 0} (score : List ℕ → List ℕ) (disk : DiskOf D) (bsize : ℕ)
-    (is_seen : Items Facts → Type 0) (result : Result StoredArchive ArchiveError) (h : History)
+    (is_seen : Items Facts → Type 0) (result : Result ArchivedAt ArchiveError) (h : History)
     (old new : CoreState D) : Type 0 where
   pub seen : Items Facts
   pub is : is_seen seen
@@ -140,5 +136,5 @@ pub record KeepsFolder {D : Type 0} (score : List ℕ → List ℕ) (disk : Disk
       last
   pub because : IfErr result (IsBecause score (setup_of old) last rest seen)
   pub done : IfOk result (λ s. (rest ≡ []) × StandsIn score bsize seen last s.archived
-      × (length last ≡ length h + s.added)
+      × (length last ≡ length h + s.blocks)
       × AllStandFor score disk (setup_of old) old.log.tables (devices_of new) last (length last))

@@ -1,13 +1,14 @@
-//! Archiving a folder into the store that a configuration names, which is opened for it (vac(1)).
-// Tests: crates/vac_tests/src/stored.rt.
+//! Archiving a folder into a store at a place, which is that of a configuration or a server's (vac(1)).
+// Tests: crates/vac_tests/src/stored.rt, crates/vt_wire_tests/src/sent.rt.
 #![tactic(auto)]
 
 mod laws;
 mod outcome;
-mod stored;
 mod storing;
 
-pub use laws::{archives_are_kept, archives_are_runs, failures_have_causes, stores_keep_archives};
-pub use outcome::{ArchiveError, StoredArchive};
-pub use stored::archive_stored;
-pub use storing::ArchiveFolder;
+pub use laws::{
+    archives_are_kept, folders_are_unfit, sent_archives_are_exchanged, stores_keep_archives,
+    truthful_servers_keep_archives,
+};
+pub use outcome::{ArchiveError, ArchivedAt};
+pub use storing::{ArchiveFolder, archived_at};

@@ -1,24 +1,22 @@
 //! What comes of archiving a folder into a store.
 
 use vac_write::{Archived, VacErr};
-use vt_base::Why;
-use vt_open::OpenError;
+use vt_use::StoreError;
 
 /// What was archived in a store.
 #[derive(Drop)]
-pub struct StoredArchive {
+pub struct ArchivedAt {
     pub archived: Archived,
-    /// How many of its blocks are new in the store.
-    pub added: u64,
+    /// How many of its blocks are new in the store of a configuration; or how many were sent to a
+    /// server, each of which it took in.
+    pub blocks: u64,
 }
 
 /// Why a folder isn't archived in a store.
 #[derive(Drop)]
 pub enum ArchiveError {
-    /// The store isn't opened.
-    Unopened(OpenError),
+    /// The store wasn't opened, or not reached, or it said no, or failed.
+    Store(StoreError),
     /// A call of the folder has failed, it has something that can't be archived, or memory ran out.
     Folder(VacErr),
-    /// The store said no, or failed.
-    Refused(Why),
 }

@@ -4,15 +4,14 @@ ghost use Rattle.std.specs.Prelude.{◌≡◌, ◌≤◌, IsTrue};
 ghost use Rattle.vt_base.specs.Faults.{CountsFault};
 ghost use Rattle.vac_model.specs.declared.TheConstants.{MIN_BLOCK_SIZE, MAX_BLOCK_SIZE};
 ghost use Rattle.vac_write.specs.Archiving.{IsSeen};
-ghost use Rattle.vac_store.specs.Storing.{came_to, told};
+ghost use Rattle.vac_store.specs.Storing.{archived_at, came_to, told};
 
-use crate::{ArchiveError, StoredArchive};
+use crate::{ArchiveError, ArchivedAt};
 use std::alloc::Global;
 use vac_write::{Archived, VacErr, archive};
-use vt_base::Why;
 use vt_out::Folder;
 use vt_tree::{Blocks, TreeErr};
-use vt_use::BlockJob;
+use vt_use::{BlockJob, StoreError, UsedAt};
 
 /// A folder is archived (vac(1)) in blocks of at most so many bytes, 512 to 53,248.
 #[derive(Drop)]
@@ -52,31 +51,49 @@ impl<F: Folder> BlockJob<F> for ArchiveFolder {
     }
 }
 
-/// What an archiving comes to, of a store that said no last for this reason, if it did, in which so
-/// many blocks are new, and whose use ended so: what failed first is told.
-pub(crate) fn came_to(
-    answer: Result<Archived, VacErr>,
-    refused: Option<Why>,
-    added: u64,
-    closed: Result<(), Why>,
-) -> Result<StoredArchive, ArchiveError>
-    ensures { result ≡ came_to answer refused added closed }
+/// What an archiving comes to: what failed first is told.
+pub fn archived_at(
+    used: Result<UsedAt<Result<Archived, VacErr>>, StoreError>,
+) -> Result<ArchivedAt, ArchiveError>
+    ensures { result ≡ archived_at used }
 {
-    match answer {
-        Ok(archived) => match closed {
-            Ok(()) => Ok(StoredArchive { archived, added }),
-            Err(why) => Err(ArchiveError::Refused(why)),
-        },
-        Err(err) => Err(told(err, refused)),
+    match used {
+        Ok(
+            UsedAt {
+                output,
+                refusal,
+                blocks,
+                closed,
+            },
+        ) => came_to(output, refusal, blocks, closed),
+        Err(bad) => Err(ArchiveError::Store(bad)),
     }
 }
 
-/// Why no folder was archived, of a store that said no last for this reason, if it did.
-fn told(err: VacErr, refused: Option<Why>) -> ArchiveError
-    ensures { result ≡ told err refused }
+/// The same, of a store that was used.
+fn came_to(
+    answer: Result<Archived, VacErr>,
+    refusal: Option<StoreError>,
+    blocks: u64,
+    closed: Result<(), StoreError>,
+) -> Result<ArchivedAt, ArchiveError>
+    ensures { result ≡ came_to answer refusal blocks closed }
 {
-    match (err, refused) {
-        (VacErr::Tree(TreeErr::Block(_)), Some(why)) => ArchiveError::Refused(why),
+    match answer {
+        Ok(archived) => match closed {
+            Ok(()) => Ok(ArchivedAt { archived, blocks }),
+            Err(bad) => Err(ArchiveError::Store(bad)),
+        },
+        Err(err) => Err(told(err, refusal)),
+    }
+}
+
+/// Why no folder was archived, of a store that said no for this reason, if it did.
+fn told(err: VacErr, refusal: Option<StoreError>) -> ArchiveError
+    ensures { result ≡ told err refusal }
+{
+    match (err, refusal) {
+        (VacErr::Tree(TreeErr::Block(_)), Some(bad)) => ArchiveError::Store(bad),
         (err, _) => ArchiveError::Folder(err),
     }
 }

@@ -8,7 +8,7 @@ use crate::items::{Sample, items_of};
 use std::alloc::{AllocError, Global};
 use std::test::Fail;
 use vac_read::{Archive, Node, read, walk};
-use vac_store::{ArchiveError, StoredArchive, archive_stored};
+use vac_store::{ArchiveError, ArchiveFolder, ArchivedAt, archived_at};
 use vac_write::VacErr;
 use vt_base::{Score, Sha1Scorer, Text, Why, parse_score};
 use vt_conf::parse_conf;
@@ -22,6 +22,7 @@ use vt_partitions::{Failing, MemParts, Parts};
 use vt_requests::Driven;
 use vt_rows::Rows;
 use vt_tree::Blocks;
+use vt_use::{StoreError, use_conf};
 
 /// Partitions of a store.
 #[derive(Drop)]
@@ -70,8 +71,9 @@ impl<P: Parts> Stores<P> {
         let conf = parse_conf(self.alloc, text).ok().ok_or("configuration")?;
         let bsize = bsize.clamp(512, 53_248);
         let parts = &mut self.parts;
-        let answer = archive_stored(self.alloc, parts, &conf, &Sha1Scorer, 1, folder, bsize);
-        Ok(is_wanted(&answer, wanted))
+        let job = ArchiveFolder { bsize };
+        let used = use_conf(self.alloc, parts, &conf, &Sha1Scorer, 1, job, folder);
+        Ok(is_wanted(&archived_at(used), wanted))
     }
 
     /// Whether the file `d/f` of an archive in the store of a configuration has these bytes.
@@ -148,14 +150,15 @@ enum Wanted {
     Refused(Why),
 }
 
-fn is_wanted(answer: &Result<StoredArchive, ArchiveError>, wanted: Wanted) -> bool {
+fn is_wanted(answer: &Result<ArchivedAt, ArchiveError>, wanted: Wanted) -> bool {
     match (answer, wanted) {
         (Ok(stored), Wanted::Stored(score, added)) => {
-            Ok(stored.archived.score) == parse_score(score.as_bytes()) && stored.added == added
+            Ok(stored.archived.score) == parse_score(score.as_bytes()) && stored.blocks == added
         }
-        (Err(ArchiveError::Unopened(_)), Wanted::Unopened) => true,
+        (Err(ArchiveError::Store(StoreError::Unopened(_))), Wanted::Unopened) => true,
         (Err(ArchiveError::Folder(VacErr::FolderFault)), Wanted::FolderFault) => true,
-        (Err(ArchiveError::Refused(why)), Wanted::Refused(wanted)) => *why == wanted,
+        (Err(ArchiveError::Store(StoreError::Refused(why))), Wanted::Refused(wanted)) => *why
+            == wanted,
         _ => false,
     }
 }

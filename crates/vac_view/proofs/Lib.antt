@@ -2,8 +2,6 @@ pub mod Calls
 pub mod Failing
 pub mod FilesRead
 pub mod Items
-pub mod Over
 pub mod Reading
 pub mod Shown
-pub mod Stays
 pub mod Tops

@@ -1,8 +1,7 @@
 -- An archive of a store on devices that is served to a client, and one of the store that a
 -- configuration names, on partitions that are handed out by name.
-use Rattle.std.specs.Prelude.{ℕ, ◌≡◌, ⊤, false, Some, Option, Result, Ok, Err, List}
-use Rattle.vt_base.specs.Damage.{Differ}
-use Rattle.vt_base.specs.declared.why.Why.TheVariants as whys
+use Rattle.std.specs.Prelude.{ℕ, ⊤, false, Option, Result, Ok, List}
+use Rattle.vt_base.specs.declared.why.Why.{Why}
 use Rattle.vt_conf.specs.declared.conf.Conf.{Conf}
 use Rattle.vt_disk.specs.Members.{DiskOf}
 use Rattle.vt_log.specs.Answers.{HoldTheSame}
@@ -15,64 +14,53 @@ use Rattle.vt_core.specs.Files.{all_of}
 use Rattle.vt_core.specs.Mounting.{EachStands}
 use Rattle.vt_core.specs.Sound.{IsSound}
 use Rattle.vt_requests.specs.Answers.{KeepsAll}
-use Rattle.vt_requests.specs.Driven.{DrivenState}
-use Rattle.vt_use.specs.Causes.{FailsFor}
-use Rattle.vt_use.specs.LocalJobs.{new_local}
+use Rattle.vt_use.specs.LocalJobs.{DoesOnStore, new_local}
 use Rattle.vt_use.specs.Stores.{at_time, store_on}
-use Rattle.vt_use.specs.Uses.{LeftInStore, Uses}
-use Rattle.vt_local.specs.Local.{DoesLocal, HoldsLocal, LocalState}
-use Rattle.vt_tree.specs.declared.error.BlockErr.TheVariants as blocks
+use Rattle.vt_use.specs.Uses.{LeftInStore, Uses, UsesCore}
+use Rattle.vt_local.specs.Local.{DoesLocal, HoldsLocal}
+use Rattle.vt_use.specs.PlaceCalls.{FailsAs}
 use Rattle.vt_tree.specs.declared.error.TreeErr.TheVariants as trees
 use Rattle.vt_tree.specs.Maps.{BlockMap}
 use Rattle.vac_read.specs.declared.error.VacBad.{VacBad}
 use Rattle.vac_read.specs.declared.error.VacBad.TheVariants.{Tree}
 use Rattle.nine_view.specs.declared.serving.Served.{Served}
-use Rattle.vac_view.specs.Viewing.{IsShown, Passed, ViewsArchive}
+use Rattle.vac_view.specs.Viewing.{IsShown, Passed, ViewsBy}
 
 -- ---- on devices
 
--- an archive of a store was served, or couldn't be opened, and nothing else was asked of the store
-pub record ViewsOn {D : Type 0} (score_of : List ℕ → List ℕ) (disk : DiskOf D)
-    (score : List ℕ) (p : Passed) (result : Result Served VacBad) (old new : CoreState D) : Type 0
-  where
-    pub left : LocalState (DrivenState D)
-    pub views : ViewsArchive (DoesLocal (store_on score_of disk))
-        (HoldsLocal (store_on score_of disk) score_of) score_of score p result
-        (new_local (at_time 0 old)) left
-    pub new_is : new ≡ left.store.core
+-- so a store on devices is used by the job that serves an archive
+abbrev pub ViewsByJob : {D : Type 0} → (List ℕ → List ℕ) → DiskOf D → (score : List ℕ) → Passed
+    → (result : Result Served VacBad) → (said : Option Why) → (added : ℕ)
+    → (closed : Result (Unit {0}) Why) → (old new : CoreState D) → Type 0
+ViewsByJob score_of disk score p result said added closed old new = UsesCore score_of disk 0 false
+    (DoesOnStore (store_on score_of disk) (ViewsBy (DoesLocal (store_on score_of disk))
+    (HoldsLocal (store_on score_of disk) score_of) score_of score p result) said) added closed old new
 
 -- ---- of a configuration
 
--- the store was opened, an archive of it was served, with this result, and it was closed
+-- the store was opened, an archive of it was served by its job, with this result, and it was closed
 abbrev pub UsesFor : {D : Type 0} → (List ℕ → List ℕ) → DiskOf D → (told : Type 0)
-    → Conf → (score : List ℕ) → Passed → Result Served VacBad → (old new : List ℕ → Standing D)
-    → Type 0
-UsesFor score_of disk told conf score p result old new =
-    Uses score_of disk told conf (ViewsOn score_of disk score p result) old new
+    → Conf → (score : List ℕ) → Passed → (result : Result Served VacBad) → (said : Option Why)
+    → (added : ℕ) → (closed : Result (Unit {0}) Why) → (old new : List ℕ → Standing D) → Type 0
+UsesFor score_of disk told conf score p result said added closed old new = Uses score_of disk told
+    conf (ViewsByJob score_of disk score p result said added closed) old new
 
 -- ---- what follows
 
 -- what was shown of it is right by this map
 abbrev pub ShowsOn : {D : Type 0} → {score_of : List ℕ → List ℕ} → {disk : DiskOf D}
-    → {score : List ℕ} → {p : Passed} → {result : Result Served VacBad} → {old new : CoreState D}
-    → BlockMap → ViewsOn score_of disk score p result old new → Type 0
-ShowsOn {D} {score_of} {disk} {score} {p} {result} {old} {new} map it =
+    → {score : List ℕ} → {p : Passed} → {result : Result Served VacBad} → {said : Option Why}
+    → {added : ℕ} → {closed : Result (Unit {0}) Why} → {old new : CoreState D}
+    → BlockMap → ViewsByJob score_of disk score p result said added closed old new → Type 0
+ShowsOn {D} {score_of} {disk} {score} {p} {result} {said} {added} {closed} {old} {new} map it =
     IsShown (DoesLocal (store_on score_of disk)) (HoldsLocal (store_on score_of disk) score_of)
-    score_of p (new_local (at_time 0 old)) it.left map score result it.views
-
--- why the archive couldn't be read first, if that was told
-abbrev pub first_bad : Result Served VacBad → Option VacBad
-first_bad (Ok served) = served.failure
-first_bad (Err bad) = Some bad
+    score_of p (new_local (at_time 0 old)) it.does.kept map score result it.does.does.views
 
 -- Why an archive can't be read of a store over a while before which no part of it had stopped,
--- whatever its devices hold: where a device is why, one of them counted a failed call, and of
--- damage two values differ. No store says of a block that its score is another.
-abbrev pub FailsAs : {D : Type 0} → DiskOf D → VacBad → (old new : CoreState D) → Type 0
-FailsAs disk (Tree (trees.Block blocks.Fault)) old new = FailsFor disk whys.DiskFault old new
-FailsAs disk (Tree (trees.Block (blocks.Damaged want found))) old new = Differ want found
-FailsAs disk (Tree (trees.Block (blocks.WrongScore want found))) old new = ⊥
-FailsAs disk bad old new = ⊤
+-- whatever its devices hold: as a block of it is refused, where one is why.
+abbrev pub FailsIn : {D : Type 0} → DiskOf D → (old new : CoreState D) → VacBad → Type 0
+FailsIn disk old new (Tree (trees.Block err)) = FailsAs disk old new err
+FailsIn disk old new bad = ⊤
 
 -- The store holds what it held, its devices were read alone, and whatever a crash leaves of them
 -- stands for a prefix of it with all that is durable.

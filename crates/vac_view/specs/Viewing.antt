@@ -1,10 +1,13 @@
 -- An archive that is opened, and served to a client over a link (vacfs(4)).
-use Rattle.std.specs.Prelude.{ℕ, ◌≡◌, ◌≤◌, ⊤, Bool, IsTrue, None, Result, Ok, Err, List, [], ◌∷◌}
+use Rattle.std.specs.Prelude.{ℕ, ◌≡◌, ◌≤◌, ⊤, Bool, IsTrue, Option, Some, None, Result, Ok, Err, List, [], ◌∷◌, ◌++◌}
 use Rattle.vt_session.specs.Talk.{spent_len}
-use Rattle.vt_tree.specs.Calls.{Call}
+use Rattle.vt_tree.specs.declared.error.BlockErr.{BlockErr}
+use Rattle.vt_tree.specs.declared.error.TreeErr.TheVariants as trees
+use Rattle.vt_tree.specs.Calls.{Call, refusals_of}
 use Rattle.vt_tree.specs.Maps.{BlockMap, Maps}
 use Rattle.vac_read.specs.declared.archive.Archive.{Archive}
 use Rattle.vac_read.specs.declared.error.VacBad.{VacBad}
+use Rattle.vac_read.specs.declared.error.VacBad.TheVariants.{Tree}
 use Rattle.vac_read.specs.declared.node.Node.{Node}
 use Rattle.vac_read.specs.Nodes.{IsTop}
 use Rattle.vac_read.specs.Reading.{ReadsArchive, OpensArchive}
@@ -14,7 +17,7 @@ use Rattle.nine_view.specs.declared.serving.Served.{Served}
 use Rattle.nine_view.specs.Answers.{Asked, answer_to}
 use Rattle.nine_view.specs.Known.{IsRightView, ViewState}
 use Rattle.nine_view.specs.Replies.{MessageComes, IsViewReply}
-use Rattle.nine_view.specs.Serving.{ReadCause, ServesConnection, MessageTurn, WriteCause}
+use Rattle.nine_view.specs.Serving.{AnswersInTurn, ReadCause, ServesConnection, MessageTurn, WriteCause}
 use Rattle.vac_view.specs.Members.{LinkOf}
 
 -- what a view of this top folder knows before anything is asked
@@ -79,6 +82,40 @@ ViewsArchive does holds score_of score p (Ok served) s s' =
     ServesArchive does holds score_of score p served s s'
 ViewsArchive does holds score_of score p (Err bad) s s' =
     ReadsArchive {X = Archive} does holds score_of s s' (Err bad) (OpensArchive score (Err bad))
+
+-- the calls of the store for these messages, one behind the other
+abbrev pub calls_in_turn : {S : Type 0} → (does : S → Call → S → Type 0)
+    → (holds : S → Maps → Type 0) → (score_of : List ℕ → List ℕ) → (turns : List MessageTurn)
+    → (s s' : S) → (known known' : ViewState)
+    → AnswersInTurn does holds score_of s known turns s' known' → List Call
+calls_in_turn does holds score_of [] s s' known known' it = []
+calls_in_turn does holds score_of (turn ∷ turns) s s' known known' it = it.1.1.reads.calls
+    ++ calls_in_turn does holds score_of turns it.1.0 s' turn.known known' it.1.2
+
+-- those for which the archive was opened, and behind them those of its messages
+abbrev pub calls_of_view : {S : Type 0} → (does : S → Call → S → Type 0)
+    → (holds : S → Maps → Type 0) → (score_of : List ℕ → List ℕ) → (score : List ℕ)
+    → (p : Passed) → (result : Result Served VacBad) → (s s' : S)
+    → ViewsArchive does holds score_of score p result s s' → List Call
+calls_of_view does holds score_of score p (Ok served) s s' it = it.opens.calls
+    ++ calls_in_turn does holds score_of it.serves.turns it.opened s' (unasked it.archive.top)
+    it.known it.serves.talks
+calls_of_view does holds score_of score p (Err bad) s s' it = it.calls
+
+-- why the archive couldn't be read first, if that was told
+abbrev pub first_bad : Result Served VacBad → Option VacBad
+first_bad (Ok served) = served.failure
+first_bad (Err bad) = Some bad
+
+-- The archive was shown over the link, or it couldn't be opened, by these calls and no other: where a
+-- block is why the archive couldn't be read first, it is the first of them that was refused.
+pub record ViewsBy {S : Type 0} (does : S → Call → S → Type 0) (holds : S → Maps → Type 0)
+    (score_of : List ℕ → List ℕ) (score : List ℕ) (p : Passed) (result : Result Served VacBad)
+    (calls : List Call) (s s' : S) : Type 0 where
+  pub views : ViewsArchive does holds score_of score p result s s'
+  pub by : calls_of_view does holds score_of score p result s s' views ≡ calls
+  pub first : (err : BlockErr) → first_bad result ≡ Some (Tree (trees.Block err))
+      → (rest : List BlockErr) × (refusals_of calls ≡ err ∷ rest)
 
 -- ---- what follows
 

@@ -1,12 +1,11 @@
-//! An archive as a tree of files for a client that speaks 9P2000 (vacfs(4)): of any store of
-//! blocks, and of a store on devices; and what holds of that over the store of a configuration and
-//! over a server at an address.
+//! An archive as a tree of files for a client that speaks 9P2000 (vacfs(4)), of any store of blocks; and
+//! what holds of that over the store of a configuration and over a server at an address.
 // Tests: crates/nine_tests/src/shown.rt.
 #![tactic(auto)]
 
 mod archive;
+mod job;
 pub mod laws;
-mod stored;
 
 pub use archive::view_archive;
-pub use stored::{ViewArchive, view_on};
+pub use job::ViewArchive;

@@ -1,6 +1,6 @@
 -- How a request is answered: by what came for its reply, or since nothing did.
 use Rattle.std.proofs.Common.{◌≡◌, ◌⊎◌, inl, inr, ℕ, ◌+◌, ◌%◌, Bool, true, false, Result, Ok, Err, List, ◌++◌, length, sym, ◌∙◌, ap, subst, take}
-use Rattle.std.specs.Prelude.{IsTrue, IfErr, IsErrOf, IsErrAnd}
+use Rattle.std.specs.Prelude.{IsTrue, IfErr, IfOk, IsErrOf, IsErrAnd}
 use Rattle.std.proofs.lemmas.Bool.{true≢false}
 use Rattle.std.proofs.lemmas.List.{take_at}
 use Rattle.vt_base.specs.Protocol.{TMessage, RMessage}
@@ -9,7 +9,7 @@ use Rattle.vt_wire.specs.Messages.{asked}
 use Rattle.vt_client.specs.declared.error.ClientErr.{ClientErr}
 use Rattle.vt_client.specs.declared.error.ClientErr.TheVariants as errs
 use Rattle.vt_client.specs.Clients.{ClientState, AsksRequest, CountsSides, MayRefuse, is_read_fault, is_write_fault, spent_by}
-use Rattle.vt_client.specs.Exchanges.{AnswersCall, Exchanges, FailsWithoutReply, JudgesReply, MovesBytes, Traffic, Wanted, traffic_of}
+use Rattle.vt_client.specs.Exchanges.{AnswersCall, Exchanges, FailsWithoutReply, JudgesReply, MovesBytes, Traffic, Wanted, told_score, traffic_of}
 use Rattle.vt_client.specs.Members.{LinkOf}
 use Rattle.vt_client.specs.Taking.{IsOfExchange, ReadsReplyFrame}
 
@@ -33,29 +33,36 @@ answered score_of tag w before after frame result whole moves (inr (place, is, w
 
 -- ---- what is known of any link
 
--- faults are told where they rose, and what a request can't be refused for doesn't come
-pub record Mild {L T : Type 0} (link : LinkOf L) (w : Wanted T) (l l' : L) (result : Result T ClientErr)
-    : Type 0 where
+-- faults are told where they rose, what a request can't be refused for doesn't come, and the score
+-- that is told is the one wanted
+pub record Mild {L T : Type 0} (link : LinkOf L) (score_of : List ℕ → List ℕ) (w : Wanted T) (l l' : L)
+    (result : Result T ClientErr) : Type 0 where
   pub sides : CountsSides link l l' result
   pub refuses : IfErr result (MayRefuse w)
+  pub scored : IfOk result (λ value. told_score score_of (w.reply value) ≡ w.score)
   pub unspent : IsErrOf result errs.Spent → ⊥
 
 module _ {L T : Type 0} (link : LinkOf L) (score_of : List ℕ → List ℕ) (w : Wanted T) (l l' : L)
   where
     mild_judged : (reply : RMessage) (result : Result T ClientErr) → JudgesReply score_of w reply result
         → link.read_faults l' ≡ link.read_faults l → link.write_faults l' ≡ link.write_faults l
-        → Mild link w l l' result
-    mild_judged reply (Ok value) judged r s =
-        record { sides = record { reads = r; writes = s }; refuses = tt; unspent = λ e. cc }
+        → Mild link score_of w l l' result
+    mild_judged reply (Ok value) judged r s = record {
+      sides = record { reads = r; writes = s };
+      refuses = tt;
+      scored = ap (told_score score_of) (sym judged.0) ∙ judged.1;
+      unspent = λ e. cc;
+    }
     mild_judged reply (Err (errs.Remote text)) judged r s =
-        record { sides = record { reads = r; writes = s }; refuses = tt; unspent = λ e. cc }
+        record { sides = record { reads = r; writes = s }; refuses = tt; scored = tt; unspent = λ e. cc }
     mild_judged reply (Err (errs.WrongScore want found)) judged r s = record {
       sides = record { reads = r; writes = s };
       refuses = (judged.0, judged.2);
+      scored = tt;
       unspent = λ e. cc;
     }
     mild_judged reply (Err errs.NoMemory) judged r s =
-        record { sides = record { reads = r; writes = s }; refuses = tt; unspent = λ e. cc }
+        record { sides = record { reads = r; writes = s }; refuses = tt; scored = tt; unspent = λ e. cc }
     mild_judged reply (Err errs.ReadFault) judged r s = absurd judged
     mild_judged reply (Err errs.WriteFault) judged r s = absurd judged
     mild_judged reply (Err errs.Cut) judged r s = absurd judged
@@ -65,25 +72,28 @@ module _ {L T : Type 0} (link : LinkOf L) (score_of : List ℕ → List ℕ) (w 
 
     mild_wrong : (place : ℕ) → link.read_faults l' ≡ link.read_faults l
         → link.write_faults l' ≡ link.write_faults l
-        → Mild link w l l' (Err (errs.BadReply place))
+        → Mild link score_of w l l' (Err (errs.BadReply place))
     mild_wrong place r s =
-        record { sides = record { reads = r; writes = s }; refuses = tt; unspent = λ e. cc }
+        record { sides = record { reads = r; writes = s }; refuses = tt; scored = tt; unspent = λ e. cc }
 
     mild_failed : (err : ClientErr) → IsOfExchange err
-        → CountsSides {T = ℕ} link l l' (Err err) → Mild link w l l' (Err err)
+        → CountsSides {T = ℕ} link l l' (Err err) → Mild link score_of w l l' (Err err)
     mild_failed errs.ReadFault about sides = record {
       sides = record { reads = sides.reads; writes = sides.writes };
       refuses = tt;
+      scored = tt;
       unspent = λ e. cc;
     }
     mild_failed errs.WriteFault about sides = record {
       sides = record { reads = sides.reads; writes = sides.writes };
       refuses = tt;
+      scored = tt;
       unspent = λ e. cc;
     }
     mild_failed errs.Cut about sides = record {
       sides = record { reads = sides.reads; writes = sides.writes };
       refuses = tt;
+      scored = tt;
       unspent = λ e. cc;
     }
     mild_failed (errs.BadReply place) about sides = absurd about
@@ -95,10 +105,10 @@ module _ {L T : Type 0} (link : LinkOf L) (score_of : List ℕ → List ℕ) (w 
 
     pub mild : (tag : ℕ) (frame : List ℕ) (result : Result T ClientErr)
         → ReadsReplyFrame score_of tag w frame result → link.read_faults l' ≡ link.read_faults l
-        → link.write_faults l' ≡ link.write_faults l → Mild link w l l' result
+        → link.write_faults l' ≡ link.write_faults l → Mild link score_of w l l' result
     mild tag frame result (inl (reply, is, judged)) r s = mild_judged reply result judged r s
     mild tag frame result (inr (place, is, wrong)) r s =
-        subst (Mild link w l l') (sym is) (mild_wrong place r s)
+        subst (Mild link score_of w l l') (sym is) (mild_wrong place r s)
 
 -- ---- a call
 
@@ -107,7 +117,7 @@ pub record Asked {L T : Type 0} (link : LinkOf L) (score_of : List ℕ → List 
     (l l' : L) (result : Result T ClientErr) : Type 0 where
   pub answers : IsTrue link.tells
       → AnswersCall score_of tag w (traffic_of link l) (traffic_of link l') result
-  pub mild : Mild link w l l' result
+  pub mild : Mild link score_of w l l' result
 
 -- a frame came
 pub asked_by_frame : {L T : Type 0} (link : LinkOf L) (score_of : List ℕ → List ℕ) (tag : ℕ)
@@ -163,6 +173,7 @@ asks_so link score_of w c l' spent result unspent is a = record {
   answers = λ told _. a.answers told;
   sides = a.mild.sides;
   refuses = a.mild.refuses;
+  scored = a.mild.scored;
   spent = (λ e. absurd (a.mild.unspent e), λ t. absurd (true≢false (sym t ∙ unspent)));
   untouched = λ t. absurd (true≢false (sym t ∙ unspent));
   goes_on = λ _. ap (λ (b : Bool). record c { link = l'; tag = (c.tag + 1) % 256; spent = b }) is;

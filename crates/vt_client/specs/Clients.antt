@@ -1,5 +1,5 @@
 -- What a client is at, what a call of it leaves, and which refusals end it.
-use Rattle.std.specs.Prelude.{ℕ, ◌≡◌, ◌≢◌, ◌+◌, ◌%◌, ◌↔◌, ⊤, ◌⊎◌, Bool, true, false, IsTrue, IfErr, IsErrOf, Option, Some, None, Result, Ok, Err, List, [], take}
+use Rattle.std.specs.Prelude.{ℕ, ◌≡◌, ◌≢◌, ◌+◌, ◌%◌, ◌↔◌, ⊤, ◌⊎◌, Bool, true, false, IsTrue, IfErr, IfOk, IsErrOf, Option, Some, None, Result, Ok, Err, List, [], take}
 use Rattle.vt_base.specs.Faults.{CountsFault}
 use Rattle.vt_base.specs.Protocol.{t_ask, t_goodbye, read, write, sync, r_read, r_write, r_sync}
 use Rattle.vt_base.specs.declared.TheConstants.{MAX_BLOCK}
@@ -9,7 +9,7 @@ use Rattle.vt_wire.specs.Messages.{asked}
 use Rattle.vt_client.specs.declared.error.ClientErr.{ClientErr}
 use Rattle.vt_client.specs.declared.error.ClientErr.TheVariants as errs
 use Rattle.vt_client.specs.declared.error.LinkError.{LinkError}
-use Rattle.vt_client.specs.Exchanges.{MovesBytes, Wanted, AnswersCall, traffic_of}
+use Rattle.vt_client.specs.Exchanges.{MovesBytes, Wanted, AnswersCall, told_score, traffic_of}
 use Rattle.vt_client.specs.Members.{LinkOf}
 
 -- The link; the tag of the next request; whether it is spent; and of its calls as a store of blocks
@@ -113,14 +113,15 @@ MayRefuse w errs.Spent = ⊤
 abbrev pub next_tag : ℕ → ℕ
 next_tag tag = (tag + 1) % 256
 
--- One request went out under the client's tag, and its one reply came in. A spent client touches
--- nothing, and says so.
+-- One request went out under the client's tag, and its one reply came in. Whatever that says, the
+-- score that it tells is the one wanted. A spent client touches nothing, and says so.
 pub record AsksRequest {L T : Type 0} (link : LinkOf L) (score_of : List ℕ → List ℕ) (w : Wanted T)
     (c c' : ClientState L) (result : Result T ClientErr) : Type 0 where
   pub answers : IsTrue link.tells → c.spent ≡ false
       → AnswersCall score_of c.tag w (traffic_of link c.link) (traffic_of link c'.link) result
   pub sides : CountsSides link c.link c'.link result
   pub refuses : IfErr result (MayRefuse w)
+  pub scored : IfOk result (λ value. told_score score_of (w.reply value) ≡ w.score)
   pub spent : IsErrOf result errs.Spent ↔ (c.spent ≡ true)
   pub untouched : c.spent ≡ true → c' ≡ c
   pub goes_on : c.spent ≡ false → c' ≡ record c {

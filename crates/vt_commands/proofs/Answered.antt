@@ -1,7 +1,6 @@
 -- One block of a configuration's store, where no call fails: the model's answer, or want of memory.
-use Rattle.std.proofs.Common.{◌≡◌, ⊎_elim, inl, inr, ℕ, ◌<◌, ◌++◌, Bool, List, length, None, Result, Ok, Err, refl, sym, ◌∙◌, ap, subst, arith, length-append}
-use Rattle.std.specs.List.{All}
-use Rattle.std.specs.Prelude.{◌&&◌, IsTrue, nat_lt}
+use Rattle.std.proofs.Common.{◌≡◌, ⊎_elim, inl, inr, ℕ, ◌<◌, ◌++◌, Bool, List, length, Option, Some, None, Result, Ok, Err, refl, sym, ◌∙◌, ap, subst, arith, length-append}
+use Rattle.std.specs.Prelude.{◌&&◌, IfErr, IfSome, IsTrue, nat_lt}
 use Rattle.std.proofs.lemmas.Bool.{lt-ltb}
 use Rattle.vt_base.specs.Kind.{is_kind}
 use Rattle.vt_base.specs.Protocol.{Operation, RMessage, r_refused, write}
@@ -11,112 +10,138 @@ use Rattle.vt_base.specs.declared.why.Why.TheVariants as whys
 use Rattle.vt_conf.specs.declared.conf.Conf.{Conf as Configuration}
 use Rattle.vt_disk.specs.Members.{DiskOf}
 use Rattle.vt_model.specs.Answer.{answer}
+use Rattle.vt_model.specs.Causes.{OneRose}
 use Rattle.vt_model.specs.History.{History}
 use Rattle.vt_model.specs.Places.{Setup}
 use Rattle.vt_handler.specs.Serving.{answered, tells_failure}
 use Rattle.vt_core.specs.Causes.{IsUndamagedWhy}
-use Rattle.vt_core.specs.Core.{CoreState, stops_of}
+use Rattle.vt_core.specs.Core.{CoreState, each_of}
 use Rattle.vt_open.specs.declared.error.OpenError.{OpenError}
 use Rattle.vt_open.specs.Opening.{IsFaultOrMemory, RefusesStore}
-use Rattle.vt_partitions.specs.Parts.{Standing}
-use Rattle.vt_alone.specs.Sessions.{FailsFor}
-use Rattle.vt_single.specs.declared.stored.StoredError.{StoredError}
-use Rattle.vt_single.specs.declared.stored.StoredError.TheVariants as stored
-use Rattle.vt_single.specs.Single.{IsAnswer}
-use Rattle.vt_single.specs.Stored.{Uses, UsesStore}
+use Rattle.vt_tree.specs.declared.error.BlockErr.{BlockErr}
+use Rattle.vt_use.specs.Answers.{IsAnswer}
+use Rattle.vt_use.specs.Causes.{FailsFor}
+use Rattle.vt_use.specs.OneBlock.{own_answer}
+use Rattle.vt_use.specs.Blocks.{closed_behind}
+use Rattle.vt_use.specs.PlaceAnswers.{answer_at}
+use Rattle.vt_use.specs.Members.{LinkOf}
+use Rattle.vt_use.specs.Places.{Doing, UsesAt}
+use Rattle.vt_use.specs.declared.used_at.StoreAt.TheVariants as at
+use Rattle.vt_use.specs.declared.used_at.StoreError.{StoreError}
+use Rattle.vt_use.specs.declared.used_at.UsedAt.{UsedAt}
 use Rattle.run_base.specs.declared.error.CommandError.{CommandError}
 use Rattle.run_base.specs.declared.error.CommandError.TheVariants.{NoMemory, ReadFault, Refused as RefusedBy, WriteFault}
 use Rattle.run_base.specs.declared.place.Place.{Place}
-use Rattle.run_base.specs.declared.place.Place.TheVariants.{Memory, Server, Conf}
-use Rattle.vt_commands.specs.Answers.{TellsReply, TellsReplyOrMemory, WhereOpened}
-use Rattle.run_base.specs.Blocks.{DoesStored, TellsStoredBlock, refusal_for}
+use Rattle.run_base.specs.declared.place.Place.TheVariants.{Memory, At}
+use Rattle.vt_commands.specs.Answers.{TellsReply, TellsReplyOrMemory}
+use Rattle.run_base.specs.Blocks.{TellsBlock, refusal_for}
+use Rattle.run_base.specs.Change.{FilesChange}
+use Rattle.run_base.specs.Configurations.{ReadsConf}
 use Rattle.run_sessions.specs.Write.{TakesNoBlock, TakesNone}
 use Rattle.run_base.specs.Errors.{HasCauseIn, CommandOutcome}
 use Rattle.run_base.specs.Formatting.{Prints}
-use Rattle.run_base.specs.Places.{NamesPlace}
-use Rattle.run_base.proofs.StoredCauses.{used_rises}
+use Rattle.run_base.specs.Places.{FindsPlace, NamesFile}
+use Rattle.run_base.proofs.StoreCauses.{used_rises}
 use Rattle.vt_commands.specs.HandedIn.{NoneFails}
 use Rattle.vt_commands.specs.Work.{Work, causes_of}
 use Rattle.vt_commands.proofs.CompleteConf.{none_opened_well}
+use Rattle.vt_commands.proofs.Stored.{UsedFor, answer_is, as_at, where_used}
 
--- ---- by whether the store was opened
+-- ---- why it failed
 
-pub where_opened : {D T : Type 0} (score : List ℕ → List ℕ) (disk : DiskOf D) (told : Type 0)
-    (conf : Configuration) (Does : Result T Why → (opened left : CoreState D) → Type 0)
-    (old new : List ℕ → Standing D) (faults faults' : ℕ) (Holds : Result T Why → Type 0)
-    (unopened : Type 0) (result : Result T StoredError)
-    → ((answer : Result T Why) → Uses score disk told conf (Does answer) old new → Holds answer)
-    → ((bad : OpenError) → RefusesStore score disk told conf old new faults faults' bad → unopened)
-    → UsesStore score disk told conf Does old new faults faults' result
-    → WhereOpened Holds unopened result
-where_opened score disk told conf Does old new faults faults' Holds unopened (Ok value) of not uses =
-    of (Ok value) uses.0
-where_opened score disk told conf Does old new faults faults' Holds unopened
-    (Err (stored.Refused why)) of not uses = of (Err why) uses.0
-where_opened score disk told conf Does old new faults faults' Holds unopened
-    (Err (stored.Unopened bad)) of not uses = not bad uses.0
+-- the answer failed for what was said first, or at the end
+pub causes_so : {D T : Type 0} (disk : DiskOf D) (opened left : CoreState D)
+    (output : Result T BlockErr) (said : Option Why) (ended : Result (Unit {0}) Why)
+    → IfSome said (λ why. tells_failure why ≡ Bool.true → FailsFor disk why opened left)
+    → IfErr ended (λ why. FailsFor disk why opened left)
+    → IfErr (closed_behind (own_answer output said) ended)
+    (λ why. tells_failure why ≡ Bool.true → FailsFor disk why opened left)
+causes_so disk opened left (Ok value) said (Ok done) first end = tt
+causes_so disk opened left (Ok value) said (Err why) first end = λ failed. end
+causes_so disk opened left (Err err) (Some why) ended first end = first
+causes_so disk opened left (Err err) None ended first end = λ failed. tt
 
 -- ---- where no call fails
 
 module _ {R K I P D N L : Type 0} (score : List ℕ → List ℕ) (disk : DiskOf D)
-    (file : List ℕ) (conf : Configuration) (work : Work R K I P D N L) (fails : NoneFails disk work) where
+    (link : LinkOf L) (file : List ℕ)
+    (conf : Configuration) (work : Work R K I P D N L) (fails : NoneFails disk work) where
   pub printed_well : (text : List ℕ) (outcome : CommandOutcome) → Prints text outcome work.sink
       → (outcome ≡ Ok tt) × (IsTrue work.sink.tells → work.sink.new ≡ work.sink.old ++ text)
   printed_well text (Ok done) prints = (refl, prints.0)
   printed_well text (Err WriteFault) prints = absurd (fails.sink prints.1)
   printed_well text (Err failure) prints = absurd prints
 
-  module _ {T : Type 0} (Does : Result T Why → (opened left : CoreState D) → Type 0)
-      (message : T → RMessage) (text : T → List ℕ) (m : Operation) (c : Setup) (h : History)
-      (shows : (value : T) (outcome : CommandOutcome) → Prints (text value) outcome work.sink
-      → TellsReply (message value) outcome work.sink)
-      (causes : (why : Why) (opened left : CoreState D)
-      → All (λ stop. stop ≡ None) (stops_of opened) → Does (Err why) opened left
-      → tells_failure why ≡ Bool.true → FailsFor disk why opened left) where
-    -- the store failed, though no call did
-    failed_well : (why : Why) (outcome : CommandOutcome) → outcome ≡ Err (refusal_for why)
-        → (x : Uses score disk (IsTrue work.parts.tells) conf (Does (Err why)) work.parts.old
-        work.parts.new) → tells_failure why ≡ Bool.true → IsUndamagedWhy why
-        → outcome ≡ Err NoMemory
-    failed_well whys.NoMemory outcome is x failed undamaged = is
-    failed_well whys.DiskFault outcome is x failed undamaged =
-        absurd (fails.disks (used_rises score disk conf work.parts (Does (Err whys.DiskFault)) x
-        (causes whys.DiskFault x.opened x.left x.opens.mounts.fresh.stops x.does failed)))
-    failed_well (whys.Stopped call) outcome is x failed undamaged =
-        absurd (fails.disks (used_rises score disk conf work.parts (Does (Err (whys.Stopped call))) x
-        (causes (whys.Stopped call) x.opened x.left x.opens.mounts.fresh.stops x.does failed)))
-    failed_well (whys.Damaged site want found) outcome is x failed undamaged = absurd undamaged
-    failed_well why outcome is x failed undamaged = absurd (cc)
+  -- the store failed, though no call did
+  failed_well : (opened left : CoreState D)
+      (quiet : OneRose (each_of disk.faults opened) (each_of disk.faults left) → ⊥) (why : Why)
+      (outcome : CommandOutcome) → outcome ≡ Err (refusal_for why)
+      → FailsFor disk why opened left → tells_failure why ≡ Bool.true → IsUndamagedWhy why
+      → outcome ≡ Err NoMemory
+  failed_well opened left quiet whys.NoMemory outcome is fails_for failed undamaged = is
+  failed_well opened left quiet whys.DiskFault outcome is fails_for failed undamaged =
+      absurd (quiet fails_for)
+  failed_well opened left quiet (whys.Stopped call) outcome is fails_for failed undamaged =
+      absurd (quiet fails_for)
+  failed_well opened left quiet (whys.Damaged site want found) outcome is fails_for failed undamaged =
+      absurd undamaged
+  failed_well opened left quiet why outcome is fails_for failed undamaged = absurd fails_for
 
-    module _ (answers : (result : Result T Why)
-        → Uses score disk (IsTrue work.parts.tells) conf (Does result) work.parts.old work.parts.new
-        → IsAnswer score c h m (answered message result))
+  module _ {T : Type 0} (message : T → RMessage) (text : T → List ℕ) (m : Operation) (c : Setup)
+      (h : History) (shows : (value : T) (outcome : CommandOutcome)
+      → Prints (text value) outcome work.sink → TellsReply (message value) outcome work.sink)
+      (outcome : CommandOutcome) where
+    answered_well : (opened left : CoreState D)
+        (quiet : OneRose (each_of disk.faults opened) (each_of disk.faults left) → ⊥)
+        (result : Result T Why)
+        → IfErr result (λ why. tells_failure why ≡ Bool.true → FailsFor disk why opened left)
+        → IsAnswer score c h m (answered message result)
+        → TellsBlock file (at.Conf conf) text (as_at result) outcome work.sink
+        → TellsReplyOrMemory (answer score c h m).reply outcome work.sink
+    answered_well opened left quiet (Ok value) causes answers told = ⊎_elim
+        (λ same. inr (subst (λ (r : RMessage). TellsReply r outcome work.sink) same
+        (shows value outcome told)))
+        (λ never. absurd never) answers
+    answered_well opened left quiet (Err why) causes answers told =
+        let is : outcome ≡ Err (refusal_for why) = told.0.1 ∙ ap Err told.0.2 in
+        ⊎_elim
+        (λ same. inr (subst (λ (r : RMessage). TellsReply r outcome work.sink) same
+        ((why, refl, is), told.1)))
+        (λ failed. inl (failed_well opened left quiet why outcome is (causes failed.0) failed.0
+        failed.1))
+        answers
+
+    pub stored_well : (now : ℕ) (writes : Bool) (Does : Result T BlockErr → Doing)
+        (answers : (output : Result T BlockErr) (said : Option Why) (added : ℕ)
+        (ended : Result (Unit {0}) Why)
+        → UsedFor score disk link conf now writes work.parts work.dialer Does output said added
+        ended → IsAnswer score c h m (answered message (closed_behind (own_answer output said) ended)))
+        (causes : (output : Result T BlockErr) (said : Option Why) (added : ℕ)
+        (ended : Result (Unit {0}) Why)
+        → (x : UsedFor score disk link conf now writes work.parts work.dialer Does output said
+        added ended) → IfErr (closed_behind (own_answer output said) ended)
+        (λ why. tells_failure why ≡ Bool.true → FailsFor disk why x.opened x.left))
         (found : (bad : OpenError) → RefusesStore score disk (IsTrue work.parts.tells) conf
         work.parts.old work.parts.new work.parts.faults work.parts.faults' bad
-        → IsFaultOrMemory bad) (outcome : CommandOutcome) (cause : HasCauseIn (causes_of disk work) outcome) where
-      told_well : (result : Result T StoredError)
-          → UsesStore score disk (IsTrue work.parts.tells) conf Does work.parts.old work.parts.new
-          work.parts.faults work.parts.faults' result
-          → TellsStoredBlock file conf text result outcome work.sink
-          → TellsReplyOrMemory (answer score c h m).reply outcome work.sink
-      told_well (Ok value) uses told = ⊎_elim
-          (λ same. inr (subst (λ (r : RMessage). TellsReply r outcome work.sink) same
-          (shows value outcome told)))
-          (λ never. absurd never) (answers (Ok value) uses.0)
-      told_well (Err (stored.Refused why)) uses told =
-          let is = told.0.1 ∙ ap Err told.0.2 in
-          ⊎_elim
-          (λ same. inr (subst (λ (r : RMessage). TellsReply r outcome work.sink) same
-          ((why, refl, is), told.1)))
-          (λ failed. inl (failed_well why outcome is uses.0 failed.0 failed.1))
-          (answers (Err why) uses.0)
-      told_well (Err (stored.Unopened bad)) uses told = inl (told.0.1 ∙ ap Err
-          (none_opened_well disk work fails file conf bad told.0.0 (found bad uses.0) told.0.2
-          (subst (HasCauseIn (causes_of disk work)) told.0.1 cause)))
-
-      pub stored_well : DoesStored score disk file conf Does text outcome work.sink work.parts
-          → TellsReplyOrMemory (answer score c h m).reply outcome work.sink
-      stored_well it = told_well it.result it.uses it.told
+        → IsFaultOrMemory bad) (cause : HasCauseIn (causes_of disk work) outcome)
+        (used : Result (UsedAt (Result T BlockErr)) StoreError)
+        → UsesAt score disk link (at.Conf conf) now writes Does used work.parts work.dialer
+        → TellsBlock file (at.Conf conf) text (answer_at used) outcome work.sink
+        → TellsReplyOrMemory (answer score c h m).reply outcome work.sink
+    stored_well now writes Does answers causes found cause used x told = where_used score disk
+        link conf now writes work.parts work.dialer Does
+        (λ u. TellsBlock file (at.Conf conf) text (answer_at u) outcome work.sink
+        → TellsReplyOrMemory (answer score c h m).reply outcome work.sink)
+        (λ output said added ended uses told'. answered_well uses.opened uses.left
+        (λ rose. fails.disks (used_rises score disk conf work.parts _ uses rose))
+        (closed_behind (own_answer output said) ended) (causes output said added ended uses)
+        (answers output said added ended uses)
+        (subst (λ (r : Result T StoreError). TellsBlock file (at.Conf conf) text r outcome work.sink)
+        (answer_is output said ended) told'))
+        (λ bad refuses told'. inl (told'.0.1 ∙ ap Err
+        (none_opened_well disk work fails file conf bad told'.0.0 (found bad refuses) told'.0.2
+        (subst (HasCauseIn (causes_of disk work)) told'.0.1 cause))))
+        used x told
 
 -- ---- what is handed in
 
@@ -157,8 +182,10 @@ module _ {R K I P D N L : Type 0} (score : List ℕ → List ℕ) (disk : DiskOf
       of failure takes told = absurd takes
 
 -- a word that names a file names no other place
-pub in_file : {X : Type 0} (file : List ℕ) (Does : Place → Type 0) → NamesPlace file Conf
-    → (Does Conf → X) → (place : Place) → NamesPlace file place → Does place → X
-in_file file Does names of Memory named does = absurd (names.0 named)
-in_file file Does names of (Server address) named does = absurd (names.1 address named)
-in_file file Does names of Conf named does = of does
+pub in_conf : {I X : Type 0} (file : List ℕ) (files : FilesChange I) (Does : Place → Type 0)
+    → NamesFile file → ((conf : Configuration) → ReadsConf file conf files → Does (At (at.Conf conf)) → X)
+    → (place : Place) → FindsPlace file files place → Does place → X
+in_conf file files Does names of Memory found does = absurd (names.0 found.0)
+in_conf file files Does names of (At (at.Server address)) found does =
+    absurd (names.1 address found.1.0)
+in_conf file files Does names of (At (at.Conf conf)) found does = of conf found.1.1 does

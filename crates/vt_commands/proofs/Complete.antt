@@ -13,8 +13,8 @@ use Rattle.vt_session.specs.Talk.{Carries}
 use Rattle.vt_session.proofs.Hearings.{heard_one, heard_last}
 use Rattle.vt_handler.specs.Links.{ReadCause}
 use Rattle.vt_handler.specs.Sessions.{SinkCause}
-use Rattle.vt_alone.specs.declared.serving.StoreServed.{StoreServed}
-use Rattle.vt_alone.specs.Sessions.{NeedsMemory}
+use Rattle.vt_use.specs.declared.session.StoreServed.{StoreServed}
+use Rattle.vt_use.specs.Sessions.{NeedsMemory}
 use Rattle.run_base.specs.declared.error.CommandError.TheVariants as failures
 use Rattle.run_base.specs.Change.{StreamChange}
 use Rattle.run_sessions.specs.Session.{DoesSession}

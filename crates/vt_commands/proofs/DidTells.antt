@@ -9,8 +9,8 @@ use Rattle.vt_cli.specs.declared.command.Command.TheVariants.{Session}
 use Rattle.vt_cli.specs.Words.{Asks, AreFaulty, AsksForNothing}
 use Rattle.vt_cli.proofs.Asking.{alone}
 use Rattle.vt_client.specs.declared.error.ClientErr.TheVariants as errs
-use Rattle.vt_remote.specs.declared.remote.RemoteError.{RemoteError}
-use Rattle.vt_remote.specs.declared.remote.RemoteError.TheVariants as remote
+use Rattle.vt_remote.specs.declared.talk.RemoteError.{RemoteError}
+use Rattle.vt_remote.specs.declared.talk.RemoteError.TheVariants as remote
 use Rattle.run_base.specs.declared.error.CommandError.TheVariants.{BadWords, DiskFault, ReadFault, FileFault, FolderFault, WriteFault, NoMemory, Refused, Server}
 use Rattle.run_sessions.specs.Session.{DoesSession}
 use Rattle.run_sessions.specs.SessionConf.{DoesSessionConf}

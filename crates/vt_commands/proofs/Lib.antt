@@ -1,4 +1,5 @@
 pub mod CompleteConf
+pub mod Stored
 pub mod Answered
 pub mod Complete
 pub mod DidTells

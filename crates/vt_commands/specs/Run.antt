@@ -23,12 +23,13 @@ use Rattle.run_stores.specs.Fmtisect.{DoesFmtisect}
 use Rattle.run_sessions.specs.Read.{DoesRead}
 use Rattle.run_stores.specs.Rehearse.{DoesRehearse}
 use Rattle.run_sessions.specs.SessionAt.{DoesSessionAt}
-use Rattle.run_archives.specs.VacAt.{DoesVacAt}
+use Rattle.run_archives.specs.Vac.{DoesVac}
 use Rattle.run_archives.specs.Vacfs.{DoesVacfs}
 use Rattle.run_sessions.specs.Write.{DoesWrite}
 use Rattle.vt_commands.specs.Work.{IsIdle, NoFolder, NoSource, OnlyParts, OnlyReading, OnlyServing, OnlySink, OnlyStore, Work, causes_of}
 
--- What a command did with what it is lent, and that nothing else was touched.
+-- What a command did with what it is lent, and that nothing else was touched. The time at which a folder
+-- is archived is tied to no clock.
 abbrev pub DoesCommand : {R K I P D N L : Type 0} → DiskOf D → LinkOf L → (score : List ℕ → List ℕ)
     → Command → CommandOutcome → Work R K I P D N L → Type 0
 DoesCommand disk link score (Session store) outcome work =
@@ -59,8 +60,8 @@ DoesCommand disk link score (Write store kind) outcome work =
 DoesCommand disk link score (Rehearse seed count) outcome work =
     DoesRehearse seed count outcome work.sink × OnlySink outcome work
 DoesCommand disk link score (Vac store folder size) outcome work = (preface : List ℕ)
-    × DoesVacAt score disk link store folder size preface outcome work.files work.folders
-    work.parts work.dialer work.sink × NoSource disk outcome work
+    × ((now : ℕ) × DoesVac score disk link now store folder size preface outcome work.files
+    work.folders work.parts work.dialer work.sink) × NoSource disk outcome work
 DoesCommand disk link score (View store score_word) outcome work =
     DoesVacfs score disk link store score_word outcome work.source work.sink work.files work.parts
     work.dialer × NoFolder disk outcome work

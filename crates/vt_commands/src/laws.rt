@@ -5,14 +5,13 @@ ghost use Rattle.vt_base.specs.Faults.{HasRisen};
 ghost use Rattle.vt_cli.specs.declared.command.Command.{Command};
 ghost use Rattle.vt_base.specs.Protocol.{read, write};
 ghost use Rattle.vt_base.specs.declared.TheConstants.{MAX_BLOCK};
-ghost use Rattle.vt_base.specs.declared.score.Score.{Score};
 ghost use Rattle.vt_cli.specs.declared.command.Command.TheVariants.{Session, Read, Write};
 ghost use Rattle.vt_cli.specs.declared.asked.Asked.TheVariants.{Do};
 ghost use Rattle.vt_cli.specs.Words.{Asks, AreFaulty, session_words};
 ghost use Rattle.run_base.specs.declared.error.CommandError.TheVariants.{NoMemory};
-ghost use Rattle.run_base.specs.Change.{StreamChange, FoldersChange, PartsChange, Attempts};
+ghost use Rattle.run_base.specs.Change.{StreamChange, DialerChange, FoldersChange, PartsChange, Attempts};
 ghost use Rattle.run_sessions.specs.SessionConf.{KeepsConf, ServesConf};
-ghost use Rattle.run_base.specs.Unopened.{OpensNone};
+ghost use Rattle.run_base.specs.Unopened.{TellsUnopened};
 ghost use Rattle.vt_conf.specs.declared.conf.Conf.{Conf};
 ghost use Rattle.vt_core.specs.Files.{PerDevice};
 ghost use Rattle.vt_core.specs.Mounting.{IsLogOf, LeavesStanding};
@@ -21,33 +20,36 @@ ghost use Rattle.vt_model.specs.History.{History};
 ghost use Rattle.vt_model.specs.Places.{Setup};
 ghost use Rattle.vt_open.specs.Names.{AreUnder};
 ghost use Rattle.vt_part.specs.Table.{Table};
-ghost use Rattle.vt_single.specs.Single.{ReadsBlock, WritesBlock};
-ghost use Rattle.vt_single.specs.Stored.{ReadsStore, WritesStore};
-ghost use Rattle.run_base.specs.declared.place.Place.TheVariants as place;
-ghost use Rattle.vt_commands.specs.Answers.{TellsReplyOrMemory, WhereOpened};
-ghost use Rattle.run_base.specs.Blocks.{DoesStored, SaysNoType, SaysType};
-ghost use Rattle.run_sessions.specs.Read.{SaysBlock, SaysNoBlock};
-ghost use Rattle.run_archives.specs.Vac.{StoresFolder, WhereStored};
+ghost use Rattle.vt_use.specs.StoredBlocks.{ReadsStore, WritesStore};
+ghost use Rattle.vt_use.specs.PlaceAnswers.{answer_at};
+ghost use Rattle.vt_use.specs.declared.used_at.StoreAt.TheVariants as at;
+ghost use Rattle.vt_commands.specs.Answers.{TellsReplyOrMemory, WhereOpened, WhereStored};
+ghost use Rattle.run_base.specs.Blocks.{SaysNoType, SaysType};
+ghost use Rattle.run_sessions.specs.Read.{PrintsAt, SaysBlock, SaysNoBlock};
+ghost use Rattle.run_sessions.specs.Write.{GivesTo};
+ghost use Rattle.run_archives.specs.Vac.{StoresFolder};
 ghost use Rattle.vac_store.specs.declared.outcome.ArchiveError.{ArchiveError};
-ghost use Rattle.vac_store.specs.declared.outcome.StoredArchive.{StoredArchive};
+ghost use Rattle.vac_store.specs.declared.outcome.ArchivedAt.{ArchivedAt};
 ghost use Rattle.vac_store.specs.Stored.{KeepsStored};
 ghost use Rattle.vac_write.specs.Archiving.{IsSeen};
 ghost use Rattle.run_base.specs.Formatting.{RefusesWord};
 ghost use Rattle.run_base.specs.Errors.{CommandOutcome, PartHasFailed, HasLinkFailed, status_of, line};
-ghost use Rattle.run_base.specs.Places.{EndsIdle, NamesPlace, in_memory};
+ghost use Rattle.run_base.specs.Places.{EndsIdle, NamesFile, in_memory};
 ghost use Rattle.vt_commands.specs.HandedIn.{IsWellHandedIn, NoneFails};
 ghost use Rattle.vt_commands.specs.Run.{Did, DoesCommand};
 ghost use Rattle.vt_commands.specs.Work.{IsIdle, Work};
 ghost use Rattle.run_base.specs.Served.{InputEndsWell};
 
 use vac_store::stores_keep_archives;
-use vt_alone::{sessions_end_well, sessions_leave_all, sound_stores_need_memory};
 use vt_conf::laws::configurations_have_one_meaning;
 use vt_dial::Dialer;
 use vt_open::{devices_have_names, opened_stores_recall, refused_stores_stand, shapes_are_kept};
 use vt_out::{Files, Sink, Source};
 use vt_partitions::Parts;
-use vt_single::{failures_have_causes, stores_are_read, stores_are_written};
+use vt_use::{
+    local_refusals_have_causes, sessions_end_well, sessions_leave_all, sound_stores_need_memory,
+    stores_are_read, stores_are_written,
+};
 
 /// What follows from `did`, the clause of `run`, about each status.
 pub fn did_tells<R: Source, K: Sink, F: Sink, I: Files, P: Parts, N: Dialer>()
@@ -127,7 +129,7 @@ pub fn sessions_keep_the_store<R: Source, K: Sink, P: Parts>()
         (outcome : CommandOutcome) (source : StreamChange R) (sink : StreamChange K)
         (parts : PartsChange P P.Disk)
         (tables : List Table) (devices back : PerDevice P.Disk)
-        → OpensNone score P.Disk.Disk file conf outcome source sink parts → IsTrue parts.tells
+        → TellsUnopened score P.Disk.Disk file conf outcome source sink parts → IsTrue parts.tells
         → IsTrue P.Disk.tells → AreUnder parts.old conf devices → AreUnder parts.new conf back
         → LeavesStanding score P.Disk.Disk tables devices back }
 {
@@ -160,28 +162,28 @@ pub fn sessions_are_answered<R: Source, K: Sink, F: Sink, I: Files, P: Parts, N:
 /// partitions' images stands for a prefix of one legal history: what is told is true of what the
 /// partitions read as, and what a crash leaves stands for that, behind a write perhaps with the
 /// block. Where the store isn't opened, a crash loses nothing of it.
-pub fn blocks_keep_the_store<K: Sink, P: Parts>()
+pub fn blocks_keep_the_store<K: Sink, P: Parts, N: Dialer>()
     ensures read { (score : List ℕ → List ℕ) (file : List ℕ) (conf : Conf) (kind : ℕ)
-        (s : List ℕ) (text : List ℕ → List ℕ) (outcome : CommandOutcome) (sink : StreamChange K)
-        (parts : PartsChange P P.Disk) (tables : List Table) (devices : PerDevice P.Disk)
-        (c : Setup) (h g : History) (base : ℕ)
-        (x : DoesStored score P.Disk.Disk file conf (ReadsBlock score P.Disk.Disk kind s) text
-        outcome sink parts) → IsTrue parts.tells → IsTrue P.Disk.tells
+        (s : List ℕ) (outcome : CommandOutcome) (sink : StreamChange K)
+        (parts : PartsChange P P.Disk) (dialer : DialerChange N N.Link) (tables : List Table)
+        (devices : PerDevice P.Disk) (c : Setup) (h g : History) (base : ℕ)
+        (x : PrintsAt score P.Disk.Disk N.Link.Link file (at.Conf conf) s kind outcome parts dialer
+        sink) → IsTrue parts.tells → IsTrue P.Disk.tells
         → AreUnder parts.old conf devices → IsLogOf score P.Disk.Disk tables devices c h g base
         → WhereOpened (λ result. ReadsStore score P.Disk.Disk conf kind s result parts.new tables
         (record c { base = base }) g) ((back : PerDevice P.Disk) → AreUnder parts.new conf back
-        → LeavesStanding score P.Disk.Disk tables devices back) x.result }
+        → LeavesStanding score P.Disk.Disk tables devices back) (answer_at x.used) }
     ensures written { (score : List ℕ → List ℕ) (file : List ℕ) (conf : Conf) (now kind : ℕ)
-        (bytes : List ℕ) (text : Score → List ℕ) (outcome : CommandOutcome) (sink : StreamChange K)
-        (parts : PartsChange P P.Disk) (tables : List Table) (devices : PerDevice P.Disk)
-        (c : Setup) (h g : History) (base : ℕ)
-        (x : DoesStored score P.Disk.Disk file conf (WritesBlock score P.Disk.Disk now kind bytes)
-        text outcome sink parts) → IsTrue parts.tells → IsTrue P.Disk.tells
+        (bytes : List ℕ) (outcome : CommandOutcome) (sink : StreamChange K)
+        (parts : PartsChange P P.Disk) (dialer : DialerChange N N.Link) (tables : List Table)
+        (devices : PerDevice P.Disk) (c : Setup) (h g : History) (base : ℕ)
+        (x : GivesTo score P.Disk.Disk N.Link.Link file (at.Conf conf) now kind bytes outcome sink
+        parts dialer) → IsTrue parts.tells → IsTrue P.Disk.tells
         → AreUnder parts.old conf devices → IsLogOf score P.Disk.Disk tables devices c h g base
         → WhereOpened (λ result. WritesStore score P.Disk.Disk conf kind bytes result parts.new
         tables (record c { base = base }) g) ((back : PerDevice P.Disk)
         → AreUnder parts.new conf back → LeavesStanding score P.Disk.Disk tables devices back)
-        x.result }
+        (answer_at x.used) }
 {
     refused_stores_stand::<P::Disk>();
     stores_are_read::<P::Disk>();
@@ -195,7 +197,7 @@ pub fn blocks_are_answered<R: Source, K: Sink, F: Sink, I: Files, P: Parts, N: D
         (work : Work R K I P P.Disk N N.Link) (complaint : StreamChange F)
         (file score_word type_word : List ℕ)
         (did : Did P.Disk.Disk N.Link.Link score words status work complaint)
-        → Asks words (Do (Read file score_word type_word)) → NamesPlace file place.Conf
+        → Asks words (Do (Read file score_word type_word)) → NamesFile file
         → (it : IsWellHandedIn score P.Disk.Disk file work) → NoneFails P.Disk.Disk work
         → RefusesWord (SaysNoBlock score_word type_word) did.outcome (IsIdle work)
         ⊎ (did.outcome ≡ Err NoMemory)
@@ -205,7 +207,7 @@ pub fn blocks_are_answered<R: Source, K: Sink, F: Sink, I: Files, P: Parts, N: D
     ensures written { (score : List ℕ → List ℕ) (words : List (List ℕ)) (status : ℕ)
         (work : Work R K I P P.Disk N N.Link) (complaint : StreamChange F) (file type_word : List ℕ)
         (did : Did P.Disk.Disk N.Link.Link score words status work complaint)
-        → Asks words (Do (Write file type_word)) → NamesPlace file place.Conf
+        → Asks words (Do (Write file type_word)) → NamesFile file
         → (it : IsWellHandedIn score P.Disk.Disk file work) → NoneFails P.Disk.Disk work
         → RefusesWord (SaysNoType type_word) did.outcome (IsIdle work)
         ⊎ (did.outcome ≡ Err NoMemory)
@@ -217,7 +219,7 @@ pub fn blocks_are_answered<R: Source, K: Sink, F: Sink, I: Files, P: Parts, N: D
     refused_stores_stand::<P::Disk>();
     stores_are_read::<P::Disk>();
     stores_are_written::<P::Disk>();
-    failures_have_causes::<P::Disk>();
+    local_refusals_have_causes::<P::Disk>();
 }
 
 /// What a folder that is archived leaves of the store of a configuration, whatever calls failed,
@@ -225,12 +227,13 @@ pub fn blocks_are_answered<R: Source, K: Sink, F: Sink, I: Files, P: Parts, N: D
 /// stands for a prefix of one legal history: what a crash leaves stands for that, behind it for the
 /// first blocks of the folder's archive, and where a score is told for all of them. Where the store
 /// isn't opened, a crash loses nothing of it.
-pub fn archives_keep_the_store<P: Parts>()
-    ensures { (score : List ℕ → List ℕ) (name : List ℕ) (conf : Conf) (bsize : ℕ)
-        (result : Result StoredArchive ArchiveError) (folders : FoldersChange)
-        (parts : PartsChange P P.Disk) (tables : List Table) (devices : PerDevice P.Disk)
-        (c : Setup) (h g : History) (base : ℕ)
-        (x : StoresFolder score P.Disk.Disk name conf bsize result folders parts)
+pub fn archives_keep_the_store<P: Parts, N: Dialer>()
+    ensures { (score : List ℕ → List ℕ) (now : ℕ) (name : List ℕ) (conf : Conf) (bsize : ℕ)
+        (result : Result ArchivedAt ArchiveError) (folders : FoldersChange)
+        (parts : PartsChange P P.Disk) (dialer : DialerChange N N.Link) (tables : List Table)
+        (devices : PerDevice P.Disk) (c : Setup) (h g : History) (base : ℕ)
+        (x : StoresFolder score P.Disk.Disk N.Link.Link now name (at.Conf conf) bsize result folders
+        parts dialer)
         → IsTrue parts.tells → IsTrue P.Disk.tells → AreUnder parts.old conf devices
         → IsLogOf score P.Disk.Disk tables devices c h g base
         → WhereStored (KeepsStored score P.Disk.Disk conf bsize (IsSeen x.tells x.held) result

@@ -8,7 +8,7 @@ ghost use Rattle.run_base.specs.Said.{Said};
 ghost use Rattle.vt_commands.specs.Run.{Did, DoesWords, SaysAndDoes};
 ghost use Rattle.vt_commands.specs.Work.{work_of};
 
-use run_archives::{vac_at, vacfs};
+use run_archives::{vac, vacfs};
 use run_base::{CommandError, Outside, complain_of, print, status};
 use run_sessions::{read, session_at, write};
 use run_stores::{buildindex, checkarenas, fmtarenas, fmtbloom, fmtindex, fmtisect, rehearse};
@@ -328,7 +328,7 @@ fn do_command<
             size,
         } => {
             let now = host.clock.now();
-            vac_at(
+            vac(
                 alloc,
                 &mut host.files,
                 &mut host.folders,

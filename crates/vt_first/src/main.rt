@@ -6,7 +6,6 @@ ghost use Rattle.std.specs.Prelude.{◌≡◌, [], IsTrue};
 
 use std::alloc::Global;
 use std::process::ExitCode;
-use vt_alone::serve_store;
 use vt_base::Sha1Scorer;
 use vt_conf::{cached_blocks, entry_room};
 use vt_empty::{Shape, fresh_store};
@@ -15,6 +14,7 @@ use vt_host::{StdClock, StdSink, StdSource};
 use vt_out::Clock;
 use vt_session::Ended;
 use vt_shard::Sizes;
+use vt_use::serve_store;
 
 /// The shape of the store.
 const SHAPE: Shape = Shape {

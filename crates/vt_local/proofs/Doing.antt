@@ -1,5 +1,6 @@
 -- What a call of the store comes to as a call of a store of blocks.
 use Rattle.std.proofs.Common.{◌≡◌, ℕ, Some, Result, Ok, Err, List, refl, subst}
+use Rattle.std.specs.Option.{option_or}
 use Rattle.vt_base.specs.Kind.{IsKind}
 use Rattle.vt_base.specs.Protocol.{Operation, read, write, sync as sync_all, RMessage, r_read, r_write, r_sync}
 use Rattle.vt_base.specs.declared.TheConstants.{MAX_BLOCK}
@@ -42,7 +43,7 @@ module _ {S : Type 0} (T : StoreOf S) (l l' : LocalState S)
       → IsKind wire → IsToldAs why err → Replies (read s wire MAX_BLOCK) (Err why)
       → TellsCause {X = RMessage} (T.condition l.store) (T.condition l'.store) (Err why)
       → T.does l.store (read s wire MAX_BLOCK) (Err why) l'.store
-      → l'.counts ≡ with_refusal (Some err) l.counts → l'.refused ≡ Some why
+      → l'.counts ≡ with_refusal (Some err) l.counts → l'.refused ≡ option_or l.refused (Some why)
       → DoesLocal T l (get kind s (Err err)) l'
   not_got kind wire s why err is known told serves cause once counts refused =
       subst (λ (k : ℕ). DoesLocal T l (get k s (Err err)) l') is (record {
@@ -80,7 +81,7 @@ module _ {S : Type 0} (T : StoreOf S) (l l' : LocalState S)
       → IsKind wire → IsToldAs why err → Replies (write wire bytes) (Err why)
       → TellsCause {X = RMessage} (T.condition l.store) (T.condition l'.store) (Err why)
       → T.does l.store (write wire bytes) (Err why) l'.store
-      → l'.counts ≡ with_refusal (Some err) l.counts → l'.refused ≡ Some why
+      → l'.counts ≡ with_refusal (Some err) l.counts → l'.refused ≡ option_or l.refused (Some why)
       → DoesLocal T l (put (record { kind = kind; bytes = bytes }) (Err err)) l'
   not_taken kind wire bytes why err is known told serves cause once counts refused =
       subst (λ (k : ℕ). DoesLocal T l (put (record { kind = k; bytes = bytes }) (Err err)) l') is
@@ -114,7 +115,7 @@ module _ {S : Type 0} (T : StoreOf S) (l l' : LocalState S)
   pub not_synced : (why : Why) (err : BlockErr) → IsToldAs why err → Replies sync_all (Err why)
       → TellsCause {X = RMessage} (T.condition l.store) (T.condition l'.store) (Err why)
       → T.does l.store sync_all (Err why) l'.store
-      → l'.counts ≡ with_refusal (Some err) l.counts → l'.refused ≡ Some why
+      → l'.counts ≡ with_refusal (Some err) l.counts → l'.refused ≡ option_or l.refused (Some why)
       → DoesLocal T l (sync (Err err)) l'
   not_synced why err told serves cause once counts refused = record {
     reply = Err why;

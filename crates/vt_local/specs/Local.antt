@@ -1,5 +1,6 @@
 -- A store as a store of blocks: what it says of a call, and which maps it holds.
 use Rattle.std.specs.Prelude.{ℕ, ◌≡◌, ◌≤◌, ◌⊎◌, ⊤, IsTrue, Option, Some, Result, Ok, Err, List, take}
+use Rattle.std.specs.Option.{option_or}
 use Rattle.vt_base.specs.Kind.{IsKind}
 use Rattle.vt_base.specs.Protocol.{RMessage, r_read, r_write, r_sync, why_words}
 use Rattle.vt_base.specs.declared.why.Why.{Why}
@@ -15,7 +16,7 @@ use Rattle.vt_tree.specs.Calls.{Call, get, put, sync, asked_of, refusal_of, Coun
 use Rattle.vt_tree.specs.Maps.{Maps}
 
 -- the store; how many of its calls have failed, and how many were refused; and why the store said
--- no last
+-- no first
 pub record LocalState (T : Type 0) : Type 0 where
   pub store : T
   pub counts : Counts
@@ -64,10 +65,10 @@ HasKind (get kind s answer) = IsKind kind
 HasKind (put b answer) = IsKind b.kind
 HasKind (sync answer) = ⊤
 
--- why the store said no last, after a reply
+-- why the store said no first, after a reply
 abbrev pub refused_after : Result RMessage Why → Option Why → Option Why
 refused_after (Ok reply) before = before
-refused_after (Err why) before = Some why
+refused_after (Err why) before = option_or before (Some why)
 
 -- The store was asked this, once, and its reply was handed on.
 pub record DoesLocal {S : Type 0} (T : StoreOf S) (l : LocalState S) (call : Call)

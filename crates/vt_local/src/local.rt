@@ -19,7 +19,7 @@ pub struct Local<T: Store, S: Scorer> {
     faults: u64,
     /// How many were refused for another reason than want of memory.
     refusals: u64,
-    /// Why the store refused last.
+    /// Why the store said no first, want of memory and a disk's fault included.
     refused: Option<Why>,
     ghost scores: { (bytes : List ℕ) → S.score_of bytes ≡ T.score_of bytes },
 }
@@ -38,6 +38,7 @@ impl<T: Store, S: Scorer> Model for Local<T, S> {
 
 impl<T: Store, S: Scorer> Local<T, S> {
     ghost use Rattle.std.specs.Prelude.{◌≡◌, Some};
+    ghost use Rattle.std.specs.Option.{option_or};
     ghost use Rattle.vt_tree.specs.Calls.{with_refusal};
 
     /// This store, with the scorer by which it scores its blocks.
@@ -72,22 +73,23 @@ impl<T: Store, S: Scorer> Local<T, S> {
         (store, scorer)
     }
 
-    /// Why the store said no to the last call that it said no to; None where it never did.
+    /// Why the store said no to the first call that it said no to; None where it never did.
     pub fn refused(&self) -> Option<Why>
         ensures { result ≡ self.now.refused }
     {
         self.refused
     }
 
-    /// What a refusal of the store is to who sees a store of blocks, counted.
+    /// What a refusal of the store is to who sees a store of blocks, counted; why the first was is
+    /// kept.
     fn refuse(&mut self, alloc: Global, why: Why) -> BlockErr
         ensures err { IsToldAs why result }
         ensures left { self.new ≡ record self.old {
           counts = with_refusal (Some result) self.old.counts;
-          refused = Some why;
+          refused = option_or self.old.refused (Some why);
         } }
     {
-        self.refused = Some(why);
+        self.refused = self.refused.or(Some(why));
         let err = told(alloc, &why);
         match err {
             BlockErr::Fault => self.faults = self.faults.saturating_add(1),
@@ -150,7 +152,7 @@ impl<T: Store, S: Scorer> Blocks for Local<T, S> {
     ghost counting = { λ l l' call does. does.counts };
 
     /// Asks the store for the block, of as many bytes as one may have at most. A refusal is
-    /// counted, and why is kept.
+    /// counted, and why the first was is kept.
     fn get(&mut self, alloc: Global, kind: Kind, score: &Score) -> Result<Bytes, BlockErr> {
         match read(alloc, &mut self.store, score, kind.wire(), MAX_BLOCK as u32) {
             Ok(bytes) => Ok(bytes),
@@ -159,7 +161,7 @@ impl<T: Store, S: Scorer> Blocks for Local<T, S> {
     }
 
     /// Hands the block to the store, and gives the score that this answers. A refusal is counted,
-    /// and why is kept.
+    /// and why the first was is kept.
     fn put(&mut self, alloc: Global, kind: Kind, bytes: &[u8]) -> Result<Score, BlockErr> {
         match write(alloc, &mut self.store, kind.wire(), bytes) {
             Ok(score) => Ok(score),
@@ -167,7 +169,7 @@ impl<T: Store, S: Scorer> Blocks for Local<T, S> {
         }
     }
 
-    /// Asks the store for a sync. A refusal is counted, and why is kept.
+    /// Asks the store for a sync. A refusal is counted, and why the first was is kept.
     fn sync(&mut self, alloc: Global) -> Result<(), BlockErr> {
         match sync(alloc, &mut self.store) {
             Ok(()) => Ok(()),

@@ -2,18 +2,17 @@
 use Rattle.std.proofs.Common.{◌≡◌, ⊎_elim, inl, inr, ℕ, ◌+◌, ◌%◌, Bool, false, true, Result, Ok, Err, List, [], ◌∷◌, length, take, refl, sym, ◌∙◌, ap, subst, arith}
 use Rattle.std.specs.Prelude.{IsTrue, codes}
 use Rattle.std.proofs.lemmas.List.{take_all}
-use Rattle.vt_base.specs.Protocol.{TMessage, RMessage, t_ask, t_goodbye, t_hello, read, write, sync, r_hello, r_read, r_write, r_sync}
-use Rattle.vt_base.specs.declared.TheConstants.{MAX_BLOCK}
-use Rattle.vt_base.specs.declared.score.Score.{Score}
+use Rattle.vt_base.specs.Protocol.{TMessage, RMessage, t_goodbye, t_hello, r_hello}
 use Rattle.vt_client.specs.declared.error.ClientErr.{ClientErr}
 use Rattle.vt_client.specs.declared.error.LinkError.{LinkError}
-use Rattle.vt_client.specs.Clients.{AsksRequest, ClientState, SaysGoodbye, wanted_block, committing, next_tag, spent_by, taking_in}
+use Rattle.vt_client.specs.Clients.{AsksRequest, ClientState, SaysGoodbye, next_tag}
 use Rattle.vt_client.specs.Exchanges.{AnswersCall, Exchanges, MovesBytes, Traffic, Wanted, traffic_of}
 use Rattle.vt_client.specs.Greetings.{ExchangesLines, Greets, welcome}
 use Rattle.vt_wire.specs.Messages.{asked}
 use Rattle.vt_remote.specs.Exchanged.{Exchanged, ExchangesEach}
 use Rattle.vt_remote.specs.Members.{LinkOf}
-use Rattle.vt_remote.specs.Remote.{AsksForBlock, Meets, PutsAndSyncs, TalksToServer, link_in}
+use Rattle.vt_remote.specs.Remote.{TalksFor, link_in}
+use Rattle.vt_tree.specs.Calls.{Call}
 
 module _ {L : Type 0} (link : LinkOf L) (score_of : List ℕ → List ℕ) (told : IsTrue link.tells) where
   exchanged_by : {T : Type 0} (w : Wanted T) (tag : ℕ) (before after : Traffic) (value : T)
@@ -63,75 +62,30 @@ module _ {L : Type 0} (link : LinkOf L) (score_of : List ℕ → List ℕ) (told
   greeted before after (inr (between, begins, answers)) =
       (between, begins, exchanged_by welcome 0 between after tt answers)
 
-  module _ {Does : (c c' : ClientState L) → Type 0} (back : L) (x : TalksToServer link score_of Does back)
-      (calls : List (TMessage × RMessage)) where
-    pub all_of : ExchangesEach 1 calls (traffic_of link x.met.link) (traffic_of link x.last.link)
-        → x.last.spent ≡ false → x.last.tag ≡ (1 + length calls) % 256
+  module _ (all : List Call) (met last : ClientState L) (back : L)
+      (x : TalksFor link score_of all met last back) (calls : List (TMessage × RMessage)) where
+    pub all_of : ExchangesEach 1 calls (traffic_of link met.link) (traffic_of link last.link)
+        → last.spent ≡ false → last.tag ≡ (1 + length calls) % 256
         → Exchanged calls (traffic_of link back)
     all_of each unspent tag =
-        let met = greeted (traffic_of link x.meets.made) (traffic_of link x.met.link)
+        let hello = greeted (traffic_of link x.meets.made) (traffic_of link met.link)
         (x.meets.greets told) in
-        let goodbye = parts x.last x.parted unspent x.says in
+        let goodbye = parts last x.parted unspent x.says in
         record {
           before = traffic_of link x.meets.made;
           unsent = x.meets.fresh.written told;
           untaken = x.meets.fresh.given told;
-          between = met.0;
-          begins = met.1;
-          greeted = traffic_of link x.met.link;
-          hello = met.2;
-          last = traffic_of link x.last.link;
+          between = hello.0;
+          begins = hello.1;
+          greeted = traffic_of link met.link;
+          hello = hello.2;
+          last = traffic_of link last.link;
           each = each;
           goodbye = (
             goodbye.0,
-            subst (λ (t : ℕ). MovesBytes (traffic_of link x.last.link) (traffic_of link back)
+            subst (λ (t : ℕ). MovesBytes (traffic_of link last.link) (traffic_of link back)
                 (take goodbye.0 (asked t t_goodbye)) []) tag
-                (subst (λ (l : L). MovesBytes (traffic_of link x.last.link) (traffic_of link l)
-                (take goodbye.0 (asked x.last.tag t_goodbye)) []) (sym x.back_is) goodbye.1),
+                (subst (λ (l : L). MovesBytes (traffic_of link last.link) (traffic_of link l)
+                (take goodbye.0 (asked last.tag t_goodbye)) []) (sym x.back_is) goodbye.1),
           );
         }
-
-    pub fresh_spent : x.met.spent ≡ false
-    fresh_spent = ap (λ (s : ClientState L). s.spent) x.meets.client
-
-    pub fresh_tag : x.met.tag ≡ 1
-    fresh_tag = ap (λ (s : ClientState L). s.tag) x.meets.client
-
-  pub block_read : (kind : ℕ) (s bytes : List ℕ) (back : L)
-      → TalksToServer link score_of (AsksForBlock link score_of kind s (Ok bytes)) back
-      → Exchanged ((t_ask (read s kind MAX_BLOCK), r_read bytes) ∷ []) (traffic_of link back)
-  block_read kind s bytes back x =
-      let did = step (wanted_block s kind) x.met x.last bytes (fresh_spent back x []) x.does in
-      all_of back x ((t_ask (read s kind MAX_BLOCK), r_read bytes) ∷ []) (
-        traffic_of link x.last.link,
-        subst (λ (t : ℕ). Exchanges (traffic_of link x.met.link)
-            (traffic_of link x.last.link) t (t_ask (read s kind MAX_BLOCK)) (r_read bytes))
-            (fresh_tag back x []) did.exchanged,
-        refl,
-      )
-      did.unspent (did.tag ∙ ap next_tag (fresh_tag back x []))
-
-  pub block_written : (kind : ℕ) (bytes : List ℕ) (given : Score) (back : L)
-      → TalksToServer link score_of (PutsAndSyncs link score_of kind bytes (Ok given)) back
-      → Exchanged ((t_ask (write kind bytes), r_write given.0) ∷ (t_ask sync, r_sync) ∷ [])
-      (traffic_of link back)
-  block_written kind bytes given back x =
-      let mid = x.does.0 in
-      let put = step (taking_in score_of kind bytes) x.met mid given (fresh_spent back x [])
-      x.does.1 in
-      let committed = step committing mid x.last tt put.unspent x.does.2 in
-      let second : mid.tag ≡ 2 =
-      put.tag ∙ ap next_tag (fresh_tag back x []) in
-      all_of back x ((t_ask (write kind bytes), r_write given.0) ∷ (t_ask sync, r_sync) ∷ []) (
-        traffic_of link mid.link,
-        subst (λ (t : ℕ). Exchanges (traffic_of link x.met.link)
-            (traffic_of link mid.link) t (t_ask (write kind bytes)) (r_write given.0))
-            (fresh_tag back x []) put.exchanged,
-        (
-          traffic_of link x.last.link,
-          subst (λ (t : ℕ). Exchanges (traffic_of link mid.link)
-              (traffic_of link x.last.link) t (t_ask sync) r_sync) second committed.exchanged,
-          refl,
-        ),
-      )
-      committed.unspent (committed.tag ∙ ap next_tag second)

@@ -1,3 +1,3 @@
-pub mod Asking
+pub mod Calling
 pub mod Exchanging
 pub mod Refusing

@@ -1,10 +1,12 @@
--- All that went over the link to a server of which a block was read, or to which one was written
--- (venti(6)).
-use Rattle.std.specs.Prelude.{ℕ, ◌≡◌, ◌+◌, ◌%◌, List, [], ◌∷◌, length, take, codes}
-use Rattle.vt_base.specs.Protocol.{TMessage, RMessage, r_hello, t_goodbye, t_hello}
+-- All that went over the link to a server, whose client was called as a store of blocks (venti(6)).
+use Rattle.std.specs.Prelude.{ℕ, ◌≡◌, ◌+◌, ◌%◌, Ok, Err, List, [], ◌∷◌, length, take, codes}
+use Rattle.vt_base.specs.Protocol.{TMessage, RMessage, read, sync as sync_all, r_error, r_hello, r_read, r_sync, r_write, t_ask, t_goodbye, t_hello}
+use Rattle.vt_base.specs.declared.TheConstants.{MAX_BLOCK}
 use Rattle.vt_client.specs.Clients.{next_tag}
 use Rattle.vt_client.specs.Exchanges.{Traffic, Exchanges, MovesBytes}
 use Rattle.vt_client.specs.Greetings.{ExchangesLines}
+use Rattle.vt_client.specs.Stores.{sent_after}
+use Rattle.vt_tree.specs.Calls.{Call, get, put, sync, write_of_block}
 use Rattle.vt_wire.specs.Messages.{asked}
 
 -- each request went out, under one tag behind another, and its reply came in before the next one
@@ -29,3 +31,15 @@ pub record Exchanged (calls : List (TMessage × RMessage)) (back : Traffic) : Ty
   pub each : ExchangesEach 1 calls greeted last
   pub goodbye : (n : ℕ)
       × MovesBytes last back (take n (asked ((1 + length calls) % 256) t_goodbye)) []
+
+-- the request of a call that was answered, and its reply: a block that is taken in has its own score
+abbrev pub exchange_of : (score_of : List ℕ → List ℕ) → Call → TMessage × RMessage
+exchange_of score_of (get kind s (Ok bytes)) = (t_ask (read s kind MAX_BLOCK), r_read bytes)
+exchange_of score_of (get kind s (Err err)) = (t_ask (read s kind MAX_BLOCK), r_error [])
+exchange_of score_of (put b answer) = (t_ask (write_of_block b), r_write (score_of b.bytes))
+exchange_of score_of (sync answer) = (t_ask sync_all, r_sync)
+
+-- how many blocks a server took in, which had taken in so many before these calls
+abbrev pub sent_behind : List Call → ℕ → ℕ
+sent_behind [] n = n
+sent_behind (call ∷ calls) n = sent_behind calls (sent_after call n)

@@ -1,43 +1,36 @@
 //! What went over the link to a server, and why it didn't answer.
 
-ghost use Rattle.std.specs.Prelude.{◌≡◌, ℕ, IsTrue, List, [], ◌∷◌, Ok, Err};
-ghost use Rattle.vt_base.specs.Protocol.{read, write, sync, t_ask, r_read, r_write, r_sync};
-ghost use Rattle.vt_base.specs.declared.TheConstants.{MAX_BLOCK};
-ghost use Rattle.vt_base.specs.declared.score.Score.{Score};
+ghost use Rattle.std.specs.Prelude.{◌≡◌, ℕ, IsTrue, List, [], map};
 ghost use Rattle.vt_client.specs.declared.error.ClientErr.{ClientErr};
+ghost use Rattle.vt_client.specs.Clients.{ClientState};
 ghost use Rattle.vt_client.specs.Exchanges.{traffic_of};
-ghost use Rattle.vt_remote.specs.Exchanged.{Exchanged};
-ghost use Rattle.vt_remote.specs.Refused.{HasCauseOver};
-ghost use Rattle.vt_remote.specs.Remote.{AsksForBlock, MeetsInVain, PutsAndSyncs, TalksToServer};
+ghost use Rattle.vt_remote.specs.Exchanged.{Exchanged, exchange_of, sent_behind};
+ghost use Rattle.vt_remote.specs.Refused.{HasCauseOver, IsFirstRefusal};
+ghost use Rattle.vt_remote.specs.Remote.{MeetsInVain, TalksFor};
+ghost use Rattle.vt_tree.specs.Calls.{Call, refusals_of};
 
 use vt_out::Link;
 
-/// Where a block was read, or written, over a link that tells its bytes, the one request for it went
-/// out, and behind that of a write the one to commit; each had its reply; and nothing else was asked.
-pub fn answered_blocks_are_exchanged<L: Link>()
-    ensures read { (score_of : List ℕ → List ℕ) (kind : ℕ) (s bytes : List ℕ) (back : L)
-        → IsTrue L.tells
-        → TalksToServer L.Link score_of (AsksForBlock L.Link score_of kind s (Ok bytes)) back
-        → Exchanged ((t_ask (read s kind MAX_BLOCK), r_read bytes) ∷ [])
-        (traffic_of L.Link back) }
-    ensures written { (score_of : List ℕ → List ℕ) (kind : ℕ) (bytes : List ℕ) (given : Score)
-        (back : L) → IsTrue L.tells
-        → TalksToServer L.Link score_of (PutsAndSyncs L.Link score_of kind bytes (Ok given)) back
-        → Exchanged ((t_ask (write kind bytes), r_write given.0) ∷ (t_ask sync, r_sync) ∷ [])
-        (traffic_of L.Link back) }
+/// Where all calls of a server's client were answered, over a link that tells its bytes, the request of
+/// each went out, and each had its reply before the next one; and nothing else was asked. The client
+/// tells how many blocks the server took in.
+pub fn calls_are_exchanged<L: Link>()
+    ensures all { (score_of : List ℕ → List ℕ) (calls : List Call) (met last : ClientState L)
+        (back : L) → IsTrue L.tells → TalksFor L.Link score_of calls met last back
+        → refusals_of calls ≡ []
+        → Exchanged (map (exchange_of score_of) calls) (traffic_of L.Link back) }
+    ensures sent { (score_of : List ℕ → List ℕ) (calls : List Call) (met last : ClientState L)
+        (back : L) → TalksFor L.Link score_of calls met last back
+        → last.sent ≡ sent_behind calls 0 }
 {}
 
 /// A refusal has its cause, over any link: a failed call is told only where the link that came back
-/// counts one, and of scores only two that differ.
+/// counts one, and of scores only two that differ. What a client tells that it was refused for first is
+/// what the first refusal was told of.
 pub fn refusals_have_causes<L: Link>()
     ensures met { (score_of : List ℕ → List ℕ) (why : ClientErr) (back : L)
         → MeetsInVain L.Link score_of why back → HasCauseOver L.Link why back }
-    ensures read { (score_of : List ℕ → List ℕ) (kind : ℕ) (s : List ℕ) (why : ClientErr)
-        (back : L) → TalksToServer L.Link score_of (AsksForBlock L.Link score_of kind s (Err why))
-        back
-        → HasCauseOver L.Link why back }
-    ensures written { (score_of : List ℕ → List ℕ) (kind : ℕ) (bytes : List ℕ)
-        (why : ClientErr) (back : L)
-        → TalksToServer L.Link score_of (PutsAndSyncs L.Link score_of kind bytes (Err why)) back
-        → HasCauseOver L.Link why back }
+    ensures first { (score_of : List ℕ → List ℕ) (calls : List Call) (met last : ClientState L)
+        (back : L) → TalksFor L.Link score_of calls met last back
+        → IsFirstRefusal L.Link last.refused calls back }
 {}

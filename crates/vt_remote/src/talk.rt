@@ -4,13 +4,21 @@ ghost use Rattle.std.specs.Prelude.{◌≡◌, IsTrue, MatchResult};
 ghost use Rattle.vt_dial.specs.Dialled.{with_link};
 ghost use Rattle.vt_remote.specs.Remote.{MeetsNoServer, Meets, PartsFromServer, link_in};
 
-use crate::remote::RemoteError;
 use std::alloc::Global;
 use vt_base::Scorer;
-use vt_client::{Client, LinkError};
+use vt_client::{Client, ClientErr, LinkError};
 use vt_conf::Address;
 use vt_dial::Dialer;
 use vt_out::Link;
+
+/// Why a server at an address wasn't reached, or didn't answer.
+#[derive(Debug, Drop)]
+pub enum RemoteError {
+    /// No link to the address is made.
+    Undialled,
+    /// The server said no, or something other than what was asked; or the link failed.
+    Refused(ClientErr),
+}
 
 /// Makes a link to the server at an address, and greets it. Where that fails the link is taken back.
 pub fn meet<D: Dialer, S: Scorer + Drop>(

@@ -16,7 +16,7 @@ use vt_out::Silent;
 use vt_partitions::Parts;
 use vt_rebuild::RebuildBad;
 use vt_rows::{RowError, Rows};
-use vt_single::{read_stored, write_stored};
+use vt_use::{ReadBlock, WriteBlock, answer_at, use_conf};
 
 /// Partitions that a test makes. What is done to them is proved for any such, which is much less
 /// work than for those in memory, and runs on those.
@@ -125,8 +125,10 @@ impl<P: TestParts> Made<P> {
             return false;
         };
         let (alloc, parts) = (self.alloc, &mut self.parts);
+        let kind = Kind::DATA;
+        let job = WriteBlock { kind, bytes: block };
         block.len() <= MAX_BLOCK
-            && write_stored(alloc, parts, &conf, &Sha1Scorer, 0, Kind::DATA, block).is_ok()
+            && answer_at(use_conf(alloc, parts, &conf, &Sha1Scorer, 0, job, &mut ())).is_ok()
     }
 
     /// Whether the block is there.
@@ -137,7 +139,9 @@ impl<P: TestParts> Made<P> {
         };
         let score = Sha1Scorer.score(block);
         let (alloc, parts) = (self.alloc, &mut self.parts);
-        match read_stored(alloc, parts, &conf, &Sha1Scorer, Kind::DATA, &score) {
+        let kind = Kind::DATA;
+        let job = ReadBlock { kind, score };
+        match answer_at(use_conf(alloc, parts, &conf, &Sha1Scorer, 0, job, &mut ())) {
             Ok(bytes) => bytes.as_slice() == block,
             Err(_) => false,
         }

@@ -1,5 +1,5 @@
 -- What operations give and leave, where the store's devices are sound.
-use Rattle.std.proofs.Common.{◌≡◌, ◌⊎◌, ⊎_elim, inl, inr, ℕ, ◌*◌, ◌≤◌, List, [], ◌∷◌, Bool, true, false, cond, Option, Some, None, Result, Ok, Err, IsTrue, length, refl, sym, ◌∙◌, ap, subst, arith}
+use Rattle.std.proofs.Common.{◌≡◌, ⊎_elim, inl, inr, ℕ, ◌*◌, ◌≤◌, List, [], ◌∷◌, Bool, true, false, cond, Option, Some, None, Result, Ok, IsTrue, length, refl, sym, ◌∙◌, ap, subst, arith}
 use Rattle.std.specs.List.{AllByRecursion}
 use Rattle.std.specs.Prelude.{min, nat_lt, not}
 use Rattle.vt_base.specs.Kind.{is_kind}
@@ -17,7 +17,7 @@ use Rattle.vt_model.specs.Places.{Setup}
 use Rattle.vt_recover.proofs.Held.{held_twice, hold_still}
 use Rattle.vt_handler.specs.Serving.{asked_of_store, reply_in, tells_failure}
 use Rattle.vt_handler.specs.Taking.{DoesCalls, DoesOne}
-use Rattle.vt_core.specs.Causes.{READS_MOST, IsUndamagedSaid, IsUndamagedWhy, OnlyReadFrom}
+use Rattle.vt_core.specs.Causes.{READS_MOST, IsUndamagedSaid, OnlyReadFrom}
 use Rattle.vt_core.specs.Core.{CoreState, devices_of, machine_of, setup_of}
 use Rattle.vt_core.specs.Files.{all_of}
 use Rattle.vt_core.specs.Machine.{Machine}

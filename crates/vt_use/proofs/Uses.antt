@@ -1,5 +1,5 @@
 -- What a store is asked, and the end of its use behind that.
-use Rattle.std.proofs.Common.{◌≡◌, ℕ, ◌≤◌, ◌<◌, Bool, true, false, IsTrue, Option, Some, None, Result, Ok, Err, List, [], length, refl, sym, ap, subst, ◌∙◌}
+use Rattle.std.proofs.Common.{◌≡◌, ℕ, ◌<◌, Bool, true, false, IsTrue, None, Result, Ok, List, [], length, refl, sym, subst, ◌∙◌}
 use Rattle.std.specs.List.{All, AllByRecursion}
 use Rattle.std.specs.Prelude.{◌-◌, ◌^◌, IfErr, IfSome}
 use Rattle.vt_base.specs.declared.why.Why.{Why}

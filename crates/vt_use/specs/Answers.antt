@@ -1,5 +1,5 @@
 -- What a store that holds a history answers to operations, one after another.
-use Rattle.std.specs.Prelude.{ℕ, ◌≡◌, ◌≤◌, ◌⊎◌, Bool, true, List, [], ◌∷◌, Result, Ok, Err, IfErr, length}
+use Rattle.std.specs.Prelude.{ℕ, ◌≡◌, ◌≤◌, ◌⊎◌, true, List, [], ◌∷◌, Result, Ok, Err, IfErr, length}
 use Rattle.vt_base.specs.Protocol.{Operation, RMessage, sync, r_sync}
 use Rattle.vt_base.specs.declared.why.Why.{Why}
 use Rattle.vt_base.specs.declared.why.Why.TheVariants as whys

@@ -1,6 +1,14 @@
 pub mod Answers
+pub mod Blocks
 pub mod Causes
+pub mod Change
 pub mod LocalJobs
+pub mod Members
 pub mod OneBlock
+pub mod PlaceAnswers
+pub mod PlaceCalls
+pub mod Places
+pub mod Sessions
+pub mod StoredBlocks
 pub mod Stores
 pub mod Uses

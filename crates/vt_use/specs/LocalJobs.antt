@@ -21,7 +21,7 @@ exchanges_of T [] old new made = []
 exchanges_of T (call ∷ calls) old new made =
     (asked_of call, made.1.reply) ∷ exchanges_of T calls made.0 new made.2
 
--- This was done with the store, as a store of blocks; and it is told why it said no last.
+-- This was done with the store, as a store of blocks; and it is told why it said no first.
 pub record DoesOnStore {S : Type 0} (T : StoreOf S)
     (Does : List Call → (old new : LocalState S) → Type 0) (refused : Option Why)
     (exchanges : List Exchange) (old new : S) : Type 0 where

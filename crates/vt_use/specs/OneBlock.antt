@@ -35,9 +35,9 @@ WritesOne score_of b output calls =
 
 -- ---- of a store of this process
 
--- The store's own answer, where it said no last for this reason, if it did.
-abbrev pub own_answer : {T : Type 0} → Result T BlockErr → (last_refusal : Option Why) → Result T Why
-own_answer (Ok value) last_refusal = Ok value
+-- The store's own answer, where it said no first for this reason, if it did.
+abbrev pub own_answer : {T : Type 0} → Result T BlockErr → (first_refusal : Option Why) → Result T Why
+own_answer (Ok value) first_refusal = Ok value
 own_answer (Err err) (Some why) = Err why
 own_answer (Err err) None = Err NoMemory
 

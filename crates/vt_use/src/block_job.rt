@@ -45,7 +45,7 @@ pub trait BlockJob<X> {
 }
 
 /// Such a job, done with a store of this process, of which this is the scorer. Beside what comes of
-/// it it is told why the store said no to the last operation that it said no to, if it did.
+/// it it is told why the store said no to the first operation that it said no to, if it did.
 #[derive(Drop)]
 pub struct LocalJob<'a, J, S> {
     pub job: J,
@@ -73,7 +73,7 @@ impl<'a, X, J: BlockJob<X>, S: Scorer> Job<X> for LocalJob<'a, J, S> {
     }
 
     /// Does the job with the store as a store of blocks, and tells beside its output why the store
-    /// said no last, if it did.
+    /// said no first, if it did.
     fn run<T: Store>(
         &self,
         alloc: Global,
@@ -82,8 +82,8 @@ impl<'a, X, J: BlockJob<X>, S: Scorer> Job<X> for LocalJob<'a, J, S> {
     ) -> ((J::Output, Option<Why>), T) {
         let mut blocks = Local::new(store, self.scorer);
         let output = self.job.run(alloc, &mut blocks, beside);
-        let last_refusal = blocks.refused();
+        let first_refusal = blocks.refused();
         let (store, _) = blocks.into_parts();
-        ((output, last_refusal), store)
+        ((output, first_refusal), store)
     }
 }

@@ -91,11 +91,11 @@ impl<'a> BlockJob<()> for WriteBlock<'a> {
     }
 }
 
-/// What a store of this process answered itself, where it said no last for this reason, if it did.
-pub fn own_answer<T>(output: Result<T, BlockErr>, last_refusal: Option<Why>) -> Result<T, Why>
-    ensures { result ≡ own_answer output last_refusal }
+/// What a store of this process answered itself, where it said no first for this reason, if it did.
+pub fn own_answer<T>(output: Result<T, BlockErr>, first_refusal: Option<Why>) -> Result<T, Why>
+    ensures { result ≡ own_answer output first_refusal }
 {
-    match (output, last_refusal) {
+    match (output, first_refusal) {
         (Ok(value), _) => Ok(value),
         (Err(_), Some(why)) => Err(why),
         (Err(_), None) => Err(Why::NoMemory),

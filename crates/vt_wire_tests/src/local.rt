@@ -98,7 +98,7 @@ enum Act {
     Refused(Option<Why>),
 }
 
-const ACTS: [Act; 8] = [
+const ACTS: [Act; 9] = [
     Act::Puts(Kind::DATA, Ok(SCORE)),
     Act::Gets(SCORE, Ok(b"abc")),
     Act::Syncs(Ok(())),
@@ -113,6 +113,7 @@ const ACTS: [Act; 8] = [
         }),
     ),
     Act::Gets(Score([7; 20]), Err(Told::Says(b"no such block"))),
+    Act::Refused(Some(Why::Collision)),
 ];
 
 fn does<T: Store, S: Scorer>(alloc: Global, blocks: &mut Local<T, S>, act: &Act) -> bool {

@@ -8,8 +8,9 @@ use vt_client::ClientErr;
 use vt_conf::{Address, VENTI_PORT};
 use vt_dial::{Dialer, MemDialer};
 use vt_out::{MemLink, MemSink, MemSource};
-use vt_remote::{RemoteError, read_remote, write_remote};
+use vt_remote::RemoteError;
 use vt_rows::Rows;
+use vt_use::{ReadBlock, StoreError, WriteBlock, answer_at, use_server};
 
 const ABC: Score = Score(
     *b"\xa9\x99\x3e\x36\x47\x06\x81\x6a\xba\x3e\x25\x71\x78\x50\xc2\x6c\x9c\xd0\xd8\x9d",
@@ -56,17 +57,20 @@ fn heard(dialer: MemDialer, requests: &[u8]) -> bool {
 
 /// What comes of reading the block `abc`. It is generic, so that no clause is looked at with the
 /// server in memory.
-fn read<D: Dialer>(alloc: Global, dialer: &mut D, address: &Address) -> Result<Bytes, RemoteError> {
-    read_remote(alloc, dialer, address, Sha1Scorer, Kind::DATA, &ABC)
+fn read<D: Dialer>(alloc: Global, dialer: &mut D, address: &Address) -> Result<Bytes, StoreError> {
+    let kind = Kind::DATA;
+    let job = ReadBlock { kind, score: ABC };
+    answer_at(use_server(alloc, dialer, address, &Sha1Scorer, job, &mut ()))
 }
 
 /// What comes of writing it.
-fn write<D: Dialer>(
-    alloc: Global,
-    dialer: &mut D,
-    address: &Address,
-) -> Result<Score, RemoteError> {
-    write_remote(alloc, dialer, address, Sha1Scorer, Kind::DATA, b"abc")
+fn write<D: Dialer>(alloc: Global, dialer: &mut D, address: &Address) -> Result<Score, StoreError> {
+    let kind = Kind::DATA;
+    let job = WriteBlock {
+        kind,
+        bytes: b"abc",
+    };
+    answer_at(use_server(alloc, dialer, address, &Sha1Scorer, job, &mut ()))
 }
 
 #[test]
@@ -116,10 +120,10 @@ fn a_block_comes_back(rt: HostRuntime) -> Result<(), Fail> {
 }
 
 /// Why nothing was read, in a letter.
-fn letter(bad: &RemoteError) -> char {
+fn letter(bad: &StoreError) -> char {
     match bad {
-        RemoteError::Undialled => 'u',
-        RemoteError::Refused(why) => match why {
+        StoreError::Server(RemoteError::Undialled) => 'u',
+        StoreError::Server(RemoteError::Refused(why)) => match why {
             ClientErr::Remote(_) => 'r',
             ClientErr::Cut => 'c',
             ClientErr::BadReply(_) => 'b',
@@ -127,11 +131,12 @@ fn letter(bad: &RemoteError) -> char {
             ClientErr::WrongScore { .. } => 'w',
             _ => '?',
         },
+        StoreError::Unopened(_) | StoreError::Refused(_) => '?',
     }
 }
 
 /// What came of it, in a letter.
-fn outcome<T: Drop>(answer: Result<T, RemoteError>) -> char {
+fn outcome<T: Drop>(answer: Result<T, StoreError>) -> char {
     match &answer {
         Ok(_) => 'o',
         Err(bad) => letter(bad),

@@ -3,7 +3,7 @@
 use crate::tables::each;
 use std::alloc::Global;
 use std::test::Fail;
-use vac_remote::{SendError, SentArchive, archive_remote};
+use vac_store::{ArchiveError, ArchiveFolder, ArchivedAt, archived_at};
 use vac_write::{VacErr, archive};
 use vt_base::{Key, Kind, Score, Sha1Scorer, Text, parse_score};
 use vt_client::ClientErr;
@@ -13,6 +13,7 @@ use vt_out::{Facts, Folder, MemContent, MemFolder, MemItem, MemLink, MemSink, Me
 use vt_remote::RemoteError;
 use vt_rows::Rows;
 use vt_tree::{Blocks, MemBlocks};
+use vt_use::{StoreError, use_server};
 
 const WELCOME: &[u8] = b"venti-02-rattle\n\x00\x0f\x05\x00\x00\x09anonymous\x00\x00";
 
@@ -200,9 +201,10 @@ fn sent<D: Dialer, F: Folder>(
     there: &Address,
     folder: &mut F,
     bsize: u16,
-) -> Result<SentArchive, SendError> {
+) -> Result<ArchivedAt, ArchiveError> {
     let bsize = bsize.clamp(512, 53_248);
-    archive_remote(alloc, dialer, there, Sha1Scorer, folder, bsize)
+    let job = ArchiveFolder { bsize };
+    archived_at(use_server(alloc, dialer, there, &Sha1Scorer, job, folder))
 }
 
 /// Whether just this went to the server.
@@ -215,7 +217,7 @@ fn heard(dialer: MemDialer, requests: &[u8]) -> bool {
 
 /// Whether an archive with this score was sent, in so many blocks, and this alone was skipped.
 fn is_sent(
-    answer: &Result<SentArchive, SendError>,
+    answer: &Result<ArchivedAt, ArchiveError>,
     score: Score,
     blocks: u64,
     skipped: Option<&[u8]>,
@@ -224,7 +226,7 @@ fn is_sent(
     match answer {
         Ok(archive) => {
             rows.is("the score that is told", archive.archived.score == score);
-            rows.is("how many blocks were sent", archive.sent == blocks);
+            rows.is("how many blocks were sent", archive.blocks == blocks);
             let is_skipped = match (archive.archived.skipped.as_slice(), skipped) {
                 ([], None) => true,
                 ([path], Some(wanted)) => path.as_slice() == wanted,
@@ -275,17 +277,17 @@ fn a_large_archive_is_sent(rt: HostRuntime) -> Result<(), Fail> {
 }
 
 /// What came of it, in a letter.
-fn letter(answer: &Result<SentArchive, SendError>) -> char {
+fn letter(answer: &Result<ArchivedAt, ArchiveError>) -> char {
     let bad = match answer {
         Ok(_) => return 'o',
         Err(bad) => bad,
     };
     match bad {
-        SendError::Folder(VacErr::FolderFault) => 'f',
-        SendError::Folder(VacErr::BadName(_)) => 'n',
-        SendError::Folder(_) => '?',
-        SendError::Server(RemoteError::Undialled) => 'u',
-        SendError::Server(RemoteError::Refused(why)) => match why {
+        ArchiveError::Folder(VacErr::FolderFault) => 'f',
+        ArchiveError::Folder(VacErr::BadName(_)) => 'n',
+        ArchiveError::Folder(_) => '?',
+        ArchiveError::Store(StoreError::Server(RemoteError::Undialled)) => 'u',
+        ArchiveError::Store(StoreError::Server(RemoteError::Refused(why))) => match why {
             ClientErr::Remote(_) => 'e',
             ClientErr::ReadFault => 'r',
             ClientErr::WriteFault => 'w',
@@ -295,6 +297,7 @@ fn letter(answer: &Result<SentArchive, SendError>) -> char {
             ClientErr::WrongScore { .. } => 's',
             _ => '?',
         },
+        ArchiveError::Store(_) => '?',
     }
 }
 

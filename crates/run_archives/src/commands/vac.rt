@@ -1,19 +1,17 @@
-//! The command `vac CONF FOLDER`, with `-b BSIZE`: archives a folder into the store of a
-//! configuration.
-// Tests: crates/run_tests_archives/src/vac.rt.
+//! The command `vac STORE FOLDER`, with `-b BSIZE`: archives a folder into the store of a configuration, or
+//! at a server.
 
-ghost use Rattle.std.specs.Prelude.{◌≡◌, ◌≤◌, ◌<◌, ◌+◌, ◌^◌, ℕ, List, length, IsTrue, Ok};
-ghost use Rattle.std.specs.Prelude.{IfErr, IfOk};
+ghost use Rattle.std.specs.Prelude.{◌≡◌, ◌≤◌, ℕ, List, IsTrue, Ok, IfErr, IfOk};
 ghost use Rattle.vt_base.specs.Faults.{CountsFault};
+ghost use Rattle.vt_use.specs.Places.{CanBeOpened};
 ghost use Rattle.vac_model.specs.declared.TheConstants.{MIN_BLOCK_SIZE, MAX_BLOCK_SIZE};
-ghost use Rattle.vac_store.specs.Stored.{ArchivesStored};
-ghost use Rattle.vac_store.specs.Storing.{is_folder_fault};
+ghost use Rattle.vac_store.specs.Storing.{tells_folder_fault};
 ghost use Rattle.vac_write.specs.Archiving.{IsSeen};
-ghost use Rattle.run_base.specs.Change.{files_change, folders_change, parts_change, sink_change};
-ghost use Rattle.run_archives.specs.Vac.{Archives, ArchivesNone, AsksForNoSize, AsksForSize, DoesVac};
+ghost use Rattle.run_base.specs.Change.{dialer_change, files_change, folders_change, parts_change, sink_change};
+ghost use Rattle.run_archives.specs.Vac.{Archives, ArchivesAt, ArchivesNone, AsksForNoSize, AsksForSize, DoesVac};
 ghost use Rattle.run_archives.specs.Vac.{IsArchiveRefusal, StoresFolder, StoresNone};
 ghost use Rattle.run_archives.specs.Vac.{archive_line, unfit_for};
-ghost use Rattle.run_base.specs.Errors.{HasCauseIn, no_cause, with_files, with_folders, with_parts, with_sink};
+ghost use Rattle.run_base.specs.Errors.{HasCauseIn, no_cause, with_dialer, with_files, with_folders, with_parts, with_sink};
 ghost use Rattle.run_base.specs.Formatting.{Prints};
 ghost use Rattle.run_base.specs.Said.{Said};
 ghost use Rattle.run_archives.specs.Skipped.{skipped_lines};
@@ -21,51 +19,58 @@ ghost use Rattle.run_archives.specs.Watched.{watched_folder};
 
 use crate::skipped::tell_skipped;
 use crate::watched::Watched;
-use run_base::{CommandError, hexadecimal, print, read_conf, refusal_for, told as told_unopened};
+use run_base::{CommandError, hexadecimal, print, store_at, told_at};
 use std::alloc::Global;
 use vac_model::{MAX_BLOCK_SIZE, MIN_BLOCK_SIZE};
-use vac_store::{ArchiveError, StoredArchive, archive_stored, failures_have_causes};
+use vac_store::{ArchiveError, ArchiveFolder, ArchivedAt, archived_at};
 use vac_write::{Archived, VacErr};
 use vt_base::{Failed, Score, Scorer, Text};
-use vt_conf::{Conf, parse_number};
-use vt_open::configurations_can_be_opened;
+use vt_conf::parse_number;
+use vt_dial::Dialer;
 use vt_out::{Files, Folder, Folders, OutErr, Sink};
 use vt_partitions::Parts;
+use vt_remote::refusals_have_causes;
 use vt_tree::TreeErr;
+use vt_use::{StoreAt, local_refusals_have_causes, use_at};
 
 /// The block size where none is asked for.
 const BLOCK_SIZE: u16 = 8192;
 
-/// Reads the word and the configuration, archives the folder of this name into the configuration's
-/// store, at this second, says on the fault sink what was left out, and prints what the archive is
-/// found by. Gives too whether the fault sink took that.
-pub fn vac<I: Files, G: Folders, P: Parts, K: Sink, F: Sink, T: Sink + Drop, S: Scorer>(
+/// Reads the word and finds the store, archives the folder of this name there, at this second, says on
+/// the fault sink what was left out, and prints what the archive is found by. Gives too whether the
+/// fault sink took that.
+pub fn vac<I: Files, G: Folders, P: Parts, N: Dialer, K: Sink, F: Sink, T: Sink + Drop, S: Scorer>(
     alloc: Global,
     files: &mut I,
     folders: &mut G,
     parts: &mut P,
+    dialer: &mut N,
     sink: &mut K,
     fault_sink: &mut F,
     terminal: Option<T>,
     now: u32,
-    file: &Text,
+    store: &Text,
     name: &Text,
     size: &Option<Text>,
     scorer: &S,
 ) -> (Result<(), Failed>, Result<(), CommandError>)
-    ensures does { (preface : List ℕ) × DoesVac S.score_of P.Disk.Disk file.now name.now size.now
-        preface result.1 (files_change I.Files files.old files.new)
+    ensures does { (preface : List ℕ) × DoesVac S.score_of P.Disk.Disk N.Link.Link now store.now
+        name.now size.now preface result.1 (files_change I.Files files.old files.new)
         (folders_change G.Folders folders.old folders.new)
-        (parts_change P.Parts parts.old parts.new) (sink_change K.Sink sink.old sink.new)
+        (parts_change P.Parts parts.old parts.new)
+        (dialer_change N.Dialer N.Link.Link dialer.old dialer.new)
+        (sink_change K.Sink sink.old sink.new)
         × Said result.0 (sink_change F.Sink fault_sink.old fault_sink.new) preface }
     ensures cause { HasCauseIn (with_files (files_change I.Files files.old files.new)
         (with_folders (folders_change G.Folders folders.old folders.new)
         (with_parts P.Disk.Disk (parts_change P.Parts parts.old parts.new)
-        (with_sink (sink_change K.Sink sink.old sink.new) no_cause)))) result.1 }
+        (with_dialer (dialer_change N.Dialer N.Link.Link dialer.old dialer.new)
+        (with_sink (sink_change K.Sink sink.old sink.new) no_cause))))) result.1 }
 {
-    failures_have_causes::<P::Disk>();
+    local_refusals_have_causes::<P::Disk>();
+    refusals_have_causes::<N::Link>();
     match archive(
-        alloc, files, folders, parts, terminal, now, file, name, size, scorer,
+        alloc, files, folders, parts, dialer, terminal, now, store, name, size, scorer,
     ) {
         Ok(stored) => tell(sink, fault_sink, &stored.archived),
         Err(failure) => (Ok(()), Err(failure)),
@@ -73,7 +78,7 @@ pub fn vac<I: Files, G: Folders, P: Parts, K: Sink, F: Sink, T: Sink + Drop, S: 
 }
 
 /// Says what was left out of an archive, and prints what it is found by.
-pub fn tell<K: Sink, F: Sink>(
+fn tell<K: Sink, F: Sink>(
     sink: &mut K,
     fault_sink: &mut F,
     archived: &Archived,
@@ -95,61 +100,63 @@ fn print_archive<K: Sink>(sink: &mut K, score: &Score) -> Result<(), CommandErro
     print(sink, &[b"vac:", hexadecimal(&mut digits, &score.0), b"\n"])
 }
 
-/// Reads the word and the configuration, and archives the folder of this name into the
-/// configuration's store.
-fn archive<I: Files, G: Folders, P: Parts, T: Sink + Drop, S: Scorer>(
+/// Reads the word and finds the store, and archives the folder of this name there.
+fn archive<I: Files, G: Folders, P: Parts, N: Dialer, T: Sink + Drop, S: Scorer>(
     alloc: Global,
     files: &mut I,
     folders: &mut G,
     parts: &mut P,
+    dialer: &mut N,
     terminal: Option<T>,
     now: u32,
-    file: &Text,
+    store: &Text,
     name: &Text,
     size: &Option<Text>,
     scorer: &S,
-) -> Result<StoredArchive, CommandError>
-    ensures stored { IfOk result (λ stored. Archives S.score_of P.Disk.Disk file.now name.now
-        size.now stored (files_change I.Files files.old files.new)
+) -> Result<ArchivedAt, CommandError>
+    ensures stored { IfOk result (λ stored. Archives S.score_of P.Disk.Disk N.Link.Link now store.now
+        name.now size.now stored (files_change I.Files files.old files.new)
         (folders_change G.Folders folders.old folders.new)
-        (parts_change P.Parts parts.old parts.new)) }
-    ensures none { IfErr result (λ failure. ArchivesNone S.score_of P.Disk.Disk file.now name.now
-        size.now failure (files_change I.Files files.old files.new)
+        (parts_change P.Parts parts.old parts.new)
+        (dialer_change N.Dialer N.Link.Link dialer.old dialer.new)) }
+    ensures none { IfErr result (λ failure. ArchivesNone S.score_of P.Disk.Disk N.Link.Link
+        now store.now name.now size.now failure (files_change I.Files files.old files.new)
         (folders_change G.Folders folders.old folders.new)
-        (parts_change P.Parts parts.old parts.new)) }
+        (parts_change P.Parts parts.old parts.new)
+        (dialer_change N.Dialer N.Link.Link dialer.old dialer.new)) }
 {
-    configurations_can_be_opened();
     let bsize = size_in(size)?;
-    let conf = read_conf(alloc, files, file)?;
-    store_folder(
-        alloc, folders, parts, terminal, now, file, name, &conf, bsize, scorer,
+    let at = store_at(alloc, files, store)?;
+    archive_at(
+        alloc, folders, parts, dialer, terminal, now, store, name, &at, bsize, scorer,
     )
 }
 
-/// Archives the folder of this name into the store of a configuration.
-fn store_folder<G: Folders, P: Parts, T: Sink + Drop, S: Scorer>(
+/// Archives the folder of this name into the store at a place.
+fn archive_at<G: Folders, P: Parts, N: Dialer, T: Sink + Drop, S: Scorer>(
     alloc: Global,
     folders: &mut G,
     parts: &mut P,
+    dialer: &mut N,
     terminal: Option<T>,
     now: u32,
     file: &Text,
     name: &Text,
-    conf: &Conf,
+    at: &StoreAt,
     bsize: u16,
     scorer: &S,
-) -> Result<StoredArchive, CommandError>
-    requires few { length conf.now.arenas.items + length conf.now.sections.items + 1 < 2 ^ 32 }
-    requires some_arenas { 0 < length conf.now.arenas.items }
-    requires some_section { 0 < length conf.now.sections.items }
+) -> Result<ArchivedAt, CommandError>
+    requires can { CanBeOpened at.now }
     requires least { MIN_BLOCK_SIZE ≤ bsize }
     requires most { bsize ≤ MAX_BLOCK_SIZE }
-    ensures stored { IfOk result (λ stored. StoresFolder S.score_of P.Disk.Disk name.now conf.now
-        bsize (Ok stored) (folders_change G.Folders folders.old folders.new)
-        (parts_change P.Parts parts.old parts.new)) }
-    ensures none { IfErr result (λ failure. StoresNone S.score_of P.Disk.Disk file.now name.now
-        conf.now bsize failure (folders_change G.Folders folders.old folders.new)
-        (parts_change P.Parts parts.old parts.new)) }
+    ensures stored { IfOk result (λ stored. StoresFolder S.score_of P.Disk.Disk N.Link.Link now name.now
+        at.now bsize (Ok stored) (folders_change G.Folders folders.old folders.new)
+        (parts_change P.Parts parts.old parts.new)
+        (dialer_change N.Dialer N.Link.Link dialer.old dialer.new)) }
+    ensures none { IfErr result (λ failure. StoresNone S.score_of P.Disk.Disk N.Link.Link now file.now
+        name.now at.now bsize failure (folders_change G.Folders folders.old folders.new)
+        (parts_change P.Parts parts.old parts.new)
+        (dialer_change N.Dialer N.Link.Link dialer.old dialer.new)) }
 {
     let folder = match folders.folder(alloc, name) {
         Ok(folder) => folder,
@@ -157,59 +164,65 @@ fn store_folder<G: Folders, P: Parts, T: Sink + Drop, S: Scorer>(
         Err(OutErr::NoMemory) => return Err(CommandError::NoMemory),
     };
     let (stored, folder, terminal) = archive_watched(
-        alloc, parts, folder, terminal, now, conf, bsize, scorer,
+        alloc, parts, dialer, folder, terminal, now, at, bsize, scorer,
     );
     folders.done(name, folder);
     match stored {
         Ok(stored) => Ok(stored),
-        Err(bad) => Err(told(alloc, terminal, file, conf, bad)),
+        Err(bad) => Err(told(alloc, terminal, file, at, bad)),
     }
 }
 
-/// Archives a folder into the store of a configuration, shows on the terminal how far that is, and
-/// gives both back.
-fn archive_watched<P: Parts, F: Folder, T: Sink + Drop, S: Scorer>(
+/// Archives a folder into the store at a place, shows on the terminal how far that is, and gives both
+/// back.
+fn archive_watched<P: Parts, N: Dialer, F: Folder, T: Sink + Drop, S: Scorer>(
     alloc: Global,
     parts: &mut P,
+    dialer: &mut N,
     folder: F,
     terminal: Option<T>,
     now: u32,
-    conf: &Conf,
+    at: &StoreAt,
     bsize: u16,
     scorer: &S,
-) -> (Result<StoredArchive, ArchiveError>, F, Option<T>)
-    requires few { length conf.now.arenas.items + length conf.now.sections.items + 1 < 2 ^ 32 }
-    requires some_arenas { 0 < length conf.now.arenas.items }
-    requires some_section { 0 < length conf.now.sections.items }
+) -> (Result<ArchivedAt, ArchiveError>, F, Option<T>)
+    requires can { CanBeOpened at.now }
     requires least { MIN_BLOCK_SIZE ≤ bsize }
     requires most { bsize ≤ MAX_BLOCK_SIZE }
-    ensures archives { ArchivesStored S.score_of P.Disk.Disk (IsTrue P.tells) conf.now now bsize
-        (IsSeen F.tells (F.holds folder)) (P.standing parts.old) (P.standing parts.new)
-        (P.faults parts.old) (P.faults parts.new) result.0 }
-    ensures cause { CountsFault is_folder_fault result.0 (F.faults folder) (F.faults result.1) }
+    ensures archives { ArchivesAt S.score_of P.Disk.Disk N.Link.Link at.now now bsize
+        (IsSeen F.tells (F.holds folder)) result.0 (parts_change P.Parts parts.old parts.new)
+        (dialer_change N.Dialer N.Link.Link dialer.old dialer.new) }
+    ensures cause { CountsFault tells_folder_fault result.0 (F.faults folder) (F.faults result.1) }
     ensures stays { IsTrue F.tells → F.holds result.1 ≡ F.holds folder }
 {
     let mut watched = Watched::new(folder, terminal);
-    let stored = archive_stored(alloc, parts, conf, scorer, now, &mut watched, bsize);
-    show_end(&mut watched, &stored);
+    let job = ArchiveFolder { bsize };
+    let used = use_at(alloc, parts, dialer, at, scorer, now, job, &mut watched);
+    let stored = archived_at(used);
+    show_end(&mut watched, at, &stored);
     let (folder, terminal) = watched.into_parts();
     (stored, folder, terminal)
 }
 
-/// Shows on the terminal how many blocks are new, where a folder was archived.
+/// Shows on the terminal how many blocks are new, or were sent, where a folder was archived.
 fn show_end<F: Folder, K: Sink + Drop>(
     watched: &mut Watched<F, K>,
-    stored: &Result<StoredArchive, ArchiveError>,
+    at: &StoreAt,
+    stored: &Result<ArchivedAt, ArchiveError>,
 )
     ensures { watched_folder watched.new ≡ watched_folder watched.old }
 {
-    if let Ok(stored) = stored {
-        watched.show_end(stored.added, b" new blocks\n");
+    let Ok(stored) = stored else {
+        return;
+    };
+    match at {
+        StoreAt::Conf(_) => watched.show_end(stored.blocks, b" new blocks\n"),
+        StoreAt::Server(_) => watched.show_end(stored.blocks, b" blocks sent\n"),
     }
 }
 
 /// The block size that is asked for.
-pub fn size_in(word: &Option<Text>) -> Result<u16, CommandError>
+fn size_in(word: &Option<Text>) -> Result<u16, CommandError>
     ensures size { IfOk result (AsksForSize word.now) }
     ensures none { IfErr result (AsksForNoSize word.now) }
     ensures least { IfOk result (λ bsize. MIN_BLOCK_SIZE ≤ bsize) }
@@ -225,25 +238,24 @@ pub fn size_in(word: &Option<Text>) -> Result<u16, CommandError>
     }
 }
 
-/// What is told where a folder isn't archived into a configuration's store.
+/// What is told where a folder isn't archived.
 fn told<T: Sink + Drop>(
     alloc: Global,
     terminal: Option<T>,
     file: &Text,
-    conf: &Conf,
+    at: &StoreAt,
     bad: ArchiveError,
 ) -> CommandError
-    ensures { IsArchiveRefusal file.now conf.now bad result }
+    ensures { IsArchiveRefusal file.now at.now bad result }
 {
     match bad {
-        ArchiveError::Unopened(bad) => told_unopened(alloc, terminal, file, conf, bad),
+        ArchiveError::Store(bad) => told_at(alloc, terminal, file, at, bad),
         ArchiveError::Folder(err) => unfit_for(err),
-        ArchiveError::Refused(why) => refusal_for(why),
     }
 }
 
 /// Why a folder isn't archived; the place of what is unfit is 0.
-pub fn unfit_for(err: VacErr) -> CommandError
+fn unfit_for(err: VacErr) -> CommandError
     ensures { result ≡ unfit_for err }
 {
     match err {

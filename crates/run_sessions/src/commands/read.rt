@@ -3,22 +3,20 @@
 // server).
 
 ghost use Rattle.run_base.specs.Change.{dialer_change, files_change, parts_change, sink_change};
-ghost use Rattle.run_sessions.specs.Read.{DoesRead, PrintsKept, PrintsMade, PrintsServed};
+ghost use Rattle.vt_use.specs.Places.{CanBeOpened};
+ghost use Rattle.run_sessions.specs.Read.{DoesRead, PrintsAt, PrintsMade};
 ghost use Rattle.run_base.specs.Errors.{HasCauseIn, no_cause, with_dialer, with_files, with_parts, with_sink};
 
 use run_base::{
-    CommandError, Place, place_of, print, read_conf, read_made, refusal_for, score_in, told_stored,
-    type_in,
+    CommandError, Place, find_store, print, read_made, refusal_for, score_in, told_at, type_in,
 };
 use std::alloc::Global;
 use vt_base::{Kind, Score, Scorer, Text};
-use vt_conf::Address;
 use vt_dial::Dialer;
-use vt_open::configurations_can_be_opened;
 use vt_out::{Files, Sink};
 use vt_partitions::Parts;
-use vt_remote::{read_remote, refusals_have_causes};
-use vt_single::{failures_have_causes, read_stored};
+use vt_remote::refusals_have_causes;
+use vt_use::{ReadBlock, StoreAt, answer_at, local_refusals_have_causes, use_at};
 
 /// Reads the words, and prints the block that they ask for.
 pub fn read<I: Files, P: Parts, N: Dialer, K: Sink, T: Sink + Drop, S: Scorer>(
@@ -42,18 +40,15 @@ pub fn read<I: Files, P: Parts, N: Dialer, K: Sink, T: Sink + Drop, S: Scorer>(
         (with_dialer (dialer_change N.Dialer N.Link.Link dialer.old dialer.new)
         (with_sink (sink_change K.Sink sink.old sink.new) no_cause)))) result }
 {
-    failures_have_causes::<P::Disk>();
+    local_refusals_have_causes::<P::Disk>();
     refusals_have_causes::<N::Link>();
     let score = score_in(score)?;
     let kind = type_in(kind)?;
-    match place_of(alloc, store)? {
+    match find_store(alloc, files, store)? {
         Place::Memory => print_made(alloc, sink, kind, &score, scorer),
-        Place::Server(address) => print_served(alloc, dialer, sink, &address, kind, &score, scorer),
-        Place::Conf => {
-            print_kept(
-                alloc, files, parts, sink, terminal, store, kind, &score, scorer,
-            )
-        }
+        Place::At(at) => print_at(
+            alloc, parts, dialer, sink, terminal, store, &at, kind, &score, scorer,
+        ),
     }
 }
 
@@ -74,46 +69,30 @@ fn print_made<K: Sink, S: Scorer>(
     }
 }
 
-/// Reads a configuration, asks its store for the block, and prints that when the store is closed.
-fn print_kept<I: Files, P: Parts, K: Sink, T: Sink + Drop, S: Scorer>(
+/// Asks the store at a place for the block, and prints that when it is closed, or the link to it.
+fn print_at<P: Parts, N: Dialer, K: Sink, T: Sink + Drop, S: Scorer>(
     alloc: Global,
-    files: &mut I,
     parts: &mut P,
+    dialer: &mut N,
     sink: &mut K,
     terminal: Option<T>,
     file: &Text,
+    at: &StoreAt,
     kind: Kind,
     score: &Score,
     scorer: &S,
 ) -> Result<(), CommandError>
-    ensures { PrintsKept S.score_of P.Disk.Disk file.now score.now.0 kind result
-        (files_change I.Files files.old files.new) (parts_change P.Parts parts.old parts.new)
-        (sink_change K.Sink sink.old sink.new) }
-{
-    configurations_can_be_opened();
-    let conf = read_conf(alloc, files, file)?;
-    match read_stored(alloc, parts, &conf, scorer, kind, score) {
-        Ok(block) => print(sink, &[block.as_slice()]),
-        Err(bad) => Err(told_stored(alloc, terminal, file, &conf, bad)),
-    }
-}
-
-/// Asks the server at an address for the block, and prints that when the link to it is closed.
-fn print_served<N: Dialer, K: Sink, S: Scorer>(
-    alloc: Global,
-    dialer: &mut N,
-    sink: &mut K,
-    address: &Address,
-    kind: Kind,
-    score: &Score,
-    scorer: &S,
-) -> Result<(), CommandError>
-    ensures { PrintsServed N.Link.Link S.score_of address.now score.now.0 kind result
+    requires { CanBeOpened at.now }
+    ensures { PrintsAt S.score_of P.Disk.Disk N.Link.Link file.now at.now score.now.0 kind result
+        (parts_change P.Parts parts.old parts.new)
         (dialer_change N.Dialer N.Link.Link dialer.old dialer.new)
         (sink_change K.Sink sink.old sink.new) }
 {
-    match read_remote(alloc, dialer, address, scorer, kind, score) {
+    let score = *score;
+    let job = ReadBlock { kind, score };
+    let used = use_at(alloc, parts, dialer, at, scorer, 0, job, &mut ());
+    match answer_at(used) {
         Ok(block) => print(sink, &[block.as_slice()]),
-        Err(bad) => Err(CommandError::Server(bad)),
+        Err(bad) => Err(told_at(alloc, terminal, file, at, bad)),
     }
 }

@@ -8,13 +8,13 @@ ghost use Rattle.run_base.specs.Errors.{HasCauseIn, no_cause, with_sink, with_so
 
 use run_base::{CommandError, memory_store, outcome_of};
 use std::alloc::Global;
-use vt_alone::{StoreServed, serve_store, sound_stores_need_memory};
 use vt_base::Scorer;
 use vt_empty::laws::memory_never_fails;
 use vt_handler::Streams;
 use vt_memdisk::MemDisk;
 use vt_out::{Sink, Source};
 use vt_session::Ended;
+use vt_use::{StoreServed, serve_store, sound_stores_need_memory};
 
 /// Serves one session over a store that begins empty, from this second on. What can be answered is
 /// answered, and has gone out, before more is read.

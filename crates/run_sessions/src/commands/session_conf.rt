@@ -7,12 +7,11 @@ ghost use Rattle.vt_core.specs.Machine.{WaitsForNone};
 ghost use Rattle.vt_open.specs.Names.{HaveOneShape, files_of};
 ghost use Rattle.run_base.specs.Change.{files_change, parts_change, sink_change, source_change};
 ghost use Rattle.run_sessions.specs.SessionConf.{DoesSessionConf, ServesConf, ServesOpened};
-ghost use Rattle.run_base.specs.Unopened.{OpensNone};
+ghost use Rattle.run_base.specs.Unopened.{TellsUnopened};
 ghost use Rattle.run_base.specs.Errors.{HasCauseIn, no_cause, with_files, with_parts, with_sink, with_source};
 
 use run_base::{CommandError, outcome_of, read_conf, told};
 use std::alloc::Global;
-use vt_alone::{serve_store, sessions_are_runs};
 use vt_base::{Scorer, Text};
 use vt_conf::Conf;
 use vt_core::Core;
@@ -20,6 +19,7 @@ use vt_handler::Streams;
 use vt_open::{close_store, configurations_can_be_opened, open_store, shapes_are_kept};
 use vt_out::{Files, Sink, Source};
 use vt_partitions::Parts;
+use vt_use::{serve_store, sessions_are_runs};
 
 /// Reads the configuration, opens its store, serves one session over it, from this second on, and
 /// closes it, whatever ended the session. Where the store isn't opened, nothing is read or written.
@@ -62,7 +62,7 @@ fn serve_conf<R: Source, K: Sink, P: Parts, T: Sink + Drop, S: Scorer>(
     requires few { length conf.now.arenas.items + length conf.now.sections.items + 1 < 2 ^ 32 }
     requires some_arenas { 0 < length conf.now.arenas.items }
     requires some_section { 0 < length conf.now.sections.items }
-    ensures { OpensNone S.score_of P.Disk.Disk file.now conf.now result
+    ensures { TellsUnopened S.score_of P.Disk.Disk file.now conf.now result
         (source_change R.Source streams.old.source streams.new.source)
         (sink_change K.Sink streams.old.sink streams.new.sink)
         (parts_change P.Parts parts.old parts.new)

@@ -5,23 +5,23 @@
 ghost use Rattle.std.specs.Prelude.{◌≡◌, ◌≤◌, ◌<◌, ◌++◌, ℕ, List, [], IfErr, IfOk, OnErr, IsTrue, length, take};
 ghost use Rattle.vt_base.specs.Faults.{HasCause};
 ghost use Rattle.run_base.specs.Change.{dialer_change, files_change, parts_change, sink_change, source_change};
-ghost use Rattle.run_sessions.specs.Write.{DoesWrite, KeepsInput, MakesInput, PutsInput, TakesBlock, TakesNone, score_line};
+ghost use Rattle.vt_base.specs.declared.TheConstants.{MAX_BLOCK};
+ghost use Rattle.vt_use.specs.Places.{CanBeOpened};
+ghost use Rattle.run_base.specs.Places.{CanBeUsed};
+ghost use Rattle.run_sessions.specs.Write.{DoesWrite, GivesMade, GivesTo, TakesBlock, TakesNone, WritesInput, score_line};
 ghost use Rattle.run_base.specs.Errors.{HasCauseIn, no_cause, with_dialer, with_files, with_parts, with_sink, with_source};
 ghost use Rattle.run_base.specs.Formatting.{Prints};
 
 use run_base::{
-    CommandError, Place, hexadecimal, place_of, print, read_conf, refusal_for, told_stored,
-    type_in, write_made,
+    CommandError, Place, find_store, hexadecimal, print, refusal_for, told_at, type_in, write_made,
 };
 use std::alloc::Global;
 use vt_base::{Bytes, Failed, Kind, MAX_BLOCK, Score, Scorer, Text, Why};
-use vt_conf::Address;
 use vt_dial::Dialer;
-use vt_open::configurations_can_be_opened;
 use vt_out::{Clock, Files, Sink, Source};
 use vt_partitions::Parts;
-use vt_remote::{refusals_have_causes, write_remote};
-use vt_single::{failures_have_causes, write_stored};
+use vt_remote::refusals_have_causes;
+use vt_use::{StoreAt, WriteBlock, answer_at, local_refusals_have_causes, use_at};
 
 /// Reads the word, and stores what comes in as a block of this type.
 pub fn write<
@@ -57,85 +57,91 @@ pub fn write<
         (with_dialer (dialer_change N.Dialer N.Link.Link dialer.old dialer.new) no_cause)))))
         result }
 {
-    failures_have_causes::<P::Disk>();
+    local_refusals_have_causes::<P::Disk>();
     refusals_have_causes::<N::Link>();
     let kind = type_in(kind)?;
-    match place_of(alloc, store)? {
-        Place::Memory => make_input(alloc, source, sink, clock, kind, scorer),
-        Place::Server(address) => put_input(alloc, source, sink, dialer, &address, kind, scorer),
-        Place::Conf => keep_input(
-            alloc, source, sink, files, parts, clock, terminal, store, kind, scorer,
+    let place = find_store(alloc, files, store)?;
+    write_to(
+        alloc, source, sink, parts, dialer, clock, terminal, store, &place, kind, scorer,
+    )
+}
+
+/// Reads what comes in to its end, and writes it to the store at a place. That isn't opened before the
+/// block is there, so that one command may read what another writes.
+fn write_to<R: Source, K: Sink, P: Parts, N: Dialer, C: Clock, T: Sink + Drop, S: Scorer>(
+    alloc: Global,
+    source: &mut R,
+    sink: &mut K,
+    parts: &mut P,
+    dialer: &mut N,
+    clock: &mut C,
+    terminal: Option<T>,
+    store: &Text,
+    place: &Place,
+    kind: Kind,
+    scorer: &S,
+) -> Result<(), CommandError>
+    requires { CanBeUsed place.now }
+    ensures { WritesInput S.score_of P.Disk.Disk N.Link.Link store.now kind result
+        (source_change R.Source source.old source.new) (sink_change K.Sink sink.old sink.new)
+        (parts_change P.Parts parts.old parts.new)
+        (dialer_change N.Dialer N.Link.Link dialer.old dialer.new) place.now }
+{
+    let block = take_block(alloc, source)?;
+    let bytes = block.as_slice();
+    let now = clock.now();
+    match place {
+        Place::Memory => write_made_block(alloc, sink, now, kind, bytes, scorer),
+        Place::At(at) => write_at(
+            alloc, sink, parts, dialer, terminal, store, at, now, kind, bytes, scorer,
         ),
     }
 }
 
-/// Reads what comes in to its end, and hands that to the store in memory, which is gone behind it.
-fn make_input<R: Source, K: Sink, C: Clock, S: Scorer>(
+/// Hands a block to the store in memory, which is gone behind it.
+fn write_made_block<K: Sink, S: Scorer>(
     alloc: Global,
-    source: &mut R,
     sink: &mut K,
-    clock: &mut C,
+    now: u32,
     kind: Kind,
+    bytes: &[u8],
     scorer: &S,
 ) -> Result<(), CommandError>
-    ensures { MakesInput S.score_of kind result (source_change R.Source source.old source.new)
-        (sink_change K.Sink sink.old sink.new) }
+    requires { length bytes.now ≤ MAX_BLOCK }
+    ensures { GivesMade S.score_of kind bytes.now result (sink_change K.Sink sink.old sink.new) }
 {
-    let block = take_block(alloc, source)?;
-    match write_made(alloc, scorer, clock.now(), kind, block.as_slice()) {
+    match write_made(alloc, scorer, now, kind, bytes) {
         Ok(score) => print_score(sink, &score),
         Err(why) => Err(refusal_for(why)),
     }
 }
 
-/// Reads a configuration, and then what comes in to its end; hands that to the store as one block,
-/// and prints its score when it is committed and the store is closed. The store isn't opened before
-/// the block is there, so that one command may read what another writes.
-fn keep_input<R: Source, K: Sink, I: Files, P: Parts, C: Clock, T: Sink + Drop, S: Scorer>(
+/// Hands a block to the store at a place, and prints its score when that has committed it and is
+/// closed, or the link to it.
+fn write_at<K: Sink, P: Parts, N: Dialer, T: Sink + Drop, S: Scorer>(
     alloc: Global,
-    source: &mut R,
     sink: &mut K,
-    files: &mut I,
     parts: &mut P,
-    clock: &mut C,
+    dialer: &mut N,
     terminal: Option<T>,
     file: &Text,
+    at: &StoreAt,
+    now: u32,
     kind: Kind,
+    bytes: &[u8],
     scorer: &S,
 ) -> Result<(), CommandError>
-    ensures { KeepsInput S.score_of P.Disk.Disk file.now kind result
-        (source_change R.Source source.old source.new) (sink_change K.Sink sink.old sink.new)
-        (files_change I.Files files.old files.new) (parts_change P.Parts parts.old parts.new) }
-{
-    configurations_can_be_opened();
-    let conf = read_conf(alloc, files, file)?;
-    let block = take_block(alloc, source)?;
-    let now = clock.now();
-    match write_stored(alloc, parts, &conf, scorer, now, kind, block.as_slice()) {
-        Ok(score) => print_score(sink, &score),
-        Err(bad) => Err(told_stored(alloc, terminal, file, &conf, bad)),
-    }
-}
-
-/// Reads what comes in to its end, hands that to the server at an address as one block, and prints
-/// its score when the server has committed it and the link is closed.
-fn put_input<R: Source, K: Sink, N: Dialer, S: Scorer>(
-    alloc: Global,
-    source: &mut R,
-    sink: &mut K,
-    dialer: &mut N,
-    address: &Address,
-    kind: Kind,
-    scorer: &S,
-) -> Result<(), CommandError>
-    ensures { PutsInput N.Link.Link S.score_of address.now kind result
-        (source_change R.Source source.old source.new) (sink_change K.Sink sink.old sink.new)
+    requires can { CanBeOpened at.now }
+    requires most { length bytes.now ≤ MAX_BLOCK }
+    ensures { GivesTo S.score_of P.Disk.Disk N.Link.Link file.now at.now now kind bytes.now result
+        (sink_change K.Sink sink.old sink.new) (parts_change P.Parts parts.old parts.new)
         (dialer_change N.Dialer N.Link.Link dialer.old dialer.new) }
 {
-    let block = take_block(alloc, source)?;
-    match write_remote(alloc, dialer, address, scorer, kind, block.as_slice()) {
+    let job = WriteBlock { kind, bytes };
+    let used = use_at(alloc, parts, dialer, at, scorer, now, job, &mut ());
+    match answer_at(used) {
         Ok(score) => print_score(sink, &score),
-        Err(bad) => Err(CommandError::Server(bad)),
+        Err(bad) => Err(told_at(alloc, terminal, file, at, bad)),
     }
 }
 

@@ -20,7 +20,7 @@ returns-clause-answers g c =
     answers_so score _ c.memory_never_fails.ensures core left made (λ (bytes : List ℕ). r_read bytes)
     (read s c.args.kind MAX_BLOCK) block
     (c.blocks_are_read.ensures score c.args.kind s block [] core left refl made.sound reads).answers
-    (c.failures_have_causes.ensures.read score c.args.kind s block core left reads made.stops)
+    (c.blocks_have_causes.ensures.read score c.args.kind s block core left reads made.stops)
 
 pub returns-clause-fails : goal.returns-clause-fails
 returns-clause-fails g c =
@@ -29,5 +29,5 @@ returns-clause-fails g c =
     let block = c.read_block-block.result.0 in
     let left = c.read_block-block.result.1 in
     caused_so score _ c.memory_never_fails.ensures core left c.in-Ok.ensures block
-    (c.failures_have_causes.ensures.read score c.args.kind c.args.score.now.0 block core left
+    (c.blocks_have_causes.ensures.read score c.args.kind c.args.score.now.0 block core left
     c.read_block-block.ensures.reads c.in-Ok.ensures.stops)

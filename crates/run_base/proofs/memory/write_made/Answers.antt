@@ -21,7 +21,7 @@ returns-clause-answers g c =
     (write c.args.kind bytes) given
     (c.blocks_are_kept.ensures score c.args.now c.args.kind bytes given [] core left refl made.sound
     writes).answers
-    (c.failures_have_causes.ensures.written score c.args.now c.args.kind bytes given core left writes
+    (c.blocks_have_causes.ensures.written score c.args.now c.args.kind bytes given core left writes
     made.stops)
 
 pub returns-clause-fails : goal.returns-clause-fails
@@ -31,5 +31,5 @@ returns-clause-fails g c =
     let given = c.write_block-score.result.0 in
     let left = c.write_block-score.result.1 in
     caused_so score _ c.memory_never_fails.ensures core left c.in-Ok.ensures given
-    (c.failures_have_causes.ensures.written score c.args.now c.args.kind c.args.bytes.now given core
+    (c.blocks_have_causes.ensures.written score c.args.now c.args.kind c.args.bytes.now given core
     left c.write_block-score.ensures.writes c.in-Ok.ensures.stops)

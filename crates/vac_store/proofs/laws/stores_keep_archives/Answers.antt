@@ -5,19 +5,21 @@ use Rattle.vt_model.specs.Places.{Setup}
 use Rattle.vt_part.specs.Table.{Table}
 use Rattle.vt_core.specs.Core.{devices_of}
 use Rattle.vt_core.specs.Mounting.{AllStandFor, EachStands}
-use Rattle.vac_store.specs.Storing.{IsBecause, StandsIn, all_written}
+use Rattle.vt_use.specs.Places.{as_ended, as_refused}
+use Rattle.vac_store.specs.Storing.{IsBecause, StandsIn, all_written, came_to}
 use Rattle.vac_store.proofs.laws.stores_keep_archives.Goals as goal
 
 pub returns : goal.returns
-returns g c score told conf now bsize tells held result old new tables devices setup h log base is_told
-    disk_tells x under is_log =
+returns g c score told conf now bsize tells held answer said added closed old new tables devices setup h
+    log base is_told disk_tells x under is_log =
     let disk = g.D.Disk in
+    let result = came_to answer (as_refused said) added (as_ended closed) in
     let recalls = c.opened_stores_recall.ensures.recalls score told conf 1 old x.during x.opened
     tables devices setup h log base is_told disk_tells x.opens under is_log in
     let tables_are = c.opened_stores_recall.ensures.tables score told conf 1 old x.during x.opened
     tables devices setup h log base is_told disk_tells x.opens under is_log in
-    let kept = c.archives_are_kept.ensures score now bsize tells held result log x.opened x.left
-    disk_tells recalls.sound x.does in
+    let kept = c.archives_are_kept.ensures score now bsize tells held answer said added closed log
+    x.opened x.left disk_tells recalls.sound x.does in
     record {
       seen = kept.seen;
       is = kept.is;
@@ -40,12 +42,12 @@ returns g c score told conf now bsize tells held result old new tables devices s
           recalls.setup kept.because;
       done = subst (λ (t : List Table). IfOk result (λ s. (kept.rest ≡ [])
           × StandsIn score bsize kept.seen kept.last s.archived
-          × (length kept.last ≡ length log + s.added)
+          × (length kept.last ≡ length log + s.blocks)
           × AllStandFor score disk (record setup { base = base }) t (devices_of x.left) kept.last
           (length kept.last))) tables_are
           (subst (λ (e : Setup). IfOk result (λ s. (kept.rest ≡ [])
           × StandsIn score bsize kept.seen kept.last s.archived
-          × (length kept.last ≡ length log + s.added)
+          × (length kept.last ≡ length log + s.blocks)
           × AllStandFor score disk e x.opened.log.tables (devices_of x.left) kept.last
           (length kept.last))) recalls.setup kept.done);
     }

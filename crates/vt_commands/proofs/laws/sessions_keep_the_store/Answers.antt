@@ -8,7 +8,7 @@ use Rattle.vt_session.specs.Talk.{Alone}
 use Rattle.vt_core.specs.Core.{devices_of, each_of}
 use Rattle.vt_core.specs.Files.{PerDevice, all_of}
 use Rattle.vt_core.specs.Mounting.{AllStandFor, EachStands}
-use Rattle.vt_alone.specs.Sessions.{AreUnsaid, faults_over}
+use Rattle.vt_use.specs.Sessions.{AreUnsaid, faults_over}
 use Rattle.vt_commands.proofs.laws.sessions_keep_the_store.Goals as goal
 
 pub returns-clause-served : goal.returns-clause-served

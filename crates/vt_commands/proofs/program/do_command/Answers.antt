@@ -109,8 +109,8 @@ returns-in-View g c =
 
 pub returns-in-Vac : goal.returns-in-Vac
 returns-in-Vac g c =
-    let x = c.vac_at.ensures in
+    let x = c.vac.ensures in
     rw c.in-Vac.is (
-      (x.does.0, x.does.1, record { unread = refl; cause = x.cause }),
+      (x.does.0, (c.now-now-in-Vac.result, x.does.1), record { unread = refl; cause = x.cause }),
       x.does.2,
     )

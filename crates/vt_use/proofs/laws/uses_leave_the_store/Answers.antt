@@ -1,5 +1,5 @@
 -- the store that was opened has the log of its partitions
-use Rattle.std.proofs.Common.{◌≡◌, List, arith, length, subst}
+use Rattle.std.proofs.Common.{List, arith, length, subst}
 use Rattle.vt_model.specs.Places.{Setup}
 use Rattle.vt_part.specs.Table.{Table}
 use Rattle.vt_core.specs.Core.{devices_of}

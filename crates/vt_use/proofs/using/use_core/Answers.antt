@@ -1,7 +1,6 @@
 -- the store that is given back is the one that was asked, and its use is ended
-use Rattle.std.proofs.Common.{◌≡◌, ◌-◌, ℕ, true, false, sym, ◌∙◌, ap, subst}
-use Rattle.vt_core.specs.Core.{CoreState, history_len}
-use Rattle.vt_requests.specs.Driven.{DrivenState}
+use Rattle.std.proofs.Common.{◌≡◌, ◌-◌, ℕ, true, false, sym, ◌∙◌, ap}
+use Rattle.vt_core.specs.Core.{history_len}
 use Rattle.vt_use.proofs.Uses.{ended, read, use_keeps, used}
 use Rattle.vt_use.proofs.using.use_core.Goals.{then-writes, else-writes}
 use Rattle.vt_use.proofs.using.use_core.Goals as goal

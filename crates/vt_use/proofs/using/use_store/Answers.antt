@@ -1,5 +1,4 @@
 -- a run of events keeps how many devices there are; the partitions are those that were handed out
-use Rattle.std.proofs.Common.{◌∙◌}
 use Rattle.vt_core.specs.Core.{devices_of}
 use Rattle.vt_open.specs.Names.{files_of}
 use Rattle.vt_use.proofs.Uses.{shape_more}

@@ -1,20 +1,20 @@
--- the word that was read, the configuration, and what was done with its store
+-- the word that was read, the store that was found, and what was done with it
 use Rattle.std.proofs.Common.{inr}
 use Rattle.std.proofs.lemmas.Result.{IfErr-weaker, IfOk-weaker}
 use Rattle.run_archives.proofs.commands.vac.archive.Goals as goal
 
 pub returns-clause-stored : goal.returns-clause-stored
-returns-clause-stored g c = IfOk-weaker c.store_folder.result _ _ (λ stored stores. record {
+returns-clause-stored g c = IfOk-weaker c.archive_at.result _ _ (λ stored stores. record {
   bsize = c.in_ok-bsize.bsize;
   asks = c.in_ok-bsize.ensures.size;
-  conf = c.in_ok-conf.conf;
-  reads = c.in_ok-conf.ensures.said;
+  at = c.in_ok-at.at;
+  finds = c.in_ok-at.ensures.found;
   stores = stores;
-}) c.store_folder.ensures.stored
+}) c.archive_at.ensures.stored
 
 pub returns-clause-none : goal.returns-clause-none
-returns-clause-none g c = IfErr-weaker c.store_folder.result _ _ (λ failure none. inr (
+returns-clause-none g c = IfErr-weaker c.archive_at.result _ _ (λ failure none. inr (
   c.in_ok-bsize.bsize,
   c.in_ok-bsize.ensures.size,
-  inr (c.in_ok-conf.conf, c.in_ok-conf.ensures.said, none),
-)) c.store_folder.ensures.none
+  inr (c.in_ok-at.at, c.in_ok-at.ensures.found, none),
+)) c.archive_at.ensures.none

@@ -33,11 +33,21 @@ returns-in-Err-clause-does g c = (
 pub returns-in-Ok-clause-cause : goal.returns-in-Ok-clause-cause
 returns-in-Ok-clause-cause g c =
     let score = g.S.Scorer.score_of in
-    vac_cause score g.P.Disk.Disk (c.failures_have_causes.ensures score) c.args.file.now
-    c.args.name.now c.args.size.now _ _ _ _ _ _ (returns-in-Ok-clause-does g c).1
+    vac_cause score g.P.Disk.Disk g.N.Link.Link (record {
+      said = c.local_refusals_have_causes.ensures.said score;
+      closed = c.local_refusals_have_causes.ensures.closed score;
+      met = c.refusals_have_causes.ensures.met score;
+      first = c.refusals_have_causes.ensures.first score;
+    }) c.args.now c.args.store.now c.args.name.now c.args.size.now _ _ _ _ _ _ _ refl refl
+    (returns-in-Ok-clause-does g c).1
 
 pub returns-in-Err-clause-cause : goal.returns-in-Err-clause-cause
 returns-in-Err-clause-cause g c =
     let score = g.S.Scorer.score_of in
-    vac_cause score g.P.Disk.Disk (c.failures_have_causes.ensures score) c.args.file.now
-    c.args.name.now c.args.size.now _ _ _ _ _ _ (returns-in-Err-clause-does g c).1
+    vac_cause score g.P.Disk.Disk g.N.Link.Link (record {
+      said = c.local_refusals_have_causes.ensures.said score;
+      closed = c.local_refusals_have_causes.ensures.closed score;
+      met = c.refusals_have_causes.ensures.met score;
+      first = c.refusals_have_causes.ensures.first score;
+    }) c.args.now c.args.store.now c.args.name.now c.args.size.now _ _ _ _ _ _ _ refl refl
+    (returns-in-Err-clause-does g c).1

@@ -1,9 +1,13 @@
 -- the words, and the store that the first of them names
 use Rattle.std.proofs.Common.{◌≡◌, inl, inr, refl, subst, rules, Err}
-use Rattle.run_base.specs.Places.{NamesPlace}
-use Rattle.run_base.specs.declared.place.Place.TheVariants.{Memory, Server, Conf}
+use Rattle.run_base.specs.Change.{files_change}
+use Rattle.run_base.specs.Places.{CanBeUsed, FindsPlace}
+use Rattle.run_base.specs.declared.place.Place.TheVariants.{Memory, At}
 use Rattle.run_sessions.proofs.BlockCauses.{read_cause}
 use Rattle.run_sessions.proofs.commands.read.read.Goals as goal
+
+pub print_at-requires : goal.print_at-requires
+print_at-requires g c = subst CanBeUsed c.in-At.is c.in_ok-find_store.ensures.usable
 
 pub returns-in_err-score-clause-does : goal.returns-in_err-score-clause-does
 returns-in_err-score-clause-does g c =
@@ -27,54 +31,79 @@ returns-in_err-kind-clause-does g c =
       idle = record { unopened = refl; unused = refl; undialled = refl; unwritten = refl };
     })
 
+pub returns-in_err-find_store-clause-does : goal.returns-in_err-find_store-clause-does
+returns-in_err-find_store-clause-does g c =
+    let failure = c.in_err-find_store.field-0.0 in
+    let is : c.from_residual-in_err-find_store.result ≡ Err failure = search rules in
+    inr (
+      c.in_ok-score.score.0,
+      c.in_ok-kind.kind,
+      record { score_is = c.in_ok-score.ensures.good; type_is = c.in_ok-kind.ensures.good },
+      inl (record {
+        failure = failure;
+        why = c.in_err-find_store.ensures.none;
+        outcome_is = is;
+        idle = record { unused = refl; undialled = refl; unwritten = refl };
+      }),
+    )
+
 pub returns-in-Memory-clause-does : goal.returns-in-Memory-clause-does
 returns-in-Memory-clause-does g c = inr (
   c.in_ok-score.score.0,
   c.in_ok-kind.kind,
   record { score_is = c.in_ok-score.ensures.good; type_is = c.in_ok-kind.ensures.good },
-  inr (Memory, subst (NamesPlace c.args.store.now) c.in-Memory.is c.in_ok-place_of.ensures.named, (c.print_made.ensures, refl, refl, refl)),
+  inr (
+    Memory,
+    subst (FindsPlace c.args.store.now
+        (files_change g.I.Files c.args.files.now c.find_store.new.files)) c.in-Memory.is
+        c.in_ok-find_store.ensures.found,
+    (c.print_made.ensures, refl, refl),
+  ),
 )
 
-pub returns-in-Server-clause-does : goal.returns-in-Server-clause-does
-returns-in-Server-clause-does g c = inr (
+pub returns-in-At-clause-does : goal.returns-in-At-clause-does
+returns-in-At-clause-does g c = inr (
   c.in_ok-score.score.0,
   c.in_ok-kind.kind,
   record { score_is = c.in_ok-score.ensures.good; type_is = c.in_ok-kind.ensures.good },
   inr (
-    Server c.in-Server.address,
-    subst (NamesPlace c.args.store.now) c.in-Server.is c.in_ok-place_of.ensures.named,
-    (c.print_served.ensures, refl, refl),
+    At c.in-At.at,
+    subst (FindsPlace c.args.store.now
+        (files_change g.I.Files c.args.files.now c.find_store.new.files)) c.in-At.is
+        c.in_ok-find_store.ensures.found,
+    c.print_at.ensures,
   ),
 )
 
-pub returns-in-Conf-clause-does : goal.returns-in-Conf-clause-does
-returns-in-Conf-clause-does g c = inr (
-  c.in_ok-score.score.0,
-  c.in_ok-kind.kind,
-  record { score_is = c.in_ok-score.ensures.good; type_is = c.in_ok-kind.ensures.good },
-  inr (Conf, subst (NamesPlace c.args.store.now) c.in-Conf.is c.in_ok-place_of.ensures.named, (c.print_kept.ensures, refl)),
-)
+pub returns-in_err-find_store-clause-cause : goal.returns-in_err-find_store-clause-cause
+returns-in_err-find_store-clause-cause g c =
+    let score = g.S.Scorer.score_of in
+    read_cause score g.P.Disk.Disk g.N.Link.Link (record {
+      said = c.local_refusals_have_causes.ensures.said score;
+      closed = c.local_refusals_have_causes.ensures.closed score;
+      met = c.refusals_have_causes.ensures.met score;
+      first = c.refusals_have_causes.ensures.first score;
+    }) c.args.store.now c.args.score.now c.args.kind.now _ _ _ _ _ refl refl
+    (returns-in_err-find_store-clause-does g c)
 
 pub returns-in-Memory-clause-cause : goal.returns-in-Memory-clause-cause
 returns-in-Memory-clause-cause g c =
     let score = g.S.Scorer.score_of in
-    read_cause score g.P.Disk.Disk g.N.Link.Link (c.refusals_have_causes.ensures.met score)
-    (c.failures_have_causes.ensures.read score) (c.refusals_have_causes.ensures.read score)
-    c.args.store.now c.args.score.now c.args.kind.now _ _ _ _ _ refl refl
+    read_cause score g.P.Disk.Disk g.N.Link.Link (record {
+      said = c.local_refusals_have_causes.ensures.said score;
+      closed = c.local_refusals_have_causes.ensures.closed score;
+      met = c.refusals_have_causes.ensures.met score;
+      first = c.refusals_have_causes.ensures.first score;
+    }) c.args.store.now c.args.score.now c.args.kind.now _ _ _ _ _ refl refl
     (returns-in-Memory-clause-does g c)
 
-pub returns-in-Server-clause-cause : goal.returns-in-Server-clause-cause
-returns-in-Server-clause-cause g c =
+pub returns-in-At-clause-cause : goal.returns-in-At-clause-cause
+returns-in-At-clause-cause g c =
     let score = g.S.Scorer.score_of in
-    read_cause score g.P.Disk.Disk g.N.Link.Link (c.refusals_have_causes.ensures.met score)
-    (c.failures_have_causes.ensures.read score) (c.refusals_have_causes.ensures.read score)
-    c.args.store.now c.args.score.now c.args.kind.now _ _ _ _ _ refl refl
-    (returns-in-Server-clause-does g c)
-
-pub returns-in-Conf-clause-cause : goal.returns-in-Conf-clause-cause
-returns-in-Conf-clause-cause g c =
-    let score = g.S.Scorer.score_of in
-    read_cause score g.P.Disk.Disk g.N.Link.Link (c.refusals_have_causes.ensures.met score)
-    (c.failures_have_causes.ensures.read score) (c.refusals_have_causes.ensures.read score)
-    c.args.store.now c.args.score.now c.args.kind.now _ _ _ _ _ refl refl
-    (returns-in-Conf-clause-does g c)
+    read_cause score g.P.Disk.Disk g.N.Link.Link (record {
+      said = c.local_refusals_have_causes.ensures.said score;
+      closed = c.local_refusals_have_causes.ensures.closed score;
+      met = c.refusals_have_causes.ensures.met score;
+      first = c.refusals_have_causes.ensures.first score;
+    }) c.args.store.now c.args.score.now c.args.kind.now _ _ _ _ _ refl refl
+    (returns-in-At-clause-does g c)

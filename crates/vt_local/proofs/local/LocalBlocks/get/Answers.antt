@@ -1,4 +1,5 @@
 use Rattle.std.proofs.Common.{Some, Ok, Err, refl, sym, subst}
+use Rattle.std.specs.Option.{option_or}
 use Rattle.vt_tree.specs.Calls.{get, Counts, with_refusal}
 use Rattle.vt_local.specs.Local.{LocalState, DoesLocal}
 use Rattle.vt_local.proofs.Doing.{got, not_got}
@@ -35,7 +36,7 @@ returns-in-Err-clause-done g c =
     let after : LocalState g.row.T.Denot = record {
       store = c.read.new.store;
       counts = with_refusal (Some c.refuse.result) counts;
-      refused = Some c.in-Err.why;
+      refused = option_or c.self.inside.refused (Some c.in-Err.why);
     } in
     subst (λ (x : LocalState g.row.T.Denot). DoesLocal g.T.Store x (get c.args.kind
     c.args.score.now.0 (Err c.refuse.result)) c.refuse.new.self)

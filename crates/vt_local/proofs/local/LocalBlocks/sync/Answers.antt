@@ -1,4 +1,5 @@
 use Rattle.std.proofs.Common.{Some, Ok, Err, refl, sym, subst}
+use Rattle.std.specs.Option.{option_or}
 use Rattle.vt_tree.specs.Calls.{sync, Counts, with_refusal}
 use Rattle.vt_local.specs.Local.{LocalState, DoesLocal}
 use Rattle.vt_local.proofs.Doing.{synced, not_synced}
@@ -32,7 +33,7 @@ returns-in-Err g c =
     let after : LocalState g.row.T.Denot = record {
       store = c.sync.new.store;
       counts = with_refusal (Some c.refuse.result) counts;
-      refused = Some c.in-Err.why;
+      refused = option_or c.self.inside.refused (Some c.in-Err.why);
     } in
     subst (λ (x : LocalState g.row.T.Denot). DoesLocal g.T.Store x (sync (Err c.refuse.result))
     c.refuse.new.self)

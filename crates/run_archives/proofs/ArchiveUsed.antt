@@ -1,0 +1,67 @@
+-- What a use of a store by the job that archives tells of the folder.
+use Rattle.std.proofs.Common.{◌≡◌, ℕ, Bool, true, List, Result, Ok, Err, ap}
+use Rattle.std.specs.Prelude.{IfOk, IsTrue, OnErr}
+use Rattle.vt_base.specs.Faults.{CountsFault}
+use Rattle.vt_disk.specs.Members.{DiskOf}
+use Rattle.vt_out.specs.declared.folder_item.Facts.{Facts}
+use Rattle.vt_out.specs.FolderItems.{Items}
+use Rattle.vt_use.specs.Change.{DialerChange, PartsChange}
+use Rattle.vt_use.specs.Members.{LinkOf}
+use Rattle.vt_use.specs.Places.{Doing, UsesAt}
+use Rattle.vt_use.specs.declared.used_at.StoreAt.{StoreAt}
+use Rattle.vt_use.specs.declared.used_at.StoreError.{StoreError}
+use Rattle.vt_use.specs.declared.used_at.UsedAt.{UsedAt}
+use Rattle.vt_use.proofs.Narrower.{told_beside, uses_less}
+use Rattle.vac_write.specs.declared.archived.Archived.{Archived}
+use Rattle.vac_write.specs.declared.error.VacErr.{VacErr}
+use Rattle.vac_write.specs.Archiving.{IsSeen, is_folder_fault}
+use Rattle.vac_store.specs.Storing.{ArchivesOrGivesUp, archived_at, tells_folder_fault}
+use Rattle.vac_store.proofs.Into.{came_fault}
+
+module _ {P D N L W : Type 0} (score : List ℕ → List ℕ) (disk : DiskOf D) (link : LinkOf L)
+    (at : StoreAt) (now bsize : ℕ) (parts : PartsChange P D) (dialer : DialerChange N L)
+    (before after : W) (tells : Bool) (held : W → Items Facts) (faults : W → ℕ) where
+  -- it stays, where that is told, and its count tells of its failed calls
+  abbrev Stays : Result Archived VacErr → Type 0
+  Stays answer = CountsFault is_folder_fault answer (faults before) (faults after)
+      × (IsTrue tells → held after ≡ held before)
+
+  abbrev Archives : Result Archived VacErr → Doing
+  Archives answer = λ S act holds calls from to.
+      ArchivesOrGivesUp act holds score bsize (IsSeen tells (held before)) answer calls from to
+
+  abbrev Job : Result Archived VacErr → Doing
+  Job answer = λ S act holds calls from to.
+      ArchivesOrGivesUp act holds score bsize (IsSeen tells (held before)) answer calls from to
+      × CountsFault is_folder_fault answer (faults before) (faults after)
+      × (IsTrue tells → held after ≡ held before)
+
+  module _ (used : Result (UsedAt (Result Archived VacErr)) StoreError)
+      (x : UsesAt score disk link at now true Job used parts dialer) where
+    pub archives_so : UsesAt score disk link at now true Archives used parts dialer
+    archives_so = uses_less score disk link now true parts dialer at Job Archives
+        (λ answer S act holds calls from to does. does.0) used x
+
+    beside : IfOk used (λ u. Stays u.output)
+    beside = told_beside score disk link now true parts dialer at Job Stays
+        (λ answer S act holds calls from to does. (does.1, does.2)) used x
+
+    pub counts_so : OnErr used (after ≡ before)
+        → CountsFault tells_folder_fault (archived_at used) (faults before) (faults after)
+    counts_so same = of used beside same
+      where
+        of : (used : Result (UsedAt (Result Archived VacErr)) StoreError)
+            → IfOk used (λ u. Stays u.output) → OnErr used (after ≡ before)
+            → CountsFault tells_folder_fault (archived_at used) (faults before) (faults after)
+        of (Ok u) told same = came_fault (faults before) (faults after) u.output u.refusal u.blocks
+            u.closed told.0
+        of (Err bad) told same = ap faults same
+
+    pub stays_so : OnErr used (after ≡ before) → IsTrue tells → held after ≡ held before
+    stays_so same told = of used beside same
+      where
+        of : (used : Result (UsedAt (Result Archived VacErr)) StoreError)
+            → IfOk used (λ u. Stays u.output) → OnErr used (after ≡ before)
+            → held after ≡ held before
+        of (Ok u) it same = it.1 told
+        of (Err bad) it same = ap held same

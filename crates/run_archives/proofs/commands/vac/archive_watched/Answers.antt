@@ -1,0 +1,62 @@
+-- what the use of the store tells of the folder within
+use Rattle.std.proofs.Common.{◌≡◌, ◌∙◌, true, ap, subst}
+use Rattle.vt_base.specs.Faults.{CountsFault}
+use Rattle.vt_out.specs.declared.folder_item.Facts.{Facts}
+use Rattle.vt_out.specs.FolderItems.{Items}
+use Rattle.vt_use.specs.Change.{dialer_change, parts_change}
+use Rattle.vt_use.specs.Places.{UsesAt}
+use Rattle.vac_store.specs.Storing.{ArchivesOrGivesUp, archived_at, tells_folder_fault}
+use Rattle.vac_write.specs.Archiving.{IsSeen}
+use Rattle.run_archives.specs.Watched.{watched_folder}
+use Rattle.run_archives.proofs.ArchiveUsed.{archives_so, counts_so, stays_so}
+use Rattle.run_archives.proofs.commands.vac.archive_watched.Goals as goal
+
+pub returns-clause-archives : goal.returns-clause-archives
+returns-clause-archives g c =
+    let score = g.S.Scorer.score_of in
+    let disk = g.P.Disk.Disk in
+    let link = g.N.Link.Link in
+    let folder = g.F.Folder in
+    let parts = parts_change g.P.Parts c.args.parts.now c.use_at-used.new.parts in
+    let dialer = dialer_change g.N.Dialer g.N.Link.Link c.args.dialer.now c.use_at-used.new.dialer in
+    record {
+      used = c.use_at-used.result;
+      uses = subst (λ (held : Items Facts). UsesAt score disk link c.args.at.now c.args.now true
+          (λ answer S act holds calls from to. ArchivesOrGivesUp act holds score c.args.bsize
+          (IsSeen folder.tells held) answer calls from to) c.use_at-used.result parts dialer)
+          (ap folder.holds c.new-watched.ensures)
+          (archives_so score disk link c.args.at.now c.args.now c.args.bsize parts dialer
+          c.new-watched.result c.use_at-used.new.beside folder.tells
+          (λ w. folder.holds (watched_folder w)) (λ w. folder.faults (watched_folder w))
+          c.use_at-used.result c.use_at-used.ensures.uses);
+      result_is = c.archived_at-stored.ensures;
+    }
+
+pub returns-clause-cause : goal.returns-clause-cause
+returns-clause-cause g c =
+    let folder = g.F.Folder in
+    let parts = parts_change g.P.Parts c.args.parts.now c.use_at-used.new.parts in
+    let dialer = dialer_change g.N.Dialer g.N.Link.Link c.args.dialer.now c.use_at-used.new.dialer in
+    let counts : CountsFault tells_folder_fault (archived_at c.use_at-used.result)
+    (folder.faults (watched_folder c.new-watched.result))
+    (folder.faults (watched_folder c.use_at-used.new.beside)) =
+    counts_so g.S.Scorer.score_of g.P.Disk.Disk g.N.Link.Link c.args.at.now c.args.now c.args.bsize parts
+    dialer c.new-watched.result c.use_at-used.new.beside folder.tells
+    (λ w. folder.holds (watched_folder w)) (λ w. folder.faults (watched_folder w))
+    c.use_at-used.result c.use_at-used.ensures.uses c.use_at-used.ensures.untouched in
+    rw (c.archived_at-stored.ensures, c.into_parts-folder.ensures, c.show_end.ensures)
+    (rw c.new-watched.ensures at counts)
+
+pub returns-clause-stays : goal.returns-clause-stays
+returns-clause-stays g c told =
+    let folder = g.F.Folder in
+    let parts = parts_change g.P.Parts c.args.parts.now c.use_at-used.new.parts in
+    let dialer = dialer_change g.N.Dialer g.N.Link.Link c.args.dialer.now c.use_at-used.new.dialer in
+    let same : folder.holds (watched_folder c.use_at-used.new.beside)
+    ≡ folder.holds (watched_folder c.new-watched.result) =
+    stays_so g.S.Scorer.score_of g.P.Disk.Disk g.N.Link.Link c.args.at.now c.args.now c.args.bsize parts
+    dialer c.new-watched.result c.use_at-used.new.beside folder.tells
+    (λ w. folder.holds (watched_folder w)) (λ w. folder.faults (watched_folder w))
+    c.use_at-used.result c.use_at-used.ensures.uses c.use_at-used.ensures.untouched told in
+    ap folder.holds (c.into_parts-folder.ensures ∙ c.show_end.ensures) ∙ same
+    ∙ ap folder.holds c.new-watched.ensures

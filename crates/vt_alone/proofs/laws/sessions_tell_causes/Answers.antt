@@ -1,8 +1,0 @@
--- each failure is that of a request or of the end
-use Rattle.vt_alone.proofs.Leaves.{tells_causes}
-use Rattle.vt_alone.proofs.laws.sessions_tell_causes.Goals as goal
-
-pub returns : goal.returns
-returns g c score end now old new tells input output serves none =
-    tells_causes score g.D.Disk end now old new tells input output serves
-    g.met.D.Disk.faults_fit none

@@ -1,4 +1,0 @@
-pub mod Asks
-pub mod Causes
-pub mod Kept
-pub mod Using
