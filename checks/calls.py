@@ -101,10 +101,10 @@ def uses_of(file):
 
 
 def around(file, at):
-    """The function of a file in which a place stands."""
-    lines = [it.line for it in file.functions]
-    number = bisect.bisect_right(lines, file.line(at))
-    return file.functions[number - 1] if number else None
+    """The function of a file in which a place stands, if it stands in one."""
+    line = file.line(at)
+    number = bisect.bisect_right([it.line for it in file.functions], line)
+    return file.functions[number - 1] if number and line <= file.functions[number - 1].last else None
 
 
 def closing(code, at):
@@ -121,24 +121,38 @@ def closing(code, at):
     return len(code)
 
 
-def parts(text, mark=","):
-    """What stands between the marks that are in no bracket."""
-    found, depth, begin = [], 0, 0
+def spans(text, mark=","):
+    """Where what stands between the marks that are in no bracket begins and ends."""
+    depth, begin = 0, 0
     for place, it in enumerate(text):
         depth += (it in "([<{") - (it in ")]}" or it == ">" and text[place - 1] not in "-=")
         if it == mark and not depth:
-            found.append(text[begin:place])
+            yield begin, place
             begin = place + 1
-    return [it.strip() for it in [*found, text[begin:]] if it.strip()]
+    yield begin, len(text)
+
+
+def parts(text, mark=","):
+    """What stands between the marks that are in no bracket."""
+    return [text[begin:end].strip() for begin, end in spans(text, mark) if text[begin:end].strip()]
 
 
 def bounds_in(text):
-    """The bounds of type parameters, as `T: Disk + Drop, G` has them, by the parameters' names."""
+    """The bounds of type parameters, as `T: Disk + Drop, G` has them, by the parameters' names, and of what belongs to
+    one, as `O::File: Drop` has them, by `O::File`."""
     found = {}
     for it in parts(text):
-        name, _, bounds = it.partition(":")
+        name, *bounds = re.split(r"(?<!:):(?!:)", it, maxsplit=1)
         found.setdefault(name.replace("const ", "").strip(), []).extend(
-            re.sub(r"<.*", "", one).split("::")[-1].strip() for one in parts(bounds, "+"))
+            re.sub(r"<.*", "", one).split("::")[-1].strip() for one in parts("".join(bounds), "+"))
+    return found
+
+
+def joined(*lists):
+    """Lists of bounds as one."""
+    found = {}
+    for name, bounds in (it for one in lists for it in one.items()):
+        found[name] = [*found.get(name, []), *bounds]
     return found
 
 
@@ -158,21 +172,47 @@ class Head:
         at = re.compile(rf"\bfn\s+{function.name}\b").search(code, line).end()
         own, at = generics_at(code, at)
         behind = closing(code, at)
-        listed = parts(code[at + 1:behind - 1])
-        self.params = {re.sub(r"^mut ", "", name.strip()): kind.strip()
-                       for name, colon, kind in (it.partition(":") for it in listed) if colon}
+        listed = [it.partition(":") for it in parts(code[at + 1:behind - 1])]
+        self.params = {re.sub(r"^mut ", "", name.strip()): kind.strip() for name, colon, kind in listed if colon}
+        # How it takes `self`, if it does: `self`, `&self` or `&mut self`.
+        self.own = next((re.sub(r"^mut ", "", name.strip()) for name, colon, _ in listed if not colon), "")
         given = re.compile(r"\s*->\s*((?:[^{;\[]|\[[^\]]*\])*?)\s*(?=\b(?:requires|ensures|where)\b|[{;])")
         self.gives = (given.match(code, behind) or ["", "()"])[1]
         where = re.compile(r"\bwhere\b([^{;]*?)(?=\b(?:requires|ensures)\b|[{;])").match(code, behind)
         of_owner = re.match(r"(?:pub(?:\([^)]*\))? )?(?:unsafe )?(?:impl|trait \w+)\s*(?=<)", function.owner)
         outer = generics_at(function.owner, of_owner.end())[0] if of_owner else {}
         behind_where = function.owner.partition(" where ")[2]
-        self.generics = {**outer, **bounds_in(behind_where), **own, **bounds_in(where[1] if where else "")}
+        self.generics = joined(outer, bounds_in(behind_where), own, bounds_in(where[1] if where else ""))
+
+
+    def kinds(self, subject):
+        """The types of what it takes, `self` among it."""
+        own = {"self": re.sub(r"\bself$", subject, self.own)} if self.own else {}
+        return {**own, **self.params}
 
 
 @functools.lru_cache(maxsize=None)
 def head_of(function):
     return Head(function)
+
+
+# Types that are copied, and those that are where what they have is.
+COPIED = {"bool", "char", "Global", *[f"{sign}{size}" for sign in "iu" for size in (8, 16, 32, 64, 128, "size")]}
+COPIED_WITH = ("[]", "()", "Option")
+
+
+def is_copied(crate, function, text):
+    """Whether a value of this type is handed to a function as a copy, or borrowed."""
+    text = text.strip()
+    name, has = outer(text)
+    if text.startswith("&") or name in COPIED:
+        return True
+    if name in COPIED_WITH:
+        return all(is_copied(crate, function, it) for it in has)
+    its = type_in(crate, name, function.file)
+    number = its.file.line(its.at) if its else 0
+    attributes = its.file.lines[its.file.first_above(number) - 1:number] if its else []
+    return any("Copy" in it for it in attributes) or "Copy" in head_of(function).generics.get(name, [])
 
 
 def plain(text):
@@ -255,7 +295,10 @@ class Place:
 
     def __init__(self, crate, function, at, depth=0):
         self.crate, self.function, self.at, self.depth = crate, function, at, depth
-        self.head, self.bounds = head_of(function), dict(head_of(function).generics)
+        self.head, self.bounds = head_of(function), {}
+        for bounds in head_of(function).generics.values():
+            self.bounds.update(belonging(crate, tuple(bounds)))
+        self.bounds.update(head_of(function).generics)
 
     def own(self, text):
         return re.sub(r"\bSelf\b", self.function.subject or "Self", text)
@@ -359,9 +402,31 @@ def above(crate, name):
 
 
 @functools.lru_cache(maxsize=None)
+def associated(crate, trait):
+    """The types that belong to a trait, as its `type File: FileCalls` has them, each with its bounds."""
+    its = type_in(crate, trait)
+    if not its or its.kind != "trait":
+        return {}
+    opened = its.file.code.find("{", its.at)
+    return bounds_in(",".join(re.findall(r"\btype ([^;=]+);", its.file.code[opened:its.file.behind(opened)])))
+
+
+@functools.lru_cache(maxsize=None)
+def belonging(crate, bounds):
+    """The types that belong to what has these bounds, each with its own."""
+    return joined(*[associated(crate, it) for bound in bounds for it in sorted(above(crate, bound))])
+
+
+@functools.lru_cache(maxsize=None)
 def impls_of(trait):
     """The types that have an impl of a trait."""
     return {it.subject for its in functions().values() for _, it in its if it.trait == trait}
+
+
+def standing_for(function):
+    """The functions that stand for a member of a trait, each in its impl; none for what is no member."""
+    is_member = function.owner.startswith(("pub trait", "trait"))
+    return [it for _, it in functions()[function.name] if is_member and it.trait == function.subject]
 
 
 def has_own(name, method):
@@ -430,16 +495,11 @@ def of_method(crate, function, site, caller):
     return owner_is(crate, function, place, "impl" if bounds else name)
 
 
-def brought_in(crate, function, site):
-    """Whether the `use` lines of a site's file bring in a function of no type."""
-    own = [it for it in site.file.functions if it.name == function.name and not it.subject]
-    if own:
-        return False
-    named = [root for root, rest in uses_of(site.file)
-             if re.search(rf"\b{function.name}\b", rest) or rest.endswith("*")]
+def brought_in(crate, name, into, file):
+    """Whether the `use` lines of a file of a crate bring in what has this name in the other crate."""
+    named = [root for root, rest in uses_of(file) if re.search(rf"\b{name}\b", rest) or rest.endswith("*")]
     inner = {"crate", "self", "super"}
-    return any(site.crate == crate if it in inner else it == crate or it != site.crate and re_exports(it, crate)
-               for it in named)
+    return any(into == crate if it in inner else it == crate or it != into and re_exports(it, crate) for it in named)
 
 
 @functools.lru_cache(maxsize=None)
@@ -466,9 +526,9 @@ def of_function(crate, function, site, caller):
         return SURE if is_home and (site.crate == crate or crate in sources.uses()[site.crate]) else None
     if site.is_value and is_bound(function.name, site, caller):
         return None
-    if site.file is function.file or brought_in(crate, function, site):
-        return SURE
-    return None
+    own = [it for it in site.file.functions if it.name == function.name and not it.subject]
+    is_brought = not own and brought_in(crate, function.name, site.crate, site.file)
+    return SURE if site.file is function.file or is_brought else None
 
 
 def conversions(function):
@@ -488,8 +548,7 @@ def conversions(function):
 def asked_in(crate, caller, wanted):
     """The places of a function's body with a `?` behind an error of this type."""
     file = caller.file
-    later = [it.line for it in file.functions if it.line > caller.line]
-    start, stop = file.starts[caller.line - 1], file.starts[later[0] - 1] if later else len(file.code)
+    start, stop = file.starts[caller.line - 1], (file.starts + [len(file.code)])[caller.last]
     for it in re.compile(r"\?(?=[\s;,.)\]}])").finditer(file.code, start, stop):
         text = before(file.code, it.start())
         found = Place(crate, caller, it.start()).type_of(text)
@@ -501,21 +560,38 @@ def asked_in(crate, caller, wanted):
             yield it.start(), NAME
 
 
+def known_as(function, site):
+    """By what a site is known as a call of a function; None where it isn't."""
+    crate, caller = homes()[function], around(site.file, site.at)
+    is_open = function.is_pub or bool(function.trait) or function.owner.startswith("pub trait")
+    if caller is None or not is_open and site.crate != crate:
+        return None
+    return (of_method if function.subject else of_function)(crate, function, site, caller)
+
+
 @functools.lru_cache(maxsize=None)
 def calls(function):
     """The calls of a function, each with the function that it stands in, those of which the type is known first."""
-    crate, found = homes()[function], {}
+    found = {}
     for call in conversions(function) if function.trait == "From" else []:
         found.setdefault((call.file.path, call.line), call)
-    is_open = function.is_pub or bool(function.trait) or function.owner.startswith("pub trait")
     for site in sites().get(function.name, []):
-        if not is_open and site.crate != crate:
-            continue
-        caller = around(site.file, site.at)
-        if caller is None or caller is function and not site.file.code[site.at:].startswith(function.name):
-            continue
-        how = (of_method if function.subject else of_function)(crate, function, site, caller)
+        how = known_as(function, site)
         if how is not None:
-            line = site.file.line(site.at)
+            line, caller = site.file.line(site.at), around(site.file, site.at)
             found.setdefault((site.file.path, line), Call(site.crate, caller, site.file, line, how))
     return sorted(found.values(), key=lambda it: [SURE, TRAIT, NAME].index(it.how))
+
+
+def callees(function):
+    """The functions that a function calls, each with the first of its lines that does, in order: those of which the
+    type is known, and the members of traits that it calls of a type that isn't fixed."""
+    file, found = function.file, {}
+    start, stop = file.starts[function.line - 1], (file.starts + [len(file.code)])[function.last]
+    for name in {it[1] for it in CALL.finditer(file.code, start, stop)} & set(functions()):
+        for site in (it for it in sites().get(name, []) if it.file is file and start <= it.at < stop):
+            for it in (one for _, one in functions()[name]):
+                how = known_as(it, site)
+                if how == SURE or how == TRAIT and "trait" in it.owner.split("<")[0]:
+                    found.setdefault(it, site.at)
+    return {it: file.line(found[it]) for it in sorted(found, key=found.get) if it is not function}

@@ -86,6 +86,15 @@ def meanings():
     return found
 
 
+def told_files(crate):
+    """The files of a crate that stand in a row of docs/ARCHITECTURE.md: its code, its definitions and its lemmas, but
+    for those that list others, and for laws and tests."""
+    lists, folder = ("lib", "main", "laws", "tests", "Lib"), f"{CRATES}/{crate}"
+    lemmas = (it for it in sources.files(f"{folder}/proofs", ".antt") if os.path.dirname(it) == f"{folder}/proofs")
+    found = [*sources.files(f"{folder}/src", ".rt"), *sources.files(f"{folder}/specs", ".antt"), *lemmas]
+    return [os.path.relpath(it, folder) for it in found if os.path.basename(it).partition(".")[0] not in lists]
+
+
 class Documents:
     """What the documents say of the crates, held to what these have."""
 
@@ -163,7 +172,8 @@ class Documents:
 
     def architecture(self):
         """docs/ARCHITECTURE.md: in the tables of structures, a row names files and laws of its crate, and a section of
-        docs/FORMATS.md; in the glossary the last cell names crates."""
+        docs/FORMATS.md, and each file of a crate stands in a row; in the glossary the last cell names crates."""
+        named = {}
         with open(os.path.join(TOP, "docs", "FORMATS.md"), encoding="utf-8") as text:
             sections = [line[3:].strip() for line in text if line.startswith("## ")]
         for number, _, head, cells in self.tables("docs/ARCHITECTURE.md"):
@@ -180,6 +190,9 @@ class Documents:
                 self.wrong.append(f"{place}: docs/FORMATS.md has no section {cells[4]}")
             laws = quoted(cells[5])
             self.wrong += [f"{place}: {crate} has no law {law}" for law in laws if self.clauses(crate, law) is None]
+            named.setdefault(crate, set()).update(files)
+        self.wrong += [f"docs/ARCHITECTURE.md: no row of {crate} names {it}" for crate, had in named.items()
+                       for it in told_files(crate) if it not in had]
 
     def defined(self):
         """docs/DEFINITIONS.md: the names in bold, but for plain words, are definitions of the crates and the files that
@@ -204,7 +217,7 @@ class Documents:
         """docs/ARCHITECTURE.md: a line of its figures that has a file names a call, its crate, and the call's file."""
         with open(os.path.join(TOP, "docs", "ARCHITECTURE.md"), encoding="utf-8") as lines:
             for number, line in enumerate(lines, 1):
-                hop = re.match(r"\W*([\w:]+) +(\w+) +(src/\w+\.rt)\b", line)
+                hop = re.match(r"\W*([\w:]+) +(\w+) +(src/[\w/]+\.rt)\b", line)
                 if hop:
                     self.hop(f"docs/ARCHITECTURE.md:{number}", *hop.groups())
 

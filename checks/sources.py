@@ -58,11 +58,16 @@ def named_in(owner):
 
 
 class Clause:
-    """A clause of a contract: its name, its text, its line, and the lines of the comment that it stands under."""
+    """A clause of a contract: its name, its text, its lines, and the lines of the comment that it stands under."""
 
     def __init__(self, kind, name, text, line, comment):
         self.kind, self.name, self.line, self.comment = kind, name or UNNAMED, line, comment
+        self.last = line + text.count("\n")
         self.text = " ".join(text.split()).partition("{")[2].rpartition("}")[0].strip()
+
+    def called(self):
+        """Its kind, and its name if it has one."""
+        return self.kind if self.name == UNNAMED else f"{self.kind} {self.name}"
 
     def is_frame(self):
         """Whether it says of what was lent that it is as it was, and nothing else."""
@@ -82,6 +87,8 @@ class Function:
         self.block = block
         self.trait, self.subject = named_in(owner)
         self.line, self.comment = file.line(item.start("name")), file.comment(item.start("name"))
+        # Its lines, from the first of its comment to its closing brace.
+        self.first, self.last = file.first_above(self.line), self.line
         self.clauses, self.contract_len, self.body_len = [], 0, 0
         self.ensures = []
         self.read(item.end())
@@ -96,7 +103,8 @@ class Function:
                 break
             self.add(*head.groups(), at + head.start(), behind)
             at = behind
-        self.body_len = max(0, line(behind - 1) - line(stop) - 1)
+        self.last = line(behind - 1)
+        self.body_len = max(0, self.last - line(stop) - 1)
         self.ensures = [it for it in self.clauses if it.kind == "ensures"]
         if self.clauses:
             self.contract_len = line(at - 1) - self.clauses[0].line + 1
@@ -121,11 +129,50 @@ class Function:
         return f"{os.path.relpath(self.file.path, TOP)}:{self.line}"
 
 
+class Item:
+    """An item of a file that is no function: a type, a trait, a constant, an `impl`, or what stands in one of these: a
+    ghost member, or a type that belongs to a trait."""
+
+    def __init__(self, file, kind, name, begin, end):
+        # Where its text begins and ends; and its lines, from the first of its comment to its last.
+        self.file, self.kind, self.name, self.begin, self.end = file, kind, name, begin, end
+        self.line, self.last = file.line(begin), file.line(end - 1)
+        self.first, self.comment = file.first_above(self.line), file.comment(begin)
+        self.is_outer = not file.lines[self.line - 1].startswith(" ")
+
+    def head(self):
+        """What stands before its block, on one line."""
+        return " ".join(self.file.code[self.begin:self.file.stop(self.begin)].split()).rstrip(",")
+
+    def block(self):
+        """Where its block begins and ends."""
+        opened = self.file.stop(self.begin)
+        return opened, self.file.behind(opened)
+
+    def trait(self):
+        """The trait that an `impl` is of, or that it is."""
+        return self.name if self.kind == "trait" else named_in(self.head())[0]
+
+    def owner(self):
+        """The item in which it stands, or None."""
+        above = [it for it in self.file.items if it.line < self.line and self.last <= it.last]
+        return max(above, key=lambda it: it.line, default=None)
+
+    def called(self):
+        return f"{self.kind} {self.name}"
+
+    def place(self):
+        return f"{os.path.relpath(self.file.path, TOP)}:{self.line}"
+
+
 class File:
     """A file of code, with its functions."""
 
     ITEMS = re.compile(r"(?m)^(?P<owner>(?:pub(?:\([^)]*\))?\s+)?(?:unsafe\s+)?(?:impl|trait)\b[^{;]*)\{"
                        r"|^[ \t]*(?P<pub>pub\s+)?(?:pub\([^)]*\)\s+)?(?:const\s+)?fn\s+(?P<name>\w+)")
+
+    HEADS = re.compile(r"(?m)^[ \t]*(?:pub(?:\([^)]*\))?\s+)?(?:unsafe\s+)?"
+                       r"(struct|enum|trait|const(?!\s+fn)|static|type|impl|ghost(?!\s+use))\b(?:\s*<|\s*([\w']*))")
 
     def __init__(self, path):
         self.path, self.text = path, read(path)
@@ -154,6 +201,35 @@ class File:
             else:
                 is_in = item.start() < until
                 yield Function(self, item, owner if is_in else "", (begin, until) if is_in else (0, 0))
+
+    @functools.cached_property
+    def items(self):
+        """The items that are no functions, outside of these."""
+        found = []
+        for head in self.HEADS.finditer(self.code):
+            begin, number = head.start(1), self.line(head.start(1))
+            if any(it.line <= number <= it.last for it in self.functions):
+                continue
+            has_block = head[1] in ("struct", "enum", "trait", "impl", "ghost")
+            end = self.behind(self.stop(begin)) if has_block else self.semicolon(begin)
+            name = named_in(" ".join(self.code[begin:self.stop(begin)].split()))[1] if head[1] == "impl" else head[2]
+            found.append(Item(self, head[1], name, begin, end))
+        return found
+
+    def semicolon(self, at):
+        """The place behind the next semicolon outside of brackets."""
+        depth = 0
+        for it in re.compile(r"[(\[{}\]);]").finditer(self.code, at):
+            depth += (it[0] in "([{") - (it[0] in ")]}")
+            if it[0] == ";" and not depth:
+                return it.end()
+        return len(self.code)
+
+    def first_above(self, number):
+        """The first line of the comment and the attributes above a line, or itself."""
+        while number > 1 and re.match(r"\s*(//(?!!)|#\[)", self.lines[number - 2]):
+            number -= 1
+        return number
 
     def line(self, at):
         """The number of the line with this place."""

@@ -1,0 +1,188 @@
+"""Finds the rows and the lines of the documents that tell of a function, a definition, a file or a name of the code."""
+import collections
+import functools
+import os
+import re
+
+import calls
+import contracts
+import members
+import sources
+import stated
+import tested
+from sources import CRATES, TOP
+
+# The documents whose lines name files and calls of the code as it goes.
+PAGES = ("README.md", "docs/ARCHITECTURE.md", "docs/CONTRIBUTING.md", "docs/FORMATS.md", "docs/MANUAL.md",
+         "docs/DECISIONS.md")
+
+# A line of a document: its place, the heading that it stands under, its text, what it has in backticks, and the crates
+# that it names.
+Line = collections.namedtuple("Line", "place heading text words crates")
+
+
+def page(name):
+    return stated.lines_of(os.path.join(TOP, name))
+
+
+# Rows on functions and on definitions.
+
+@functools.lru_cache(maxsize=None)
+def facts():
+    """The rows of docs/PROVED.md by the functions that they name, each with the clauses that it names."""
+    found = {}
+    for number, crate, _, names in contracts.facts(page("docs/PROVED.md")):
+        for call in names[0] if names else []:
+            for it in contracts.functions(crate, call):
+                found.setdefault(it, {})[number] = names[2] if len(names) > 2 else []
+    return found
+
+
+def rows_of(function, clause=None):
+    """The rows of docs/PROVED.md on a function, or on a clause of it, those that follow each other as one."""
+    numbers = sorted(it for it, clauses in facts().get(function, {}).items() if clause is None or clause in clauses)
+    for first in (it for it in numbers if it - 1 not in numbers):
+        last = first
+        while last + 1 in numbers:
+            last += 1
+        yield f"docs/PROVED.md:{first}" + (f" to {last}" if last > first else "")
+
+
+def meaning_of(name, crate, path):
+    """The lines of docs/DEFINITIONS.md that tell a definition: by its name, its crate and, where one is named, its
+    file."""
+    return [f"docs/DEFINITIONS.md:{number}" for number, names, crates, files in contracts.meanings()
+            if name in names and crate in crates and (not files or os.path.basename(path) in files)]
+
+
+def meanings_of(definitions):
+    """The lines of docs/DEFINITIONS.md on definitions, each with the names that it tells."""
+    found = {}
+    for it in definitions:
+        for line in meaning_of(it.name, it.crate, it.path):
+            found.setdefault(line, []).append(it.name)
+    return [f"{line} ({', '.join(dict.fromkeys(names))})" for line, names in found.items()]
+
+
+def rows_above(function):
+    """The nearest functions with rows of docs/PROVED.md from which calls lead to a function; of a member of a trait
+    without rows the trait's."""
+    seen, level = {function}, [function]
+    while level:
+        steps = (it for one in level for it in tested.steps_up(one) if not tested.is_test_file(it.crate, it.file.path))
+        level = list(dict.fromkeys(it.function for it in steps if it.function not in seen))
+        seen.update(level)
+        found = [one for it in level for one in (it, members.member_of(it)) if one in facts()]
+        if found:
+            return list(dict.fromkeys(found))[:3]
+    return []
+
+
+def has_laws(file):
+    """Whether a file has laws: `src/laws.rt`, or one such as `src/session_laws.rt`."""
+    return file.module == "laws" or file.module.endswith("_laws")
+
+
+def laws_on(function, member):
+    """The laws of a function's crate that say something of what its impl gives."""
+    said = {(it.name, it.path) for text in members.given(function, member).values()
+            for it in stated.stated_by(function.file, text)}
+    return [it for it in sources.crates()[calls.homes()[function]].functions if has_laws(it.file) and said
+            and any((one.name, one.path) in said for clause in it.clauses
+                    for one in stated.stated_by(it.file, clause.text))]
+
+
+# Structures, and other lines.
+
+def structures(crate, path=None):
+    """The rows of docs/ARCHITECTURE.md that name the file, or else the crate, with the headings of docs/FORMATS.md that
+    they have; and the line that tells what the crate is."""
+    its = path and os.path.relpath(path, f"{CRATES}/{crate}")
+    for number, _, head, cells in contracts.tables(page("docs/ARCHITECTURE.md")):
+        if head[0] == "Structure" and f"`{crate}`" in cells[1] and (path is None or f"`{its}`" in cells[2]):
+            yield f"docs/ARCHITECTURE.md:{number} ({cells[0]})"
+            if cells[4]:
+                yield f"docs/FORMATS.md, {cells[4]}"
+    if path is None:
+        yield from (f"docs/ARCHITECTURE.md:{number} (the crate)"
+                    for number, it in enumerate(page("docs/ARCHITECTURE.md"), 1) if it.startswith(f"- `{crate}`: "))
+
+
+@functools.lru_cache(maxsize=None)
+def lines():
+    """The lines of the documents but for the rows of structures, of which `structures` tells."""
+    rows = {number for number, _, head, _ in contracts.tables(page("docs/ARCHITECTURE.md")) if head[0] == "Structure"}
+    found = []
+    for name in PAGES:
+        heading = ""
+        for number, text in enumerate(page(name), 1):
+            heading = text.lstrip("# ") if text.startswith("#") else heading
+            if name != "docs/ARCHITECTURE.md" or number not in rows:
+                crates = [it for it in re.findall(r"\w+", text) if it in sources.uses()]
+                found.append(Line(f"{name}:{number}", heading, text, contracts.quoted(text), crates))
+    return found
+
+
+def told(found):
+    """These lines, each with its heading, and those below one heading of a document as one."""
+    by_heading = {}
+    for it in found:
+        by_heading.setdefault((it.place.partition(":")[0], it.heading), []).append(it.place.partition(":")[2])
+    return [f"{name}:{', '.join(dict.fromkeys(its))} ({heading})" for (name, heading), its in by_heading.items()]
+
+
+def names_file(line, crate, path):
+    """Whether a line names a file, by its path or, where its crate is the last that stands before it and has it, by its
+    name alone."""
+    name, its = os.path.basename(path), os.path.relpath(path, CRATES)
+    for it in re.finditer(rf"([\w/]*)\b{re.escape(name)}\b", line.text):
+        if "/" in it[1] and (it[0].endswith(its) or re.match(r"\W*[\w:]+ +" + crate + " +src/", line.text)):
+            return True
+        before = [one for one in re.findall(r"\w+", line.text[:it.start()]) if one in sources.uses()
+                  and os.path.exists(f"{CRATES}/{one}/src/{name}")]
+        if not it[1] and before and before[-1] == crate and path == f"{CRATES}/{crate}/src/{name}":
+            return True
+    return False
+
+
+def on_file(crate, path):
+    """The lines that name a file."""
+    return told(it for it in lines() if os.path.basename(path) in it.text and names_file(it, crate, path))
+
+
+def on_function(crate, function):
+    """The lines that name a function, with its crate or, where no other crate has one of its name, without."""
+    name = function.called()
+    others = [it for it in sources.uses() if it != crate and contracts.functions(it, name)]
+    hop = re.compile(rf"\W*{re.escape(name)} +{crate} +src/")
+    return told(it for it in lines() if hop.match(it.text) or name in it.words
+                and (crate in it.crates or not others) and function in contracts.functions(crate, name))
+
+
+def on_name(crate, name, is_only):
+    """The lines that name a type, a constant or a case, with its crate or, where this is the only one, without."""
+    return told(it for it in lines() if name in it.words and (is_only or crate in it.crates))
+
+
+def on_case(type_name, case):
+    """The lines that name a case of a type, and the type."""
+    return told(it for it in lines() if f"{type_name}::{case}" in it.words or {type_name, case} <= set(it.words))
+
+
+# Tests.
+
+def whole_paths(text):
+    """A text on files, with the whole path of each file that is said to stand beside the one before it."""
+    words, folder = text.split(" "), ""
+    for number, word in enumerate(words):
+        folder = (re.match(r"\W*(crates/[\w/]+/)(?=\w+\.rt)", word) or ["", folder])[1]
+        words[number] = re.sub(r"(?<![\w/])\w+\.rt\b", lambda it: folder + it[0], word) if folder else word
+    return " ".join(words)
+
+
+def on_tests(path):
+    """The lines of docs/MANUAL.md that tell what the tests of a file show, and those of docs/ARCHITECTURE.md that name
+    it as where a crate's calls are tested."""
+    found = [it for it in lines() if os.path.relpath(path, TOP) in whole_paths(it.text)]
+    headings = [f"tests of {it.words[0]}" if it.text.startswith("- `") else it.heading for it in found]
+    return [f"{it.place} ({heading})" for it, heading in zip(found, headings)]
