@@ -258,6 +258,19 @@ def fields(its):
     return {it[1]: " ".join(it[2].split()) for it in found if it}
 
 
+@functools.lru_cache(maxsize=None)
+def cases(its):
+    """The cases of an enum that have types and no names for these, with these types."""
+    code = its.file.code
+    generics, at = generics_at(code, its.at)
+    opened = code.find("{", at)
+    if its.kind != "enum" or generics:
+        return {}
+    found = (re.match(r"(?:#\[[^\]]*\]\s*)*(\w+)\((.*)\)$", it, re.DOTALL)
+             for it in parts(code[opened + 1:its.file.behind(opened) - 1]))
+    return {it[1]: parts(it[2]) for it in found if it}
+
+
 def before(code, at):
     """The expression that ends at this place, such as `self.parts[i]` in front of a dot."""
     place = at
@@ -275,7 +288,7 @@ def before(code, at):
         elif last.isalnum() or last == "_":
             place = re.search(r"\w+$", code[max(0, place - 80):place]).start() + max(0, place - 80)
             front = code[:place][-200:].rstrip()
-            if front.endswith("."):
+            if front.endswith(".") and not front.endswith(".."):
                 place = max(0, place - 200) + len(front) - 1
             elif front.endswith("::"):
                 place = place - 2
@@ -311,7 +324,8 @@ class Place:
         for it in re.finditer(rf"\blet (?:mut )?{word}(?:: (?P<type>[^=;]+))? = (?P<let>[^;{{]*)"
                               rf"|\b(?:Some|Ok|Err)\((?:mut |ref )*{word}\) = (?P<in>[^;{{]*)"
                               rf"|\bfor (?:mut )?(?:\(\w+, )?&?{word}\)? in (?P<each>[^{{]*)"
-                              rf"|(?P<odd>\|[^|\n;]*\b{word}\b[^|\n;]*\||[(,] ?(?:mut |ref )?{word}\b[^\n;]*=>)", body):
+                              rf"|(?P<odd>\|[^|\n;]*\b{word}\b[^|\n;]*\|)"
+                              rf"|(?P<arm>[(,] ?(?:mut |ref )?{word}\b[^\n;]*=>)", body):
             last = it
         if last is None:
             kind = self.head.params.get(name)
@@ -320,10 +334,41 @@ class Place:
             return self.own(last["type"])
         if last["odd"]:
             return None
+        if last["arm"]:
+            return self.in_arm(start + last.start() + 1)
         there = Place(self.crate, self.function, start + last.start(), self.depth + 1)
         found = there.type_of(last["let"] or last["in"] or last["each"] or "")
         self.bounds.update(there.bounds)
         return inside(found) if found and not last["let"] else found
+
+    def in_arm(self, at):
+        """The type of what stands alone at this place of a pattern, as `Type::Case(_, it)` and `Some(it)` have it at
+        the head of an arm; or None."""
+        code = self.function.file.code
+        line = code.rfind("\n", 0, at) + 1
+        case = re.search(r"(?:(\w+)::)?([A-Z]\w*)\(([^()]*)$", code[line:at])
+        if not case:
+            return None
+        if case[1]:
+            its = type_in(self.crate, self.own(case[1]), self.function.file)
+            has = cases(its).get(case[2], []) if its else []
+        else:
+            has = self.matched(line)
+            has = has[case[2] == "Err":] if case[2] in ("Some", "Ok", "Err") else []
+        number = case[3].count(",")
+        return has[number] if number < len(has) else None
+
+    def matched(self, line):
+        """The types that what is matched has, as an `Option` or a `Result` does, where an arm has this line."""
+        code, start = self.function.file.code, self.function.file.starts[self.function.line - 1]
+        indent = re.compile(r" *").match(code, line)[0]
+        found = list(re.compile(rf"\bmatch ([^{{;]*) \{{\n(?={indent}\S)").finditer(code[:line], start))
+        if not found:
+            return []
+        there = Place(self.crate, self.function, found[-1].start(), self.depth + 1)
+        kind = there.type_of(found[-1][1])
+        self.bounds.update(there.bounds)
+        return outer(kind)[1] if kind else []
 
     def named(self, path, name):
         """What a call of this path and name gives, or None."""
@@ -423,22 +468,24 @@ def impls_of(trait):
     return {it.subject for its in functions().values() for _, it in its if it.trait == trait}
 
 
+def is_member(function):
+    """Whether a function is a member of a trait."""
+    return re.match(r"(?:pub(?:\([^)]*\))? )?trait\b", function.owner) is not None
+
+
 def standing_for(function):
     """The functions that stand for a member of a trait, each in its impl; none for what is no member."""
-    is_member = function.owner.startswith(("pub trait", "trait"))
-    return [it for _, it in functions()[function.name] if is_member and it.trait == function.subject]
+    return [it for _, it in functions()[function.name] if is_member(function) and it.trait == function.subject]
 
 
 def has_own(name, method):
     """Whether a type has a method of this name that is of no trait."""
-    return any(it.subject == name and not it.trait and not it.owner.startswith(("pub trait", "trait"))
-               for _, it in functions()[method])
+    return any(it.subject == name and not it.trait and not is_member(it) for _, it in functions()[method])
 
 
 def owner_is(crate, function, place, name):
     """By what a call on this type, or by it as `Type::name`, is known as one of the function; None where it isn't."""
     its = head_of(function).generics if function.subject == name else {}
-    is_member = function.owner.startswith(("pub trait", "trait"))
     bounds = place.bounds.get(name)
     if bounds is None:
         name = meant(place.crate, name, place.function.file)
@@ -446,13 +493,13 @@ def owner_is(crate, function, place, name):
         return None
     if bounds is not None and name not in its or name == "impl":
         wide = set().union(*[above(place.crate, it) for it in bounds or []])
-        return TRAIT if (function.subject if is_member else function.trait) in wide - {""} else None
+        return TRAIT if (function.subject if is_member(function) else function.trait) in wide - {""} else None
     if function.trait and has_own(name, function.name):
         return None
     if name == function.subject:
         mine, other = type_in(crate, name, function.file), type_in(place.crate, name, place.function.file)
         return SURE if not mine or not other or mine == other else None
-    is_of = is_member and name in impls_of(function.subject) and not has_own(name, function.name)
+    is_of = is_member(function) and name in impls_of(function.subject) and not has_own(name, function.name)
     return SURE if is_of else None
 
 
@@ -563,7 +610,7 @@ def asked_in(crate, caller, wanted):
 def known_as(function, site):
     """By what a site is known as a call of a function; None where it isn't."""
     crate, caller = homes()[function], around(site.file, site.at)
-    is_open = function.is_pub or bool(function.trait) or function.owner.startswith("pub trait")
+    is_open = function.is_pub or bool(function.trait) or is_member(function)
     if caller is None or not is_open and site.crate != crate:
         return None
     return (of_method if function.subject else of_function)(crate, function, site, caller)
@@ -592,6 +639,6 @@ def callees(function):
         for site in (it for it in sites().get(name, []) if it.file is file and start <= it.at < stop):
             for it in (one for _, one in functions()[name]):
                 how = known_as(it, site)
-                if how == SURE or how == TRAIT and "trait" in it.owner.split("<")[0]:
+                if how == SURE or how == TRAIT and is_member(it):
                     found.setdefault(it, site.at)
     return {it: file.line(found[it]) for it in sorted(found, key=found.get) if it is not function}

@@ -39,13 +39,16 @@ def facts():
 
 
 def rows_of(function, clause=None):
-    """The rows of docs/PROVED.md on a function, or on a clause of it, those that follow each other as one."""
+    """The rows of docs/PROVED.md on a function, or on a clause of it, on one line, those that follow each other as one;
+    nothing where there are none."""
     numbers = sorted(it for it, clauses in facts().get(function, {}).items() if clause is None or clause in clauses)
+    found = []
     for first in (it for it in numbers if it - 1 not in numbers):
         last = first
         while last + 1 in numbers:
             last += 1
-        yield f"docs/PROVED.md:{first}" + (f" to {last}" if last > first else "")
+        found.append(f"{first} to {last}" if last > first else str(first))
+    return f"docs/PROVED.md:{', '.join(found)}" if found else ""
 
 
 def meaning_of(name, crate, path):
@@ -129,6 +132,14 @@ def told(found):
     for it in found:
         by_heading.setdefault((it.place.partition(":")[0], it.heading), []).append(it.place.partition(":")[2])
     return [f"{name}:{', '.join(dict.fromkeys(its))} ({heading})" for (name, heading), its in by_heading.items()]
+
+
+def on_command(said):
+    """What docs/MANUAL.md and docs/FORMATS.md have of a command, where a comment begins with its words."""
+    word = re.match(r"(?:The command )?`(\w+)[^`]* [A-Z:]", said)
+    pages = ("docs/MANUAL.md", "docs/FORMATS.md")
+    return told(it for it in lines() if word and it.place.startswith(pages)
+                and re.match(rf"(?:#+|\|) `{word[1]}\b", it.text))
 
 
 def names_file(line, crate, path):

@@ -46,12 +46,18 @@ def impls_of(trait):
     return [it for _, file in calls.every() for it in file.items if it.kind == "impl" and it.trait() == trait]
 
 
+def impls_for(item):
+    """The impls of traits for a type, in its file, but for that by which contracts see it."""
+    its = [it for it in item.file.items if it.kind == "impl" and it.name == item.name]
+    return [it for it in its if it.trait() not in ("", "Model")]
+
+
 # What the contract of a function leans on.
 
 def member_of(function):
     """The member of a trait that a function stands for: that of a public trait, or of one of its own file."""
     own = [it for it in function.file.functions if it.name == function.name and it.subject == function.trait
-           and "trait" in it.owner.split("<")[0]]
+           and calls.is_member(it)]
     return sources.members().get((function.trait, function.name)) or (own[0] if own and function.trait else None)
 
 
@@ -84,7 +90,7 @@ def traits_of(crate, function):
     """The trait of a member, the traits of the type parameters of a function, and those of what belongs to these or to
     the trait: each with what is of that type, as `D` or `O.File`."""
     bounds = dict(calls.head_of(function).generics)
-    if function.owner.startswith(("pub trait", "trait")):
+    if calls.is_member(function):
         yield function.subject, ""
         bounds["Self"] = [function.subject]
     for name, its in bounds.items():

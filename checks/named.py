@@ -83,6 +83,12 @@ def use_at(file, line):
                  if file.line(it.start()) <= line <= file.line(it.end() - 1)), None)
 
 
+def users(file, word):
+    """The functions and items of a file that use a word which it brings in."""
+    found = re.finditer(rf"(?<![\w'])({re.escape(word)})(?![\w'])", without_uses(file))
+    return list(dict.fromkeys(it for it in (found_at(file, file.line(one.start())) for one in found) if it))
+
+
 def constant_of(crate, file, name):
     """The constant that a file means by a name, or None."""
     roots = [root for root, rest in calls.uses_of(file) if re.search(rf"\b{name}\b", rest)]
@@ -129,7 +135,7 @@ class Named:
         return its is not None and its.file is self.item.file
 
     @functools.cached_property
-    def holders(self):
+    def places(self):
         """The functions and items in which it is named, each with its crate and the lines."""
         found = {}
         for crate, file in self.scope():
@@ -144,24 +150,35 @@ class Named:
 
     def code(self):
         """Those that are no tests, with the lines."""
-        return {it: lines for it, (crate, lines) in self.holders.items()
+        return {it: lines for it, (crate, lines) in self.places.items()
                 if not tested.is_test_file(crate, it.file.path)}
 
-    def makers(self):
-        """The functions of the code that name it elsewhere than in the arm of a `match`."""
+    def matching(self, function):
+        """Of each line of a function that names it, whether that is the arm of a `match`."""
         arm = re.compile(rf"{self.name.pattern}[^=]*=>|^\s*\|")
-        return [it for it, lines in self.code().items() if isinstance(it, sources.Function)
-                and any(not arm.search(it.file.lines[line - 1]) for line in lines)]
+        return [arm.search(function.file.lines[line - 1]) is not None for line in self.code()[function]]
+
+    def functions(self):
+        """The functions of the code that name it: of a case those that make it, if some do; of a type those first that
+        go by its cases, and of these those that change what they are called on."""
+        found = [it for it in self.code() if isinstance(it, sources.Function)]
+        if self.case:
+            return [it for it in found if not all(self.matching(it))] or found
+        return sorted(found, key=lambda it: (not any(self.matching(it)), "mut" not in calls.head_of(it).own))
+
+    def holders(self):
+        """The types that have it in a field."""
+        return [it for it in self.code() if not isinstance(it, sources.Function) and it.kind in ("struct", "enum")]
 
     def specs(self):
-        """The lines of specs that name it."""
+        """The files of specs that name it, each with the numbers of the lines."""
         above = [it for it in sources.uses() if self.crate in tested.reach(it)]
         owner = self.item.name if self.case else ""
         return list(stated.specs_naming(above, self.crate, self.case or self.item.name, owner))
 
     def tests(self, constants=()):
         """The functions of tests that name it, or a constant that does: each with these constants, and its lines."""
-        for it, (crate, lines) in self.holders.items():
+        for it, (crate, lines) in self.places.items():
             if tested.is_test_file(crate, it.file.path):
                 if isinstance(it, sources.Function):
                     yield it, constants, lines

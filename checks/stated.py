@@ -32,11 +32,15 @@ def comment_above(lines, number):
 LEANS = re.compile(r"(?i)(the same|so |and |they |it |no two|one that|there (is|are|isn't)\b|their |its )")
 
 
+# What stands in front of the name of a definition, as a pattern.
+WORDS = r"pub|abbrev|unfoldable|opaque|record|data"
+
+
 @functools.lru_cache(maxsize=None)
 def definition(path, name):
     """The line of a file of specs that defines a name, and the comment above it; where that leans on the one before it,
     as by `the same`, this too; and of a member without one, what stands above what it is a member of."""
-    head = re.compile(rf"\s*(?:(?:pub|abbrev|unfoldable|opaque|record|data)\s+)*{re.escape(name)}\s*[:({{]")
+    head = re.compile(rf"\s*(?:(?:{WORDS})\s+)*{re.escape(name)}\s*[:({{]")
     lines = lines_of(path)
     for number, line in enumerate(lines):
         if head.match(line) and ":" in " ".join(lines[number:number + 9]):
@@ -46,7 +50,7 @@ def definition(path, name):
             is_member = bool(indent) and not re.match(r"\s*(pub\s+)?module\b", owner)
             own = "" if is_member else indent
             tops = [it for it in range(number)
-                    if re.match(rf"{own}(?:pub|abbrev|unfoldable|opaque|record|data)\b", lines[it])]
+                    if re.match(rf"{own}(?:{WORDS})\b", lines[it])]
             if tops and is_member and not comment_above(lines, number):
                 return number + 1, f"(a member) {comment_above(lines, tops[-1])}"
             said = [comment_above(lines, number)]
@@ -145,6 +149,16 @@ def of_others(named):
         if crate not in sources.uses() and name and re.match(r"\w", name):
             found.setdefault(f"{crate} {module}", []).append(name)
     return {module: list(dict.fromkeys(names)) for module, names in found.items()}
+
+
+def defined_at(path, line):
+    """The name of the definition of a file of specs, or of a module in it, in which a line stands."""
+    for indent in ("", "  ", "    "):
+        heads = (it for it in reversed(lines_of(path)[:line]) if re.match(rf"{indent}[^\s-]", it))
+        found = re.match(rf"\s*(?:(?:{WORDS})\s+)*(\S+)", next(heads, ""))
+        if found and found[1] != "module":
+            return found[1]
+    return ""
 
 
 def specs_naming(crates, crate, name, owner=""):

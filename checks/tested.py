@@ -20,6 +20,8 @@ MOST = 3000
 ROW = "; its row"
 # The head of an arm of a `match`, whose fields may have a line each.
 ARM = re.compile(r"( *)(?:\w+::)*([A-Z]\w*)::([A-Z]\w*)\b(?:.*=>| \{\n(?: *[\w:, ]+\n)+ *\} =>)")
+# The head of an arm for what no other arm has.
+REST = re.compile(r"( *)(?:_|[a-z]\w*)(?: if .*)? =>")
 # A call of a command stands here, in the arm of the command's case.
 COMMANDS = f"{CRATES}/vt_commands/src/program.rt"
 
@@ -84,11 +86,13 @@ def tables(function):
 
 @functools.lru_cache(maxsize=None)
 def arm_at(call):
-    """The type and the case of the `match` in whose arm a call stands, or nothing."""
+    """The type and the case of the `match` in whose arm a call stands, or nothing; that of the rest has no case."""
     file = call.file
     indent = len(file.lines[call.line - 1]) - len(file.lines[call.line - 1].lstrip())
     for number in range(call.line, call.function.line, -1):
-        arm = ARM.match(file.code, file.starts[number - 1])
+        rest, arm = REST.match(file.lines[number - 1]), ARM.match(file.code, file.starts[number - 1])
+        if rest and len(rest[1]) <= indent:
+            return "", ""
         if arm and len(arm[1]) <= indent:
             return arm[2], arm[3]
     return "", ""
