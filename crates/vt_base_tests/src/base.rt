@@ -47,8 +47,7 @@ fn scores() -> Result<(), Fail> {
         "the short score of abc",
         ShortScorer.score(b"abc") == Score(short),
     );
-    rows.all()?;
-    Ok(())
+    rows.passes()
 }
 
 /// The number that the block type of this number has, if it is one.
@@ -74,8 +73,7 @@ fn kinds() -> Result<(), Fail> {
     rows.is("the number of a root", Kind::ROOT.wire() == 1);
     rows.is("the number of a directory", Kind::DIRECTORY.wire() == 2);
     rows.is("the number of data", Kind::DATA.wire() == 13);
-    rows.all()?;
-    Ok(())
+    rows.passes()
 }
 
 const DAMAGE: Why = Why::Damaged {
@@ -109,8 +107,7 @@ fn texts() -> Result<(), Fail> {
     for (row, (why, text)) in TEXTS.iter().enumerate() {
         rows.nth(row, *text, why_text(why) == *text);
     }
-    rows.all()?;
-    Ok(())
+    rows.passes()
 }
 
 /// What a copy of `abc` tells.
@@ -145,8 +142,7 @@ fn text_rows(text: Text) -> Rows {
 #[test]
 fn bytes_and_text(rt: HostRuntime) -> Result<(), Fail> {
     bytes_rows(Bytes::copy_of(rt.alloc(), b"abc")?).all()?;
-    text_rows(Text::copy_of(rt.alloc(), b"main")?).all()?;
-    Ok(())
+    text_rows(Text::copy_of(rt.alloc(), b"main")?).passes()
 }
 
 const KEY: Key = Key {
@@ -191,8 +187,7 @@ fn keys() -> Result<(), Fail> {
     rows.is("the key of an entry", info.key == entry.key);
     rows.is("the size of an entry", info.size == entry.size);
     rows.is("the place of an entry", info.place == entry.place);
-    rows.all()?;
-    Ok(())
+    rows.passes()
 }
 
 /// A score as text.
@@ -202,8 +197,7 @@ fn a_score_is_printed(rt: HostRuntime) -> Result<(), Fail> {
     let digits = b"a9993e364706816aba3e25717850c26c9cd0d89d";
     let mut rows = Rows::new();
     rows.is("the digits of a score", is(text, digits));
-    rows.all()?;
-    Ok(())
+    rows.passes()
 }
 
 /// Whether a text has these bytes.
@@ -242,8 +236,7 @@ fn score_texts() -> Result<(), Fail> {
     for (row, text) in SPELLED.iter().enumerate() {
         rows.nth(row, "the score of a text", parse_score(text) == Ok(abc));
     }
-    rows.all()?;
-    Ok(())
+    rows.passes()
 }
 
 #[test]
@@ -257,8 +250,7 @@ fn texts_of_no_score() -> Result<(), Fail> {
             parse_score(text) == Err(bad),
         );
     }
-    rows.all()?;
-    Ok(())
+    rows.passes()
 }
 
 /// A scorer may cross threads, be shared by them, and be let go.

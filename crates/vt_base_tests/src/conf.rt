@@ -56,8 +56,7 @@ fn a_configuration_is_read(rt: HostRuntime) -> Result<(), Fail> {
         Ok(conf) => short_rows(&conf),
         Err(_) => unread(),
     };
-    rows.all()?;
-    Ok(())
+    rows.passes()
 }
 
 /// Whether a configuration says what each of its lines says.
@@ -99,8 +98,7 @@ fn a_configuration_with_comments_is_read(rt: HostRuntime) -> Result<(), Fail> {
         Ok(conf) => long_rows(&conf),
         Err(_) => unread(),
     };
-    rows.all()?;
-    Ok(())
+    rows.passes()
 }
 
 /// Why a configuration is refused, if it is.
@@ -166,8 +164,7 @@ fn a_configuration_is_refused(rt: HostRuntime) -> Result<(), Fail> {
             is_refused(rt.alloc(), text, *line, *why),
         );
     }
-    rows.all()?;
-    Ok(())
+    rows.passes()
 }
 
 /// The lines of 64 files of each kind, then spaces up to so many bytes, and then this end.
@@ -215,8 +212,7 @@ fn a_configuration_has_limits(rt: HostRuntime) -> Result<(), Fail> {
     rows.is("one file more", more);
     rows.is("65,536 bytes", full);
     rows.is("one byte more", over);
-    rows.all()?;
-    Ok(())
+    rows.passes()
 }
 
 /// The number that a text says, or the place of the byte that can't stand there.
@@ -248,8 +244,7 @@ fn numbers_are_read() -> Result<(), Fail> {
     for (row, (text, number)) in NUMBERS.iter().enumerate() {
         rows.nth(row, "the number", read_number(text) == *number);
     }
-    rows.all()?;
-    Ok(())
+    rows.passes()
 }
 
 const SIZES: [(&[u8], Option<u64>); 10] = [
@@ -271,8 +266,7 @@ fn sizes_are_read() -> Result<(), Fail> {
     for (row, (text, size)) in SIZES.iter().enumerate() {
         rows.nth(row, "the size", parse_size(text) == *size);
     }
-    rows.all()?;
-    Ok(())
+    rows.passes()
 }
 
 /// The port of the address that a text says, if it says one.
@@ -302,8 +296,7 @@ fn addresses_are_read(rt: HostRuntime) -> Result<(), Fail> {
     for (row, (text, wanted)) in ADDRESSES.iter().enumerate() {
         rows.nth(row, "the address's port", port(alloc, text) == Ok(*wanted));
     }
-    rows.all()?;
-    Ok(())
+    rows.passes()
 }
 
 /// The room for blocks, where there are sections.
@@ -332,8 +325,7 @@ fn rooms_for_blocks() -> Result<(), Fail> {
         let found = room_for_blocks(*mem, *sections);
         rows.nth(row, "the room for blocks", found == Some(*room));
     }
-    rows.all()?;
-    Ok(())
+    rows.passes()
 }
 
 /// The room for entries, where there are sections.
@@ -361,6 +353,5 @@ fn rooms_for_entries() -> Result<(), Fail> {
         let found = room_for_entries(*icmem, *sections);
         rows.nth(row, "the room for entries", found == Some(*room));
     }
-    rows.all()?;
-    Ok(())
+    rows.passes()
 }

@@ -93,6 +93,5 @@ fn see(alloc: Global, dialer: MemDialer) -> Rows {
 #[test]
 fn a_server_is_dialled_once(rt: HostRuntime) -> Result<(), Fail> {
     let dialer = dialer(rt.alloc())?;
-    see(rt.alloc(), dialer).all()?;
-    Ok(())
+    see(rt.alloc(), dialer).passes()
 }

@@ -22,8 +22,7 @@ fn fields_stand_high_byte_first() -> Result<(), Fail> {
         buf == *b"\xeeVCLP\x0d\x01\x02\x03\x04\x05\x06\x07\x08\
             \x09\x0a\x0b\x0c\x0d\x0e\x0f\x10\x11\x12\x13\x14",
     );
-    rows.all()?;
-    Ok(())
+    rows.passes()
 }
 
 #[test]
@@ -36,8 +35,7 @@ fn a_field_leaves_what_is_behind_it() -> Result<(), Fail> {
         "the bytes around the field",
         buf == [0xee, 0xee, 0xff, 0xfe, 0xee, 0xee, 0xee, 0xee],
     );
-    rows.all()?;
-    Ok(())
+    rows.passes()
 }
 
 #[test]
@@ -49,8 +47,7 @@ fn fields_are_filled_up_with_zeros() -> Result<(), Fail> {
     );
     rows.is("a field that is full", filled::<4>(b"VPRT") == *b"VPRT");
     rows.is("a field of no bytes", filled::<3>(b"") == [0; 3]);
-    rows.all()?;
-    Ok(())
+    rows.passes()
 }
 
 #[test]
@@ -61,6 +58,5 @@ fn fields_are_read_at_their_places() -> Result<(), Fail> {
     rows.is("four bytes", u32_at(bytes, 2) == 0x0203_0405);
     rows.is("six bytes", u48_at(bytes, 3) == 0x0304_0506_0708);
     rows.is("eight bytes", u64_at(bytes, 2) == 0x0203_0405_0607_0809);
-    rows.all()?;
-    Ok(())
+    rows.passes()
 }

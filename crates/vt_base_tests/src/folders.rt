@@ -58,8 +58,7 @@ const ONCE: [Step; 3] = [
 fn a_folder_is_handed_out_once(rt: HostRuntime) -> Result<(), Fail> {
     let name = Text::copy_of(rt.alloc(), b"home")?;
     let folder = MemFolder::new(rt.alloc(), Vec::new(rt.alloc()));
-    see(rt.alloc(), MemFolders::new(name, folder), &ONCE, 2).all()?;
-    Ok(())
+    see(rt.alloc(), MemFolders::new(name, folder), &ONCE, 2).passes()
 }
 
 const FAILING: [Step; 1] = [("a call that fails", b"home", None)];
@@ -69,6 +68,5 @@ fn failed_calls_of_a_folder_count(rt: HostRuntime) -> Result<(), Fail> {
     let failing = Vec::from_slice(rt.alloc(), &[0])?;
     let name = Text::copy_of(rt.alloc(), b"home")?;
     let folder = MemFolder::new(rt.alloc(), Vec::new(rt.alloc())).failing(failing);
-    see(rt.alloc(), MemFolders::new(name, folder), &FAILING, 1).all()?;
-    Ok(())
+    see(rt.alloc(), MemFolders::new(name, folder), &FAILING, 1).passes()
 }

@@ -126,8 +126,7 @@ fn a_block_is_read_back_under_its_key(rt: HostRuntime) -> Result<(), Fail> {
         1_000,
         &KEYED,
     )
-    .all()?;
-    Ok(())
+    .passes()
 }
 
 const EMPTY: [Call; 5] = [
@@ -149,16 +148,14 @@ fn no_bytes_are_always_held(rt: HostRuntime) -> Result<(), Fail> {
         0,
         &EMPTY,
     )
-    .all()?;
-    Ok(())
+    .passes()
 }
 
 #[test]
 fn a_block_has_a_limit(rt: HostRuntime) -> Result<(), Fail> {
     let block = [7; 57_345];
     see_too_big(rt.alloc(), &block).all()?;
-    see_most(rt.alloc(), &block[..57_344]).all()?;
-    Ok(())
+    see_most(rt.alloc(), &block[..57_344]).passes()
 }
 
 /// A store refuses this block, and takes another.
@@ -262,8 +259,7 @@ fn the_first_block_fills_an_arena(rt: HostRuntime) -> Result<(), Fail> {
     let fits = &block[..8_129];
     let score = Sha1Scorer.score(fits);
     see_first("a block that fits", rt.alloc(), fits, Ok(score), full).all()?;
-    see_first("a byte too many", rt.alloc(), &block, full, Ok(ABC)).all()?;
-    Ok(())
+    see_first("a byte too many", rt.alloc(), &block, full, Ok(ABC)).passes()
 }
 
 const ONE_BUCKET: [Call; 2] = [
@@ -281,8 +277,7 @@ fn a_bucket_fills(rt: HostRuntime) -> Result<(), Fail> {
         1,
         &ONE_BUCKET,
     )
-    .all()?;
-    Ok(())
+    .passes()
 }
 
 // The short score of `abc` and of `abd`.
@@ -309,6 +304,5 @@ fn equal_scores_collide(rt: HostRuntime) -> Result<(), Fail> {
         1_000,
         &COLLIDING,
     )
-    .all()?;
-    Ok(())
+    .passes()
 }

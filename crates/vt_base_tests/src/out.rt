@@ -70,8 +70,7 @@ fn pieces_make_up_the_content(rt: HostRuntime) -> Result<(), Fail> {
             );
         }
     }
-    rows.all()?;
-    Ok(())
+    rows.passes()
 }
 
 /// A call of `take`: how many bytes there is room for, what it answers, and what then stands in the
@@ -112,8 +111,7 @@ const IN_TURN: [Take; 6] = [
 #[test]
 fn pieces_come_in_turn(rt: HostRuntime) -> Result<(), Fail> {
     let source = source_in_pieces(rt.alloc(), b"abcdefgh", &[1, 3])?;
-    see_takes(source, &IN_TURN).all()?;
-    Ok(())
+    see_takes(source, &IN_TURN).passes()
 }
 
 const FAILING_TAKES: [Take; 5] = [
@@ -127,8 +125,7 @@ const FAILING_TAKES: [Take; 5] = [
 #[test]
 fn a_failed_take_loses_nothing(rt: HostRuntime) -> Result<(), Fail> {
     let source = failing_source(rt.alloc(), b"abc", &[1, 3])?;
-    see_takes(source, &FAILING_TAKES).all()?;
-    Ok(())
+    see_takes(source, &FAILING_TAKES).passes()
 }
 
 /// A sink with room for so many bytes, of which these calls fail.
@@ -175,8 +172,7 @@ const FAILING_PUTS: [Put; 6] = [
 #[test]
 fn a_failed_put_writes_half(rt: HostRuntime) -> Result<(), Fail> {
     let sink = failing_sink(rt.alloc(), 12, &[1])?;
-    see_puts(sink, &FAILING_PUTS).all()?;
-    Ok(())
+    see_puts(sink, &FAILING_PUTS).passes()
 }
 
 #[test]
@@ -185,8 +181,7 @@ fn a_clock_stands_still() -> Result<(), Fail> {
     let mut rows = Rows::new();
     rows.is("the time", clock.now() == 1_000_000_000);
     rows.is("the time again", clock.now() == 1_000_000_000);
-    rows.all()?;
-    Ok(())
+    rows.passes()
 }
 
 /// A call of `take` and one of `put`: what the first answers, and what then stands in the buffer; the
@@ -316,8 +311,7 @@ fn see_files(alloc: Global, files: MemFiles, failing: Vec<u64>) -> Rows {
 fn files_are_read_up_to_a_limit(rt: HostRuntime) -> Result<(), Fail> {
     let failing = Vec::from_slice(rt.alloc(), &[3])?;
     let files = three_files(rt.alloc())?;
-    see_files(rt.alloc(), files, failing).all()?;
-    Ok(())
+    see_files(rt.alloc(), files, failing).passes()
 }
 
 /// Takes what may go to another thread.
@@ -359,6 +353,5 @@ fn progress_is_reported() -> Result<(), Fail> {
     let Counted(reports) = counted;
     let mut rows = Rows::new();
     rows.is("how many reports there were", reports == 3);
-    rows.all()?;
-    Ok(())
+    rows.passes()
 }

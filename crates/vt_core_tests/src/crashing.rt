@@ -1,15 +1,16 @@
 //! Scripts that are stopped at each device call, and what a crash leaves then.
 
-use crate::disks::{Disks, Fails, Mem, TestDisk, crashed, small};
+use crate::disks::{Fails, SMALL, TestDisks};
+use crate::running::{Case, passes};
 use crate::stores::{
     Act, DATA, Given, TestStore, again, ask, do_all, does, fresh, is, opened, settle, there,
 };
 use std::alloc::Global;
 use std::test::Fail;
-use vt_base::{MountBad, Operation, Sha1Scorer, Why};
-use vt_core::{Core, Event};
+use vt_base::{MountBad, Operation, Why};
+use vt_core::Event;
 use vt_memdisk::CrashMode;
-use vt_rows::{RowError, Rows};
+use vt_rows::Rows;
 
 // ---- a script
 
@@ -158,12 +159,12 @@ fn recovers<T: TestStore>(alloc: Global, store: T, mode: CrashMode, rows: &mut R
 /// Mounting fails by a call of the disks. Behind a crash it succeeds.
 fn mounts_again<T: TestStore>(
     alloc: Global,
-    disks: Disks<T::Disk>,
+    disks: T::Disks,
     mode: CrashMode,
     rows: &mut Rows,
     row: usize,
 ) {
-    let store = match crashed(alloc, disks, mode) {
+    let store = match disks.crashed(alloc, mode) {
         Some(disks) => opened::<T>(alloc, disks),
         None => Err("memory for what a crash leaves"),
     };
@@ -176,14 +177,14 @@ fn mounts_again<T: TestStore>(
 /// whether one of them came.
 fn stops_at<T: TestStore>(
     alloc: Global,
-    device: usize,
+    device: u32,
     fails: Fails,
     mode: CrashMode,
     rows: &mut Rows,
     row: usize,
 ) -> bool {
-    let disks = small(alloc, 1, device, fails).ok_or("memory for the disks");
-    let Some(disks) = there(rows, row, disks) else {
+    let Some(disks) = T::Disks::made(alloc, SMALL, device, fails) else {
+        rows.nth(row, "memory for the disks", false);
         return false;
     };
     match T::open(alloc, disks) {
@@ -204,13 +205,10 @@ fn stops_at<T: TestStore>(
 /// It is stopped at this call of this disk, which fails alone, or with all behind it. It gives
 /// whether the call came. A row that doesn't hold has the number of the disk, and that of the call
 /// in its last two digits.
-fn stops_in_each_mode<T: TestStore>(
-    alloc: Global,
-    device: usize,
-    call: u8,
-    rows: &mut Rows,
-) -> bool {
-    let row = device.saturating_mul(100).saturating_add(usize::from(call));
+fn stops_in_each_mode<T: TestStore>(alloc: Global, device: u32, call: u8, rows: &mut Rows) -> bool {
+    let row = (device as usize)
+        .saturating_mul(100)
+        .saturating_add(usize::from(call));
     let call = u64::from(call);
     let mut came = false;
     for mode in CrashMode::ALL {
@@ -223,7 +221,7 @@ fn stops_in_each_mode<T: TestStore>(
 
 /// It is stopped at each call of this disk. It gives how many there are, or 100 where there are
 /// more.
-fn stops<T: TestStore>(alloc: Global, device: usize, rows: &mut Rows) -> u8 {
+fn stops<T: TestStore>(alloc: Global, device: u32, rows: &mut Rows) -> u8 {
     for call in 0..100u8 {
         if !stops_in_each_mode::<T>(alloc, device, call, rows) {
             return call;
@@ -232,16 +230,16 @@ fn stops<T: TestStore>(alloc: Global, device: usize, rows: &mut Rows) -> u8 {
     100
 }
 
-/// How many calls of the partition, of each section and of the filter come. Mounting makes four of
-/// the partition, and three of each other disk. A block takes six calls of the log, two that read
-/// its bucket, and five that write it back, since its selector was read; the first section gets one
-/// block, and the second one two of one bucket, of which one is written back, and whose frame is
-/// known for the other. Twice each mark is raised, by four calls.
-const CALLS: [u8; 4] = [
-    4 + 3 * 6,
-    3 + 2 + 5 + 2 * 4,
-    3 + 2 + 1 + 5 + 2 * 4,
-    3 + 2 * 4,
+/// A disk, and how many calls of it come: the partition, each section, and the filter's. Mounting
+/// makes four of the partition, and three of each other disk. A block takes six calls of the log, two
+/// that read its bucket, and five that write it back, since its selector was read; the first section
+/// gets one block, and the second one two of one bucket, of which one is written back, and whose frame
+/// is known for the other. Twice each mark is raised, by four calls.
+const CALLS: [(u32, u8); 4] = [
+    (0, 4 + 3 * 6),
+    (1, 3 + 2 + 5 + 2 * 4),
+    (2, 3 + 2 + 1 + 5 + 2 * 4),
+    (3, 3 + 2 * 4),
 ];
 
 /// No call fails.
@@ -253,14 +251,14 @@ fn plays<T: TestStore>(alloc: Global, rows: &mut Rows) {
     }
 }
 
-fn script<T: TestStore>(alloc: Global, rows: &mut Rows) {
+pub fn script<T: TestStore>(alloc: Global, rows: &mut Rows) {
     plays::<T>(alloc, rows);
-    for (device, calls) in CALLS.iter().enumerate() {
-        let found = stops::<T>(alloc, device, rows);
+    for (device, calls) in &CALLS {
+        let found = stops::<T>(alloc, *device, rows) == *calls;
         rows.nth(
-            device,
+            *device as usize,
             "how many calls of a disk there are",
-            found == *calls,
+            found,
         );
     }
 }
@@ -280,17 +278,12 @@ const WRITTEN: [Act<'static>; 7] = [
     Act::Step(Event::FileAdvance(1), Given::Moved),
 ];
 
-/// What a crash leaves of its disks, with this byte of a bucket's selector.
-fn torn<T: TestStore>(store: T, byte: u16) -> Option<Disks<T::Disk>> {
-    let mut disks = store.close()?;
-    let section = disks.sections.pop()?;
-    disks.sections.push(section.torn(byte)).ok()?;
-    Some(disks)
-}
-
 /// The store whose selector has this byte.
 fn torn_store<T: TestStore>(alloc: Global, store: T, byte: u16) -> Result<T, &'static str> {
-    match torn(store, byte) {
+    let Some(disks) = store.close() else {
+        return Err("disks of a store");
+    };
+    match disks.torn(byte) {
         Some(disks) => opened(alloc, disks),
         None => Err("the disks with a torn selector"),
     }
@@ -319,7 +312,7 @@ fn is_torn<T: TestStore>(alloc: Global, byte: u16, rows: &mut Rows) {
     }
 }
 
-fn tear<T: TestStore>(alloc: Global, rows: &mut Rows) {
+pub fn tear<T: TestStore>(alloc: Global, rows: &mut Rows) {
     for byte in [0, 1, 2, 3, 126, 127, 128, 129, 254, 255, 256, 257] {
         is_torn::<T>(alloc, byte, rows);
     }
@@ -327,36 +320,13 @@ fn tear<T: TestStore>(alloc: Global, rows: &mut Rows) {
 
 // ---- the tests
 
-/// What a test sees.
-#[derive(Clone, Copy)]
-enum Case {
-    Script,
-    TornSelector,
-}
-
-fn see<T: TestStore>(alloc: Global, case: Case, rows: &mut Rows) {
-    match case {
-        Case::Script => script::<T>(alloc, rows),
-        Case::TornSelector => tear::<T>(alloc, rows),
-    }
-}
-
-/// The same, of stores on disks in memory.
-fn see_in_memory(alloc: Global, case: Case) -> Result<(), RowError> {
-    let mut rows = Rows::new();
-    see::<Core<Mem, Sha1Scorer>>(alloc, case, &mut rows);
-    rows.all()
-}
-
 #[test]
 fn a_script_is_stopped_at_each_call(rt: HostRuntime) -> Result<(), Fail> {
-    see_in_memory(rt.alloc(), Case::Script)?;
-    Ok(())
+    passes(rt.alloc(), Case::Script)
 }
 
 /// Whatever byte is left of a selector, the block is found.
 #[test]
 fn a_torn_selector_is_old_or_new(rt: HostRuntime) -> Result<(), Fail> {
-    see_in_memory(rt.alloc(), Case::TornSelector)?;
-    Ok(())
+    passes(rt.alloc(), Case::TornSelector)
 }

@@ -182,7 +182,7 @@ pub fn filter<D: TestDisk>(alloc: Global, fails: Fails) -> Option<D> {
     Some(disk)
 }
 
-/// The disks of a store.
+/// The disks of a store: a partition, its sections, and a filter's.
 #[derive(Drop)]
 pub struct Disks<D> {
     pub arenas: D,
@@ -191,7 +191,7 @@ pub struct Disks<D> {
 }
 
 /// One of them: disk 0 is the partition, disks 1 and 2 are the sections, and disk 3 is the filter's.
-pub fn nth<D>(disks: &mut Disks<D>, number: u32) -> Option<&mut D> {
+fn nth<D>(disks: &mut Disks<D>, number: u32) -> Option<&mut D> {
     match number {
         0 => Some(&mut disks.arenas),
         3 => disks.filter.as_mut(),
@@ -208,47 +208,161 @@ pub fn only<T: Drop>(alloc: Global, item: T) -> Option<Vec<T>>
     Some(list)
 }
 
-/// Those of a store without blocks, with so many small arenas, two sections of one bucket, and a
-/// filter of 8 KiB. These calls of this disk fail: of the partition, a section or the filter.
-pub fn small<D: TestDisk>(
-    alloc: Global,
-    arenas: u32,
-    device: usize,
-    fails: Fails,
-) -> Option<Disks<D>> {
-    let mut each = [Fails::Never; 4];
-    if device < 4 {
-        each[device] = fails;
-    }
-    let mut sections = only(alloc, section(alloc, 0, 1, 2, each[1])?)?;
-    sections.push(section(alloc, 1, 1, 2, each[2])?).ok()?;
-    Some(Disks {
-        arenas: partition(alloc, arenas, ARENA_LEN, each[0])?,
-        sections,
-        filter: Some(filter(alloc, each[3])?),
-    })
+/// Which disks a store without blocks has: so many arenas of so many bytes, so many sections of so many
+/// buckets each, and a filter of 8 KiB, if it has one.
+#[derive(Clone, Copy)]
+pub struct Shape {
+    pub arenas: u32,
+    pub arena_len: u32,
+    pub sections: u32,
+    pub buckets: u32,
+    pub has_filter: bool,
 }
 
-/// What a crash in a mode leaves of them.
-pub fn crashed<D: TestDisk>(alloc: Global, disks: Disks<D>, mode: CrashMode) -> Option<Disks<D>> {
-    let Disks {
-        arenas,
-        sections,
-        filter,
-    } = disks;
+/// A small store's.
+pub const SMALL: Shape = Shape {
+    arenas: 1,
+    arena_len: ARENA_LEN,
+    sections: 2,
+    buckets: 1,
+    has_filter: true,
+};
+
+/// The disks of a store, which a test makes, changes and crashes: disk 0 is the partition, the next ones
+/// are the sections, and disk 3 is the filter's. What is done to stores is proved for any such disks,
+/// which is much less work than for those in memory, and runs on these.
+pub trait TestDisks: Drop {
+    /// Those of a store without blocks. These calls of this disk fail.
+    fn made(alloc: Global, shape: Shape, device: u32, fails: Fails) -> Option<Self>;
+
+    /// A section without entries, of so many buckets, takes the place of all sections. These calls of
+    /// it fail.
+    fn replace_sections(&mut self, alloc: Global, buckets: u32, fails: Fails) -> bool;
+
+    /// A disk of so many zero bytes takes the place of one.
+    fn shorten(&mut self, alloc: Global, number: u32, len: u64) -> bool;
+
+    /// Writes bytes over one of them, from a place on.
+    fn spoil(&mut self, number: u32, at: u64, bytes: &[u8]) -> bool;
+
+    /// What a crash in a mode leaves of them.
+    fn crashed(self, alloc: Global, mode: CrashMode) -> Option<Self>;
+
+    /// What a crash leaves if the first byte of the last section that isn't synced takes this choice,
+    /// and each other one is what it was.
+    fn torn(self, choice: u16) -> Option<Self>;
+}
+
+impl<D: TestDisk> TestDisks for Disks<D> {
+    fn made(alloc: Global, shape: Shape, device: u32, fails: Fails) -> Option<Self> {
+        let arenas = partition(
+            alloc,
+            shape.arenas,
+            shape.arena_len,
+            fails_at(device, 0, fails),
+        )?;
+        let sections = sections(alloc, shape, device, fails)?;
+        let filter = if shape.has_filter {
+            Some(filter(alloc, fails_at(device, 3, fails))?)
+        } else {
+            None
+        };
+        Some(Disks {
+            arenas,
+            sections,
+            filter,
+        })
+    }
+
+    fn replace_sections(&mut self, alloc: Global, buckets: u32, fails: Fails) -> bool {
+        match lone_section(alloc, buckets, fails) {
+            Some(sections) => {
+                self.sections = sections;
+                true
+            }
+            None => false,
+        }
+    }
+
+    fn shorten(&mut self, alloc: Global, number: u32, len: u64) -> bool {
+        let Some(short) = D::failing(alloc, len, 0, Fails::Never) else {
+            return false;
+        };
+        match nth(self, number) {
+            Some(disk) => {
+                *disk = short;
+                true
+            }
+            None => false,
+        }
+    }
+
+    fn spoil(&mut self, number: u32, at: u64, bytes: &[u8]) -> bool {
+        match nth(self, number) {
+            Some(disk) => put(disk, at, bytes).is_some(),
+            None => false,
+        }
+    }
+
+    fn crashed(self, alloc: Global, mode: CrashMode) -> Option<Self> {
+        let Disks {
+            arenas,
+            sections,
+            filter,
+        } = self;
+        let filter = match filter {
+            Some(filter) => Some(filter.crashed(mode)),
+            None => None,
+        };
+        Some(Disks {
+            arenas: arenas.crashed(mode),
+            sections: each_crashed(alloc, sections, mode)?,
+            filter,
+        })
+    }
+
+    fn torn(mut self, choice: u16) -> Option<Self> {
+        let section = self.sections.pop()?;
+        self.sections.push(section.torn(choice)).ok()?;
+        Some(self)
+    }
+}
+
+/// The calls of disk `number` that fail, where these calls of this disk do.
+fn fails_at(device: u32, number: u32, fails: Fails) -> Fails {
+    if device == number {
+        fails
+    } else {
+        Fails::Never
+    }
+}
+
+/// The sections of a store.
+fn sections<D: TestDisk>(alloc: Global, shape: Shape, device: u32, fails: Fails) -> Option<Vec<D>> {
+    let buckets = shape.buckets;
+    let total = shape.sections.checked_mul(buckets)?;
+    let mut list = Vec::new(alloc);
+    for number in 0..shape.sections {
+        let fails = fails_at(device, number.saturating_add(1), fails);
+        let first = number.saturating_mul(buckets);
+        list.push(section(alloc, first, buckets, total, fails)?)
+            .ok()?;
+    }
+    Some(list)
+}
+
+/// The only section of a store.
+fn lone_section<D: TestDisk>(alloc: Global, buckets: u32, fails: Fails) -> Option<Vec<D>> {
+    only(alloc, section(alloc, 0, buckets, buckets, fails)?)
+}
+
+/// What a crash in a mode leaves of sections.
+fn each_crashed<D: TestDisk>(alloc: Global, sections: Vec<D>, mode: CrashMode) -> Option<Vec<D>> {
     let mut left = Vec::new(alloc);
     for section in sections {
         left.push(section.crashed(mode)).ok()?;
     }
-    let filter = match filter {
-        Some(filter) => Some(filter.crashed(mode)),
-        None => None,
-    };
-    Some(Disks {
-        arenas: arenas.crashed(mode),
-        sections: left,
-        filter,
-    })
+    Some(left)
 }
 
 /// A partition with arenas.

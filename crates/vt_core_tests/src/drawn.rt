@@ -2,12 +2,13 @@
 
 ghost use Rattle.std.specs.Prelude.{◌<◌};
 
-use crate::disks::{Fails, Mem};
+use crate::disks::Fails;
+use crate::running::{Case, passes_short};
 use crate::stores::{Given, TestStore, again, ask, fresh, is, is_block, is_score, there, work};
 use std::alloc::Global;
 use std::test::Fail;
 use vt_base::{Operation, Scorer, ShortScorer};
-use vt_core::{Core, Event, Out};
+use vt_core::{Event, Out};
 use vt_memdisk::CrashMode;
 use vt_model::PlainStore;
 use vt_rows::Rows;
@@ -235,12 +236,13 @@ fn rounds<T: TestStore>(alloc: Global, rows: &mut Rows) -> Option<()> {
     Some(())
 }
 
+pub fn see<T: TestStore>(alloc: Global, rows: &mut Rows) {
+    let all = rounds::<T>(alloc, rows);
+    rows.is("memory for all rounds", all.is_some());
+}
+
 /// Each reply is that of the list, whose end a crash may cut.
 #[test]
 fn a_store_answers_as_a_list_does(rt: HostRuntime) -> Result<(), Fail> {
-    let mut rows = Rows::new();
-    let all = rounds::<Core<Mem, ShortScorer>>(rt.alloc(), &mut rows);
-    rows.is("memory for all rounds", all.is_some());
-    rows.all()?;
-    Ok(())
+    passes_short(rt.alloc(), Case::Draws)
 }

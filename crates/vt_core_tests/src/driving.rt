@@ -3,17 +3,17 @@
 ghost use Rattle.std.specs.Prelude.{IsTrue};
 ghost use Rattle.vt_core.specs.Machine.{WaitsForNone};
 
-use crate::disks::{Disks, Fails, Mem, TestDisk, crashed, only, partition, section, small};
+use crate::disks::{Disks, Fails, Mem, SMALL, Shape, TestDisk, TestDisks};
 use crate::stores::{DATA, TestScorer, TestStore, there};
 use std::alloc::Global;
 use std::test::Fail;
-use vt_base::{Operation, Said, Scorer, Sha1Scorer, Why};
+use vt_base::{Bytes, Operation, Said, Score, Scorer, Sha1Scorer, Why};
 use vt_core::{Core, Event, Out};
 use vt_disk::Disk;
-use vt_handler::{Store, read, write};
+use vt_handler::{read, write};
 use vt_memdisk::CrashMode;
 use vt_requests::{Driven, ask, end, sync};
-use vt_rows::{RowError, Rows};
+use vt_rows::Rows;
 
 /// What is done to a store behind its session: its use is ended, or all is synced, by the call for
 /// that or by a request.
@@ -26,26 +26,34 @@ pub enum Last {
 
 /// What that gave, how many blocks are accepted, durable and synced then, and the disks.
 #[derive(Drop)]
-pub struct Finished<D> {
+pub struct Finished<K> {
     pub done: Result<(), Why>,
     pub counts: [u64; 3],
-    pub disks: Disks<D>,
+    pub disks: K,
 }
 
 /// A store that one session asks, on disks that a test makes. What a test does is proved for any
 /// such store, which is much less work than for the real one, and runs on that.
-pub trait DrivenStore: Store + Drop {
-    type Disk: TestDisk;
+pub trait DrivenStore: Drop {
+    type Disks: TestDisks;
 
     /// The store of these disks. None says that there is none.
-    fn open(alloc: Global, disks: Disks<Self::Disk>) -> Option<Self>;
+    fn open(alloc: Global, disks: Self::Disks) -> Option<Self>;
+
+    /// Writes a block of data.
+    fn put(&mut self, alloc: Global, bytes: &[u8]) -> Result<Score, Why>;
+
+    /// Reads a block of data of four bytes.
+    fn get(&mut self, alloc: Global, score: &Score) -> Result<Bytes, Why>;
+
+    fn sync(&mut self, alloc: Global) -> Result<(), Why>;
 
     /// Its session is over.
-    fn finish(self, alloc: Global, last: Last) -> Option<Finished<Self::Disk>>;
+    fn finish(self, alloc: Global, last: Last) -> Option<Finished<Self::Disks>>;
 }
 
 impl<D: TestDisk, S: TestScorer> DrivenStore for Driven<D, S> {
-    type Disk = D;
+    type Disks = Disks<D>;
 
     fn open(alloc: Global, disks: Disks<D>) -> Option<Self> {
         let mut core = mounted(alloc, disks)?;
@@ -56,7 +64,19 @@ impl<D: TestDisk, S: TestScorer> DrivenStore for Driven<D, S> {
         }
     }
 
-    fn finish(self, alloc: Global, last: Last) -> Option<Finished<D>> {
+    fn put(&mut self, alloc: Global, bytes: &[u8]) -> Result<Score, Why> {
+        write(alloc, self, DATA, bytes)
+    }
+
+    fn get(&mut self, alloc: Global, score: &Score) -> Result<Bytes, Why> {
+        read(alloc, self, score, DATA, 4)
+    }
+
+    fn sync(&mut self, alloc: Global) -> Result<(), Why> {
+        vt_handler::sync(alloc, self)
+    }
+
+    fn finish(self, alloc: Global, last: Last) -> Option<Finished<Disks<D>>> {
         let mut core = self.into_core();
         let done = match last {
             Last::End => end(&mut core, alloc),
@@ -98,7 +118,7 @@ fn synced(said: Said) -> Result<(), Why> {
 }
 
 /// The store of these disks.
-fn opened<T: DrivenStore>(alloc: Global, disks: Option<Disks<T::Disk>>) -> Result<T, &'static str> {
+fn opened<T: DrivenStore>(alloc: Global, disks: Option<T::Disks>) -> Result<T, &'static str> {
     match disks {
         Some(disks) => T::open(alloc, disks).ok_or("the store is opened"),
         None => Err("memory for the disks"),
@@ -106,16 +126,16 @@ fn opened<T: DrivenStore>(alloc: Global, disks: Option<Disks<T::Disk>>) -> Resul
 }
 
 /// Whether the block with this number is written.
-fn is_written<T: Store>(alloc: Global, store: &mut T, number: u32) -> bool {
+fn is_written<T: DrivenStore>(alloc: Global, store: &mut T, number: u32) -> bool {
     let bytes = number.to_be_bytes();
-    match write(alloc, store, DATA, &bytes) {
+    match store.put(alloc, &bytes) {
         Ok(score) => score == Sha1Scorer.score(&bytes),
         Err(_) => false,
     }
 }
 
 /// Writes so many blocks. It gives whether all are.
-fn writes<T: Store>(alloc: Global, store: &mut T, count: u32) -> bool {
+fn writes<T: DrivenStore>(alloc: Global, store: &mut T, count: u32) -> bool {
     for number in 0..count {
         if !is_written(alloc, store, number) {
             return false;
@@ -125,16 +145,16 @@ fn writes<T: Store>(alloc: Global, store: &mut T, count: u32) -> bool {
 }
 
 /// Whether the block with this number is read.
-fn is_read<T: Store>(alloc: Global, store: &mut T, number: u32) -> bool {
+fn is_read<T: DrivenStore>(alloc: Global, store: &mut T, number: u32) -> bool {
     let bytes = number.to_be_bytes();
-    match read(alloc, store, &Sha1Scorer.score(&bytes), DATA, 4) {
+    match store.get(alloc, &Sha1Scorer.score(&bytes)) {
         Ok(found) => found.as_slice() == &bytes[..],
         Err(_) => false,
     }
 }
 
 /// Whether so many blocks are read.
-fn reads<T: Store>(alloc: Global, store: &mut T, count: u32) -> bool {
+fn reads<T: DrivenStore>(alloc: Global, store: &mut T, count: u32) -> bool {
     for number in 0..count {
         if !is_read(alloc, store, number) {
             return false;
@@ -144,14 +164,8 @@ fn reads<T: Store>(alloc: Global, store: &mut T, count: u32) -> bool {
 }
 
 /// A crash leaves so many blocks on disks on which all is synced.
-fn left<T: DrivenStore>(
-    alloc: Global,
-    disks: Disks<T::Disk>,
-    count: u32,
-    rows: &mut Rows,
-    row: usize,
-) {
-    let store = opened::<T>(alloc, crashed(alloc, disks, CrashMode::Synced));
+fn left<T: DrivenStore>(alloc: Global, disks: T::Disks, count: u32, rows: &mut Rows, row: usize) {
+    let store = opened::<T>(alloc, disks.crashed(alloc, CrashMode::Synced));
     if let Some(mut store) = there(rows, row, store) {
         let found = reads(alloc, &mut store, count);
         rows.nth(row, "all blocks are read behind a crash", found);
@@ -163,7 +177,7 @@ fn ended<T: DrivenStore>(
     alloc: Global,
     store: T,
     last: Last,
-) -> Result<Finished<T::Disk>, &'static str> {
+) -> Result<Finished<T::Disks>, &'static str> {
     store.finish(alloc, last).ok_or("the disks are handed back")
 }
 
@@ -193,12 +207,7 @@ fn ends<T: DrivenStore>(
 }
 
 /// So many blocks are written, and read, and are there behind the end of the store's use.
-fn fills<T: DrivenStore>(
-    alloc: Global,
-    disks: Option<Disks<T::Disk>>,
-    count: u32,
-    rows: &mut Rows,
-) {
+fn fills<T: DrivenStore>(alloc: Global, disks: Option<T::Disks>, count: u32, rows: &mut Rows) {
     let row = count as usize;
     let Some(mut store) = there(rows, row, opened::<T>(alloc, disks)) else {
         return;
@@ -210,13 +219,18 @@ fn fills<T: DrivenStore>(
     ends(alloc, store, Last::End, count, 0, rows);
 }
 
-/// Disks with one section of eight buckets, and no filter.
-fn large<D: TestDisk>(alloc: Global) -> Option<Disks<D>> {
-    Some(Disks {
-        arenas: partition(alloc, 1, 262_144, Fails::Never)?,
-        sections: only(alloc, section(alloc, 0, 8, 8, Fails::Never)?)?,
-        filter: None,
-    })
+/// One section of eight buckets, and no filter.
+const LARGE: Shape = Shape {
+    arenas: 1,
+    arena_len: 262_144,
+    sections: 1,
+    buckets: 8,
+    has_filter: false,
+};
+
+/// The disks of a store without blocks, of which none fails.
+fn new_disks<T: DrivenStore>(alloc: Global, shape: Shape) -> Option<T::Disks> {
+    T::Disks::made(alloc, shape, 0, Fails::Never)
 }
 
 // ---- failures
@@ -228,7 +242,10 @@ const MOUNTING: u64 = 4;
 /// The third call of a commit fails: the sync tells it, and later ones tell that the log has
 /// stopped there. What was queued is still read, and isn't durable.
 fn fails_sync<T: DrivenStore>(alloc: Global, rows: &mut Rows) {
-    let store = opened::<T>(alloc, small(alloc, 1, 0, Fails::At(MOUNTING + 2)));
+    let store = opened::<T>(
+        alloc,
+        T::Disks::made(alloc, SMALL, 0, Fails::At(MOUNTING + 2)),
+    );
     let Some(mut store) = there(rows, 0, store) else {
         return;
     };
@@ -245,14 +262,14 @@ fn fails_sync<T: DrivenStore>(alloc: Global, rows: &mut Rows) {
 /// The log has stopped at this call of a commit, counted from 0.
 const STOPPED: Why = Why::Stopped(2);
 
-fn see_stopped<T: Store>(alloc: Global, store: &mut T, rows: &mut Rows) {
+fn see_stopped<T: DrivenStore>(alloc: Global, store: &mut T, rows: &mut Rows) {
     let written = writes(alloc, store, 1);
     rows.is("a block is written", written);
-    let sync = vt_handler::sync(alloc, store);
+    let sync = store.sync(alloc);
     rows.is("the sync that fails", sync == Err(Why::DiskFault));
-    let sync = vt_handler::sync(alloc, store);
+    let sync = store.sync(alloc);
     rows.is("a later sync", sync == Err(STOPPED));
-    let write = write(alloc, store, DATA, b"abc");
+    let write = store.put(alloc, b"abc");
     rows.is("a later write", write == Err(STOPPED));
     let found = reads(alloc, store, 1);
     rows.is("what was queued is read", found);
@@ -262,12 +279,12 @@ fn see_stopped<T: Store>(alloc: Global, store: &mut T, rows: &mut Rows) {
 /// before all is written.
 fn with_two<T: DrivenStore>(
     alloc: Global,
-    device: usize,
+    device: u32,
     fails: Fails,
     rows: &mut Rows,
     row: usize,
 ) -> Option<T> {
-    let disks = small(alloc, 1, device, fails).ok_or("memory for the disks");
+    let disks = T::Disks::made(alloc, SMALL, device, fails).ok_or("memory for the disks");
     let mut store = T::open(alloc, there(rows, row, disks)?)?;
     if writes(alloc, &mut store, 2) {
         Some(store)
@@ -281,7 +298,7 @@ fn with_two<T: DrivenStore>(
 /// It gives whether one failed in the end, or None where it did so before.
 fn fails_in_end<T: DrivenStore>(
     alloc: Global,
-    device: usize,
+    device: u32,
     fails: Fails,
     rows: &mut Rows,
     row: usize,
@@ -306,7 +323,7 @@ fn fails_in_end<T: DrivenStore>(
 /// they are, or None where no call is the last. A row that doesn't hold has the call's number.
 fn fails_each<T: DrivenStore>(
     alloc: Global,
-    device: usize,
+    device: u32,
     alone: bool,
     rows: &mut Rows,
 ) -> Option<u32> {
@@ -328,7 +345,7 @@ fn fails_each<T: DrivenStore>(
 
 /// Each section has a block, whose writeback makes five calls for its bucket and four for the head;
 /// the filter is saved by four.
-const CALLS: [(&str, usize, u32); 3] = [
+const CALLS: [(&str, u32, u32); 3] = [
     ("the calls of the first section", 1, 9),
     ("the calls of the second section", 2, 9),
     ("the calls of the filter", 3, 4),
@@ -345,7 +362,7 @@ fn fails_parts<T: DrivenStore>(alloc: Global, alone: bool, rows: &mut Rows) {
 
 /// All that was written is durable behind a sync, and not before.
 fn syncs<T: DrivenStore>(alloc: Global, last: Last, rows: &mut Rows) {
-    let store = opened::<T>(alloc, small(alloc, 1, 0, Fails::Never));
+    let store = opened::<T>(alloc, new_disks::<T>(alloc, SMALL));
     let Some(mut store) = there(rows, 0, store) else {
         return;
     };
@@ -364,8 +381,8 @@ enum Case {
 }
 
 fn get_room<T: DrivenStore>(alloc: Global, rows: &mut Rows) {
-    fills::<T>(alloc, small(alloc, 1, 0, Fails::Never), 65, rows);
-    fills::<T>(alloc, large(alloc), 1_100, rows);
+    fills::<T>(alloc, new_disks::<T>(alloc, SMALL), 65, rows);
+    fills::<T>(alloc, new_disks::<T>(alloc, LARGE), 1_100, rows);
 }
 
 fn fail<T: DrivenStore>(alloc: Global, rows: &mut Rows) {
@@ -384,22 +401,20 @@ fn see<T: DrivenStore>(alloc: Global, case: Case, rows: &mut Rows) {
 }
 
 /// The same, of stores on disks in memory.
-fn see_in_memory(alloc: Global, case: Case) -> Result<(), RowError> {
+fn passes(alloc: Global, case: Case) -> Result<(), Fail> {
     let mut rows = Rows::new();
     see::<Driven<Mem, Sha1Scorer>>(alloc, case, &mut rows);
-    rows.all()
+    rows.passes()
 }
 
 /// The 65th write finds the queue full, and the 1,025th finds no room for an entry in its shard.
 /// Both are answered as the others are.
 #[test]
 fn writes_get_room(rt: HostRuntime) -> Result<(), Fail> {
-    see_in_memory(rt.alloc(), Case::Room)?;
-    Ok(())
+    passes(rt.alloc(), Case::Room)
 }
 
 #[test]
 fn one_failure_keeps_no_part_from_its_end(rt: HostRuntime) -> Result<(), Fail> {
-    see_in_memory(rt.alloc(), Case::Failures)?;
-    Ok(())
+    passes(rt.alloc(), Case::Failures)
 }

@@ -17,6 +17,8 @@ mod mounting;
 #[cfg(test)]
 mod refusals;
 #[cfg(test)]
+mod running;
+#[cfg(test)]
 mod steps;
 #[cfg(test)]
 mod stores;

@@ -1,38 +1,35 @@
 //! Recovery: calls that fail while a log is read back, damage, a second crash in the middle of it,
 //! and a smaller index under an old log.
 
-use crate::disks::{
-    ARENA_LEN, Disks, Fails, Mem, TestDisk, crashed, filter, nth, only, partition, put, section,
-};
+use crate::disks::{ARENA_LEN, Fails, Shape, TestDisks};
+use crate::running::{Case, passes_short};
 use crate::stores::{Act, DATA, TestStore, ask, does, file, opened, there, work};
 use std::alloc::Global;
 use std::test::Fail;
-use vt_base::{FieldValue, MountBad, MountField, Operation, Place, ShortScorer, Site};
-use vt_core::{Core, Event, Out};
+use vt_base::{FieldValue, MountBad, MountField, Operation, Place, Site};
+use vt_core::{Event, Out};
 use vt_memdisk::CrashMode;
-use vt_rows::{RowError, Rows};
+use vt_rows::Rows;
 
 /// The bytes of an arena with room for more blocks than a shard has for their entries.
 const LARGE: u32 = 131_072;
 
-/// One section, of so many empty buckets, of which these calls fail.
-fn empty_section<D: TestDisk>(alloc: Global, buckets: u32, fails: Fails) -> Option<Vec<D>> {
-    only(alloc, section(alloc, 0, buckets, buckets, fails)?)
-}
-
 /// The disks of a store without blocks, with one arena and one section. These calls of the arena's
 /// disk fail.
-fn devices<D: TestDisk>(
+fn devices<T: TestStore>(
     alloc: Global,
     arena_len: u32,
     buckets: u32,
     fails: Fails,
-) -> Option<Disks<D>> {
-    Some(Disks {
-        arenas: partition(alloc, 1, arena_len, fails)?,
-        sections: empty_section(alloc, buckets, Fails::Never)?,
-        filter: Some(filter(alloc, Fails::Never)?),
-    })
+) -> Option<T::Disks> {
+    let shape = Shape {
+        arenas: 1,
+        arena_len,
+        sections: 1,
+        buckets,
+        has_filter: true,
+    };
+    T::Disks::made(alloc, shape, 0, fails)
 }
 
 // ---- blocks
@@ -100,11 +97,11 @@ fn see_blocks<T: TestStore>(alloc: Global, store: &mut T, count: u32, rows: &mut
 /// The same, of the store of these disks, which is mounted. It gives the disks back.
 fn see_disks<T: TestStore>(
     alloc: Global,
-    disks: Disks<T::Disk>,
+    disks: T::Disks,
     count: u32,
     rows: &mut Rows,
     row: usize,
-) -> Option<Disks<T::Disk>> {
+) -> Option<T::Disks> {
     let mut store: T = there(rows, row, opened(alloc, disks))?;
     see_blocks(alloc, &mut store, count, rows, row);
     there(rows, row, store.close().ok_or("disks of a store"))
@@ -120,10 +117,10 @@ fn is_filled<T: TestStore>(alloc: Global, store: &mut T, count: u32, settled: bo
 /// The disks of a store with so many blocks.
 fn filled<T: TestStore>(
     alloc: Global,
-    disks: Option<Disks<T::Disk>>,
+    disks: Option<T::Disks>,
     count: u32,
     settled: bool,
-) -> Result<Disks<T::Disk>, &'static str> {
+) -> Result<T::Disks, &'static str> {
     let mut store: T = match disks {
         Some(disks) => opened(alloc, disks)?,
         None => return Err("memory for the disks"),
@@ -137,8 +134,8 @@ fn filled<T: TestStore>(
 /// Why the store isn't mounted, and its disks.
 fn refused<T: TestStore>(
     alloc: Global,
-    disks: Disks<T::Disk>,
-) -> Result<(MountBad, Disks<T::Disk>), &'static str> {
+    disks: T::Disks,
+) -> Result<(MountBad, T::Disks), &'static str> {
     match T::open(alloc, disks) {
         Some(Err(refusal)) => Ok(refusal),
         Some(Ok(_)) => Err("the store is refused"),
@@ -151,7 +148,7 @@ fn refused<T: TestStore>(
 /// A store with three blocks is refused for this call of the arena's disk, and the next time it is
 /// found. It gives whether the call came while it was mounted.
 fn fails_once<T: TestStore>(alloc: Global, call: u8, settled: bool, rows: &mut Rows) -> bool {
-    let disks = devices(alloc, ARENA_LEN, 1, Fails::At(u64::from(call)));
+    let disks = devices::<T>(alloc, ARENA_LEN, 1, Fails::At(u64::from(call)));
     let Ok(disks) = filled::<T>(alloc, disks, 3, settled) else {
         return false;
     };
@@ -179,7 +176,7 @@ fn calls_of_mounting<T: TestStore>(alloc: Global, settled: bool, rows: &mut Rows
     faults
 }
 
-fn read_directory<T: TestStore>(alloc: Global, rows: &mut Rows) {
+pub fn read_directory<T: TestStore>(alloc: Global, rows: &mut Rows) {
     let entries = calls_of_mounting::<T>(alloc, false, rows);
     rows.is("the calls that read three entries", entries == 6);
     let none = calls_of_mounting::<T>(alloc, true, rows);
@@ -250,16 +247,13 @@ const DAMAGES: [Damage; 4] = [
 ];
 
 /// The disks of a store with three blocks, of which no entry is in the index.
-fn bare<T: TestStore>(alloc: Global) -> Result<Disks<T::Disk>, &'static str> {
-    filled::<T>(alloc, devices(alloc, ARENA_LEN, 1, Fails::Never), 3, false)
-}
-
-/// Writes the bytes of a damage.
-fn is_damaged<D: TestDisk>(disks: &mut Disks<D>, damage: &Damage) -> bool {
-    match nth(disks, damage.disk) {
-        Some(disk) => put(disk, damage.at, damage.bytes).is_some(),
-        None => false,
-    }
+fn bare<T: TestStore>(alloc: Global) -> Result<T::Disks, &'static str> {
+    filled::<T>(
+        alloc,
+        devices::<T>(alloc, ARENA_LEN, 1, Fails::Never),
+        3,
+        false,
+    )
 }
 
 /// It is refused for the damage.
@@ -267,7 +261,8 @@ fn see_damage<T: TestStore>(alloc: Global, damage: &Damage, rows: &mut Rows, row
     let Some(mut disks) = there(rows, row, bare::<T>(alloc)) else {
         return;
     };
-    rows.nth(row, "the damage is written", is_damaged(&mut disks, damage));
+    let is_damaged = disks.spoil(damage.disk, damage.at, damage.bytes);
+    rows.nth(row, "the damage is written", is_damaged);
     if let Some((bad, _)) = there(rows, row, refused::<T>(alloc, disks)) {
         let wanted = MountBad::Damaged {
             site: damage.site,
@@ -278,7 +273,7 @@ fn see_damage<T: TestStore>(alloc: Global, damage: &Damage, rows: &mut Rows, row
     }
 }
 
-fn tell_damages<T: TestStore>(alloc: Global, rows: &mut Rows) {
+pub fn tell_damages<T: TestStore>(alloc: Global, rows: &mut Rows) {
     for (row, damage) in DAMAGES.iter().enumerate() {
         see_damage::<T>(alloc, damage, rows, row);
     }
@@ -295,16 +290,15 @@ const BUCKETS: u32 = 5;
 /// crash leaves of the disks behind that.
 fn stopped<T: TestStore>(
     alloc: Global,
-    mut disks: Disks<T::Disk>,
+    mut disks: T::Disks,
     call: u8,
-) -> Result<(MountBad, Disks<T::Disk>), &'static str> {
-    let Some(sections) = empty_section(alloc, BUCKETS, Fails::At(u64::from(call))) else {
+) -> Result<(MountBad, T::Disks), &'static str> {
+    if !disks.replace_sections(alloc, BUCKETS, Fails::At(u64::from(call))) {
         return Err("memory for a section");
-    };
-    disks.sections = sections;
+    }
     let (bad, disks) = refused::<T>(alloc, disks)?;
     let mode = CrashMode::ALL[usize::from(call % 4)];
-    match crashed(alloc, disks, mode) {
+    match disks.crashed(alloc, mode) {
         Some(disks) => Ok((bad, disks)),
         None => Err("memory for what a crash leaves"),
     }
@@ -314,10 +308,10 @@ fn stopped<T: TestStore>(
 /// mounted until that call, crashes, and is mounted again.
 fn mount_twice<T: TestStore>(
     alloc: Global,
-    disks: Disks<T::Disk>,
+    disks: T::Disks,
     call: u8,
     rows: &mut Rows,
-) -> Option<Disks<T::Disk>> {
+) -> Option<T::Disks> {
     let row = usize::from(call);
     let (bad, disks) = there(rows, row, stopped::<T>(alloc, disks, call))?;
     rows.nth(
@@ -331,8 +325,8 @@ fn mount_twice<T: TestStore>(
 /// More entries are lacking than a shard has room for, so that mounting writes, by six calls for
 /// each bucket. It is stopped at calls of the section's disk, each fifth one of them while it
 /// writes, with a crash behind it.
-fn second_crashes<T: TestStore>(alloc: Global, rows: &mut Rows) {
-    let disks = devices(alloc, LARGE, BUCKETS, Fails::Never);
+pub fn second_crashes<T: TestStore>(alloc: Global, rows: &mut Rows) {
+    let disks = devices::<T>(alloc, LARGE, BUCKETS, Fails::Never);
     let mut disks = there(rows, 0, filled::<T>(alloc, disks, BLOCKS, false));
     for call in [4, 14, 19, 24, 29, 34, 39] {
         disks = match disks {
@@ -347,22 +341,25 @@ fn second_crashes<T: TestStore>(alloc: Global, rows: &mut Rows) {
 
 /// What mounting is refused for where an index of one bucket is put under a log of 264 blocks, and
 /// the disks, with one of two buckets without entries.
-fn with_small<T: TestStore>(alloc: Global) -> Result<(MountBad, Disks<T::Disk>), &'static str> {
-    let Some(one) = empty_section(alloc, 1, Fails::Never) else {
+fn with_small<T: TestStore>(alloc: Global) -> Result<(MountBad, T::Disks), &'static str> {
+    let mut old = filled::<T>(
+        alloc,
+        devices::<T>(alloc, LARGE, 2, Fails::Never),
+        264,
+        false,
+    )?;
+    if !old.replace_sections(alloc, 1, Fails::Never) {
         return Err("memory for a section");
-    };
-    let Some(two) = empty_section(alloc, 2, Fails::Never) else {
-        return Err("memory for a section");
-    };
-    let mut old = filled::<T>(alloc, devices(alloc, LARGE, 2, Fails::Never), 264, false)?;
-    old.sections = one;
+    }
     let (bad, mut old) = refused::<T>(alloc, old)?;
-    old.sections = two;
+    if !old.replace_sections(alloc, 2, Fails::Never) {
+        return Err("memory for a section");
+    }
     Ok((bad, old))
 }
 
 /// An index of one bucket is put under a log of 264 blocks, and one of two under it again.
-fn smaller_index<T: TestStore>(alloc: Global, rows: &mut Rows) {
+pub fn smaller_index<T: TestStore>(alloc: Global, rows: &mut Rows) {
     let Some((bad, old)) = there(rows, 0, with_small::<T>(alloc)) else {
         return;
     };
@@ -379,53 +376,24 @@ fn smaller_index<T: TestStore>(alloc: Global, rows: &mut Rows) {
 
 // ---- the tests
 
-/// What a test sees.
-#[derive(Clone, Copy)]
-enum Case {
-    DirectoryReads,
-    Damages,
-    SecondCrashes,
-    SmallerIndex,
-}
-
-fn see<T: TestStore>(alloc: Global, case: Case, rows: &mut Rows) {
-    match case {
-        Case::DirectoryReads => read_directory::<T>(alloc, rows),
-        Case::Damages => tell_damages::<T>(alloc, rows),
-        Case::SecondCrashes => second_crashes::<T>(alloc, rows),
-        Case::SmallerIndex => smaller_index::<T>(alloc, rows),
-    }
-}
-
-/// The same, of stores on disks in memory.
-fn see_in_memory(alloc: Global, case: Case) -> Result<(), RowError> {
-    let mut rows = Rows::new();
-    see::<Core<Mem, ShortScorer>>(alloc, case, &mut rows);
-    rows.all()
-}
-
 /// A sync and two reads of the arena's head, and the read of each directory entry, of which none is
 /// made below the least mark.
 #[test]
 fn a_directory_read_fails(rt: HostRuntime) -> Result<(), Fail> {
-    see_in_memory(rt.alloc(), Case::DirectoryReads)?;
-    Ok(())
+    passes_short(rt.alloc(), Case::DirectoryReads)
 }
 
 #[test]
 fn what_is_damaged_is_told(rt: HostRuntime) -> Result<(), Fail> {
-    see_in_memory(rt.alloc(), Case::Damages)?;
-    Ok(())
+    passes_short(rt.alloc(), Case::Damages)
 }
 
 #[test]
 fn a_second_crash_loses_nothing(rt: HostRuntime) -> Result<(), Fail> {
-    see_in_memory(rt.alloc(), Case::SecondCrashes)?;
-    Ok(())
+    passes_short(rt.alloc(), Case::SecondCrashes)
 }
 
 #[test]
 fn a_smaller_index_is_refused(rt: HostRuntime) -> Result<(), Fail> {
-    see_in_memory(rt.alloc(), Case::SmallerIndex)?;
-    Ok(())
+    passes_short(rt.alloc(), Case::SmallerIndex)
 }

@@ -1,12 +1,12 @@
 //! Each test of mounting fails once, on disks in memory. That there are too many arenas or buckets
 //! is left out: the disks would have 128 MiB and 17 GiB.
 
-use crate::disks::{Disks, Fails, Mem, TestDisk, nth, put, small};
+use crate::disks::{Fails, SMALL, Shape, TestDisks};
+use crate::running::{Case, passes_short};
 use crate::stores::{TestStore, there};
 use std::alloc::Global;
 use std::test::Fail;
-use vt_base::{MountBad, MountField, ShortScorer};
-use vt_core::Core;
+use vt_base::{MountBad, MountField};
 use vt_rows::Rows;
 
 /// Bytes that are written over those of a disk at a place, and the field that the store is refused
@@ -91,8 +91,8 @@ fn bad_of(part: u32, torn: Option<(MountField, u128, u128)>) -> MountBad {
 /// What the store of these disks is refused for, and the disks, which are handed back.
 fn refused<T: TestStore>(
     alloc: Global,
-    disks: Disks<T::Disk>,
-) -> Result<(MountBad, Disks<T::Disk>), &'static str> {
+    disks: T::Disks,
+) -> Result<(MountBad, T::Disks), &'static str> {
     match T::open(alloc, disks) {
         Some(Err(refusal)) => Ok(refusal),
         Some(Ok(_)) => Err("the store is refused"),
@@ -100,23 +100,16 @@ fn refused<T: TestStore>(
     }
 }
 
-/// Writes the bytes of a patch.
-fn is_spoilt<D: TestDisk>(disks: &mut Disks<D>, patch: &Patch) -> bool {
-    match nth(disks, patch.0) {
-        Some(disk) => put(disk, patch.1, patch.2).is_some(),
-        None => false,
-    }
-}
-
 /// Writes the bytes of a patch, and sees that the store is refused for it. It gives the disks back.
 fn spoil<T: TestStore>(
     alloc: Global,
-    mut disks: Disks<T::Disk>,
+    mut disks: T::Disks,
     patch: &Patch,
     rows: &mut Rows,
     row: usize,
-) -> Option<Disks<T::Disk>> {
-    rows.nth(row, "the patch is written", is_spoilt(&mut disks, patch));
+) -> Option<T::Disks> {
+    let is_spoilt = disks.spoil(patch.0, patch.1, patch.2);
+    rows.nth(row, "the patch is written", is_spoilt);
     let (bad, disks) = there(rows, row, refused::<T>(alloc, disks))?;
     rows.nth(
         row,
@@ -126,9 +119,14 @@ fn spoil<T: TestStore>(
     Some(disks)
 }
 
+/// The disks of a small store with two arenas.
+fn two_arenas<T: TestStore>(alloc: Global) -> Option<T::Disks> {
+    T::Disks::made(alloc, Shape { arenas: 2, ..SMALL }, 0, Fails::Never)
+}
+
 /// More and more is wrong, and each time what is tested first is told.
 fn order<T: TestStore>(alloc: Global, rows: &mut Rows) {
-    let mut disks = small::<T::Disk>(alloc, 2, 0, Fails::Never);
+    let mut disks = two_arenas::<T>(alloc);
     for (row, patch) in PATCHES.iter().enumerate().rev() {
         disks = match disks {
             Some(disks) => spoil::<T>(alloc, disks, patch, rows, row),
@@ -139,17 +137,19 @@ fn order<T: TestStore>(alloc: Global, rows: &mut Rows) {
 }
 
 /// The disks of a store, one of which ends too early.
-fn shortened<D: TestDisk>(alloc: Global, part: u32, len: u64) -> Option<Disks<D>> {
-    let short = D::failing(alloc, len, 0, Fails::Never)?;
-    let mut disks = small(alloc, 2, 0, Fails::Never)?;
-    *nth(&mut disks, part)? = short;
-    Some(disks)
+fn shortened<T: TestStore>(alloc: Global, part: u32, len: u64) -> Option<T::Disks> {
+    let mut disks = two_arenas::<T>(alloc)?;
+    if disks.shorten(alloc, part, len) {
+        Some(disks)
+    } else {
+        None
+    }
 }
 
 /// A disk that ends too early, in the place of a section or of the filter's.
 fn short<T: TestStore>(alloc: Global, part: u32, len: u64, need: u64, rows: &mut Rows) {
     let row = part as usize;
-    let disks = shortened::<T::Disk>(alloc, part, len).ok_or("memory for the disks");
+    let disks = shortened::<T>(alloc, part, len).ok_or("memory for the disks");
     let Some(disks) = there(rows, row, disks) else {
         return;
     };
@@ -159,7 +159,7 @@ fn short<T: TestStore>(alloc: Global, part: u32, len: u64, need: u64, rows: &mut
     }
 }
 
-fn see<T: TestStore>(alloc: Global, rows: &mut Rows) {
+pub fn see<T: TestStore>(alloc: Global, rows: &mut Rows) {
     order::<T>(alloc, rows);
     short::<T>(alloc, 2, 41_471, 41_472, rows);
     short::<T>(alloc, 3, 40_959, 40_960, rows);
@@ -168,8 +168,5 @@ fn see<T: TestStore>(alloc: Global, rows: &mut Rows) {
 /// Each test fails once, and tells what was found and what was wanted.
 #[test]
 fn stores_are_refused(rt: HostRuntime) -> Result<(), Fail> {
-    let mut rows = Rows::new();
-    see::<Core<Mem, ShortScorer>>(rt.alloc(), &mut rows);
-    rows.all()?;
-    Ok(())
+    passes_short(rt.alloc(), Case::Refusals)
 }

@@ -3,7 +3,7 @@
 ghost use Rattle.std.specs.Prelude.{◌<◌, IsTrue, length};
 ghost use Rattle.vt_core.specs.Events.{IsFor};
 
-use crate::disks::{Disks, Fails, TestDisk, closed, crashed, mounted_part, only, small};
+use crate::disks::{Disks, Fails, SMALL, Shape, TestDisk, TestDisks, closed, mounted_part, only};
 use std::alloc::Global;
 use vt_base::{MountBad, Operation, Said, Score, Scorer, Sha1Scorer, ShortScorer, Why};
 use vt_core::{Core, Event, Out};
@@ -35,17 +35,14 @@ pub fn there<T>(rows: &mut Rows, row: usize, found: Result<T, &'static str>) -> 
 /// A store that a test asks, stops, crashes and mounts again. What a test does is proved for any
 /// such store, which is much less work than for the real one, and runs on that.
 pub trait TestStore: Drop {
-    type Disk: TestDisk;
+    type Disks: TestDisks;
 
     /// The store of these disks, for two sessions, or why there is none, and the disks. None says
     /// that they aren't disks of a store.
-    fn open(
-        alloc: Global,
-        disks: Disks<Self::Disk>,
-    ) -> Option<Result<Self, (MountBad, Disks<Self::Disk>)>>;
+    fn open(alloc: Global, disks: Self::Disks) -> Option<Result<Self, (MountBad, Self::Disks)>>;
 
     /// It is stopped, and hands its disks back.
-    fn close(self) -> Option<Disks<Self::Disk>>;
+    fn close(self) -> Option<Self::Disks>;
 
     /// An event happens. One that isn't for this store does nothing.
     fn event(&mut self, alloc: Global, event: Event<'_>) -> Out;
@@ -74,7 +71,7 @@ impl TestScorer for ShortScorer {
 }
 
 impl<D: TestDisk, S: TestScorer> TestStore for Core<D, S> {
-    type Disk = D;
+    type Disks = Disks<D>;
 
     fn open(alloc: Global, disks: Disks<D>) -> Option<Result<Self, (MountBad, Disks<D>)>> {
         let Disks {
@@ -131,7 +128,7 @@ fn is_for<D: Disk, S: Scorer>(core: &Core<D, S>, event: &Event<'_>) -> bool
 }
 
 /// The store of disks on which there is one.
-pub fn opened<T: TestStore>(alloc: Global, disks: Disks<T::Disk>) -> Result<T, &'static str> {
+pub fn opened<T: TestStore>(alloc: Global, disks: T::Disks) -> Result<T, &'static str> {
     match T::open(alloc, disks) {
         Some(Ok(store)) => Ok(store),
         Some(Err(_)) => Err("the store is mounted"),
@@ -143,10 +140,10 @@ pub fn opened<T: TestStore>(alloc: Global, disks: Disks<T::Disk>) -> Result<T, &
 pub fn fresh<T: TestStore>(
     alloc: Global,
     arenas: u32,
-    device: usize,
+    device: u32,
     fails: Fails,
 ) -> Result<T, &'static str> {
-    match small(alloc, arenas, device, fails) {
+    match T::Disks::made(alloc, Shape { arenas, ..SMALL }, device, fails) {
         Some(disks) => opened(alloc, disks),
         None => Err("memory for the disks"),
     }
@@ -157,7 +154,7 @@ pub fn again<T: TestStore>(alloc: Global, store: T, mode: CrashMode) -> Result<T
     let Some(disks) = store.close() else {
         return Err("disks of a store");
     };
-    match crashed(alloc, disks, mode) {
+    match disks.crashed(alloc, mode) {
         Some(disks) => opened(alloc, disks),
         None => Err("memory for what a crash leaves"),
     }

@@ -2,7 +2,7 @@
 //!
 //! All is said of any disk, which is much less work to prove than for one in memory.
 
-use crate::disks::{FailingDisk, Made, NEVER, left_in, read, write};
+use crate::disks::{FailingDisk, Made, NEVER, in_mode, left_in, read, write};
 use std::alloc::Global;
 use std::test::Fail;
 use vt_base::Score;
@@ -146,7 +146,7 @@ fn saved<D: Disk + Drop>(
         return None;
     }
     stop(rows, row, &mut bloom, call, fails);
-    rows.nth(row, "the new filter", new == (16, 3, 0, false, false));
+    rows.nth(row, "the new filter", new == OLD);
     Some(bloom.into_devices())
 }
 
@@ -186,8 +186,7 @@ fn a_score_has_positions(rt: HostRuntime) -> Result<(), Fail> {
     rows.is("the positions of B", of_b);
     mark(&mut rows, &mut bits);
     remake(&mut rows, bits);
-    rows.all()?;
-    Ok(())
+    rows.passes()
 }
 
 /// The bytes of a filter, and its m, if a filter may have that size.
@@ -207,8 +206,7 @@ fn a_filter_has_one_size(rt: HostRuntime) -> Result<(), Fail> {
     for (row, (size, m)) in SIZES.iter().enumerate() {
         rows.nth(row, "the m of the size", exponent(*size) == *m);
     }
-    rows.all()?;
-    Ok(())
+    rows.passes()
 }
 
 /// The frame of a filter, by hand: a new one, or one with A and the mark 1.
@@ -236,7 +234,7 @@ fn spell<D: FailingDisk>(rows: &mut Rows, alloc: Global) -> Option<()> {
     rows.is("the frame of the new filter", old == Some(spelled(false)));
     rows.is("the frame of the saved filter", new == Some(spelled(true)));
     rows.is("what begins the selector", selector == Some([1, 0]));
-    rows.is("the saved filter", found == Ok((16, 3, 1, true, false)));
+    rows.is("the saved filter", found == Ok(NEW));
     Some(())
 }
 
@@ -245,8 +243,7 @@ fn a_frame_is_spelled(rt: HostRuntime) -> Result<(), Fail> {
     let mut rows = Rows::new();
     let is_done = spell::<Made>(&mut rows, rt.alloc()).is_some();
     rows.is("a filter is saved", is_done);
-    rows.all()?;
-    Ok(())
+    rows.passes()
 }
 
 /// What the filter tells behind a save up to this call, and a crash.
@@ -267,37 +264,51 @@ fn crashed<D: FailingDisk>(
     mounted(alloc, disk.crashed_in(mode)).ok()
 }
 
-/// Ends a save with this call and crashes, in each mode: the filter has this mark then, and A
-/// exactly where that is 1.
-fn crash(rows: &mut Rows, alloc: Global, row: usize, end: (u64, bool), marks: &[u64; 4]) {
-    for (mode, mark) in CrashMode::ALL.iter().zip(marks.iter()) {
-        let found = crashed::<Made>(rows, alloc, row, end, *mode);
-        let wanted = (16, 3, *mark, *mark == 1, false);
+/// Ends a save with this call and crashes, in each mode: whether the filter is the new one then, which
+/// has the mark 1 and A, and else the old one.
+fn crash<D: FailingDisk>(
+    rows: &mut Rows,
+    alloc: Global,
+    row: usize,
+    end: (u64, bool),
+    is_new: &[bool; 4],
+) {
+    for mode in &CrashMode::ALL {
+        let found = crashed::<D>(rows, alloc, row, end, *mode);
+        let wanted = if in_mode(*mode, is_new) { NEW } else { OLD };
         rows.nth(row, left_in(*mode), found == Some(wanted));
     }
 }
 
-// The call at which a save ends, whether it fails, and the mark that a crash then leaves in each
-// mode: that of the old filter or of the new one.
-const ENDS: [(u64, bool, [u64; 4]); 8] = [
-    (0, true, [0, 0, 0, 0]),
-    (0, false, [0, 0, 0, 0]),
-    (1, true, [0, 0, 0, 0]),
-    (1, false, [0, 0, 0, 0]),
-    (2, true, [0, 0, 0, 1]),
-    (2, false, [0, 1, 1, 1]),
-    (3, true, [0, 1, 1, 1]),
-    (3, false, [1, 1, 1, 1]),
+/// What both filters tell.
+const OLD: Told = (16, 3, 0, false, false);
+
+const NEW: Told = (16, 3, 1, true, false);
+
+// The call at which a save ends, whether it fails, and in which modes a crash then leaves the new
+// filter.
+const ENDS: [(u64, bool, [bool; 4]); 8] = [
+    (0, true, [false, false, false, false]),
+    (0, false, [false, false, false, false]),
+    (1, true, [false, false, false, false]),
+    (1, false, [false, false, false, false]),
+    (2, true, [false, false, false, true]),
+    (2, false, [false, true, true, true]),
+    (3, true, [false, true, true, true]),
+    (3, false, [true, true, true, true]),
 ];
+
+fn stop_anywhere<D: FailingDisk>(alloc: Global) -> Rows {
+    let mut rows = Rows::new();
+    for (row, (call, fails, is_new)) in ENDS.iter().enumerate() {
+        crash::<D>(&mut rows, alloc, row, (*call, *fails), is_new);
+    }
+    rows
+}
 
 #[test]
 fn a_save_is_stopped_anywhere(rt: HostRuntime) -> Result<(), Fail> {
-    let mut rows = Rows::new();
-    for (row, (call, fails, marks)) in ENDS.iter().enumerate() {
-        crash(&mut rows, rt.alloc(), row, (*call, *fails), marks);
-    }
-    rows.all()?;
-    Ok(())
+    stop_anywhere::<Made>(rt.alloc()).passes()
 }
 
 /// Whether a disk of this length that begins with these bytes has a filter that tells this, or isn't
@@ -363,8 +374,7 @@ fn the_first_fault_is_told(rt: HostRuntime) -> Result<(), Fail> {
         let is_it = mounts::<Made>(rt.alloc(), (*len, *failing_call, start), *wanted);
         rows.nth(row, "the filter, or the refusal", is_it);
     }
-    rows.all()?;
-    Ok(())
+    rows.passes()
 }
 
 /// Whether this is the answer to formatting a disk of this length, of which this call fails.
@@ -395,6 +405,5 @@ fn formatting_is_refused(rt: HostRuntime) -> Result<(), Fail> {
         let is_it = answers::<Made>(rt.alloc(), *len, *failing_call, *answer);
         rows.nth(row, "the answer", is_it);
     }
-    rows.all()?;
-    Ok(())
+    rows.passes()
 }

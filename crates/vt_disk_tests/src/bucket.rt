@@ -79,8 +79,7 @@ fn a_frame_is_spelled_and_read(rt: HostRuntime) -> Result<(), Fail> {
     rows.is("the frame to the end of its last entry", is_front);
     rows.is("zeros fill the frame up", is_filled_up);
     see_read(&mut rows, &frame, bucket.entries(), &odd, &lacking);
-    rows.all()?;
-    Ok(())
+    rows.passes()
 }
 
 /// Fills a bucket with entries of one type, not in the order of their keys.
@@ -114,8 +113,7 @@ fn has_room_for_263(rt: HostRuntime) -> Result<(), Fail> {
         "there are as many entries",
         bucket.entries().len() == BUCKET_ROOM,
     );
-    rows.all()?;
-    Ok(())
+    rows.passes()
 }
 
 /// Whether a frame isn't that of bucket 7, for this cause.
@@ -156,6 +154,5 @@ fn refusals_come_in_their_order(rt: HostRuntime) -> Result<(), Fail> {
         (3, 0, BucketBad::Magic(*b"VBK\x00")),
     ];
     see_refused(&mut rows, &table);
-    rows.all()?;
-    Ok(())
+    rows.passes()
 }

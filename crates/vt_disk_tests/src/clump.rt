@@ -38,8 +38,7 @@ fn a_block_is_packed(rt: HostRuntime) -> Result<(), Fail> {
         "the type, score, length and bytes of the clump",
         found == (13, ABC, 3, true),
     );
-    rows.all()?;
-    Ok(())
+    rows.passes()
 }
 
 /// What a clump tells: its type, score and time, and whether its block is this one.
@@ -61,8 +60,7 @@ fn a_clump_is_read_whatever_its_creator_and_what_follows(rt: HostRuntime) -> Res
         "the type, score, time and block of the clump",
         found == (13, ABC, 0x6580_0000, true),
     );
-    rows.all()?;
-    Ok(())
+    rows.passes()
 }
 
 /// Whether the header of `abc` and this block, which is handed in and becomes the clump's own, are a
@@ -99,8 +97,7 @@ fn a_block_is_taken_over(rt: HostRuntime) -> Result<(), Fail> {
         (b"abd".as_slice(), Err(OTHER_SCORE)),
     ];
     see_taken(&mut rows, rt.alloc(), &table);
-    rows.all()?;
-    Ok(())
+    rows.passes()
 }
 
 /// The block has the score of `abd` in place of that of `abc`.
@@ -150,8 +147,7 @@ fn refusals_come_in_their_order(rt: HostRuntime) -> Result<(), Fail> {
         (0, b'v', ClumpBad::Magic(*b"vCLP")),
     ];
     see_refused(&mut rows, rt.alloc(), &table);
-    rows.all()?;
-    Ok(())
+    rows.passes()
 }
 
 #[test]
@@ -163,6 +159,5 @@ fn a_clump_that_is_cut_or_empty_is_refused(rt: HostRuntime) -> Result<(), Fail> 
     let mut rows = Rows::new();
     rows.is("the refusal of less than a header", is_short);
     rows.is("the refusal of a clump of no bytes", is_empty);
-    rows.all()?;
-    Ok(())
+    rows.passes()
 }

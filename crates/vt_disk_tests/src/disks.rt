@@ -77,6 +77,17 @@ pub fn left_in(mode: CrashMode) -> &'static str {
     }
 }
 
+/// What is wanted in a mode, of what is wanted in each in turn.
+pub fn in_mode(mode: CrashMode, wanted: &[bool; 4]) -> bool {
+    let [synced, written, even, garbled] = wanted;
+    match mode {
+        CrashMode::Synced => *synced,
+        CrashMode::Written => *written,
+        CrashMode::EvenWritten => *even,
+        CrashMode::Garbled => *garbled,
+    }
+}
+
 /// Writes at a place: None where the disk doesn't have it.
 pub fn write<D: Disk>(disk: &mut D, at: u64, bytes: &[u8]) -> Option<Result<(), Failed>> {
     let room = disk.len();

@@ -1,5 +1,6 @@
 //! Entries that are put in, found, settled and evicted.
 
+use std::alloc::Global;
 use std::test::Fail;
 use vt_base::{Info, Key, Kind, Place, Score};
 use vt_icache::{IndexCache, entry_of};
@@ -189,23 +190,38 @@ const ACTS: [Act; 26] = [
     Act::Lacks(B),
 ];
 
+fn settle(alloc: Global) -> Rows {
+    let mut rows = Rows::new();
+    match IndexCache::new(alloc, 3, 2) {
+        Ok(mut index) => see_all(&mut rows, &mut index, &ACTS),
+        Err(_) => rows.is("memory for a cache", false),
+    }
+    rows
+}
+
 #[test]
 fn dirty_entries_become_clean(rt: HostRuntime) -> Result<(), Fail> {
-    let mut index = IndexCache::new(rt.alloc(), 3, 2)?;
+    settle(rt.alloc()).passes()
+}
+
+/// Fills the cache 64 times.
+fn fills_on(rows: &mut Rows, index: &mut IndexCache) {
+    for turn in 0..64u64 {
+        fills(rows, index, turn);
+    }
+}
+
+fn fill_again(alloc: Global) -> Rows {
     let mut rows = Rows::new();
-    see_all(&mut rows, &mut index, &ACTS);
-    rows.all()?;
-    Ok(())
+    match IndexCache::new(alloc, 8, 4) {
+        Ok(mut index) => fills_on(&mut rows, &mut index),
+        Err(_) => rows.is("memory for a cache", false),
+    }
+    rows
 }
 
 // The cache is filled again and again, so that what settled entries have has to come back.
 #[test]
 fn room_comes_back(rt: HostRuntime) -> Result<(), Fail> {
-    let mut index = IndexCache::new(rt.alloc(), 8, 4)?;
-    let mut rows = Rows::new();
-    for turn in 0..64u64 {
-        fills(&mut rows, &mut index, turn);
-    }
-    rows.all()?;
-    Ok(())
+    fill_again(rt.alloc()).passes()
 }

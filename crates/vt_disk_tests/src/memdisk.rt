@@ -53,11 +53,12 @@ fn crash_large<D: TestDisk>(rows: &mut Rows, mut disk: D) {
 
 #[test]
 fn a_large_disk_is_written_and_synced(rt: HostRuntime) -> Result<(), Fail> {
-    let disk = MemDisk::new(rt.alloc(), LEN)?;
     let mut rows = Rows::new();
-    crash_large(&mut rows, disk);
-    rows.all()?;
-    Ok(())
+    match MemDisk::new(rt.alloc(), LEN) {
+        Ok(disk) => crash_large(&mut rows, disk),
+        Err(_) => rows.is("memory for a disk", false),
+    }
+    rows.passes()
 }
 
 /// Writes 1 to 8 to a disk and syncs it, and writes bytes 2 to 5 over with 20. Whether all is done.
@@ -82,28 +83,37 @@ fn leaves<D: TestDisk>(mut disk: D, choice: &[u16], [a, b, c, d]: [u8; 4]) -> bo
     is_written(&mut disk) && bytes(disk.crashed(choice)) == Some([1, 2, a, b, c, d, 7, 8])
 }
 
+/// Choices, and the four bytes that they leave.
+const CHOICES: [(&[u16], [u8; 4]); 6] = [
+    (&[256; 4], [3, 4, 5, 6]),
+    (&[257; 4], [20; 4]),
+    (&[257, 256, 257, 256], [20, 4, 20, 6]),
+    (&[0xa5; 4], [0xa5; 4]),
+    // A short list, and a number that is no choice, stand for the synced byte.
+    (&[257, 258, 255], [20, 4, 255, 6]),
+    (&[], [3, 4, 5, 6]),
+];
+
+/// The same of a new disk.
+fn is_left(alloc: Global, choice: &[u16], left: [u8; 4]) -> bool {
+    match MemDisk::new(alloc, 8) {
+        Ok(disk) => leaves(disk, choice, left),
+        Err(_) => false,
+    }
+}
+
+fn choose(alloc: Global) -> Rows {
+    let mut rows = Rows::new();
+    for (row, (choice, left)) in CHOICES.iter().enumerate() {
+        let is_it = is_left(alloc, choice, *left);
+        rows.nth(row, "the bytes behind the crash", is_it);
+    }
+    rows
+}
+
 #[test]
 fn a_crash_leaves_what_was_chosen(rt: HostRuntime) -> Result<(), Fail> {
-    let mut rows = Rows::new();
-    let table = [
-        ([256; 4].as_slice(), [3, 4, 5, 6]),
-        ([257; 4].as_slice(), [20; 4]),
-        ([257, 256, 257, 256].as_slice(), [20, 4, 20, 6]),
-        ([0xa5; 4].as_slice(), [0xa5; 4]),
-        // A short list, and a number that is no choice, stand for the synced byte.
-        ([257, 258, 255].as_slice(), [20, 4, 255, 6]),
-        ([].as_slice(), [3, 4, 5, 6]),
-    ];
-    for (row, (choice, left)) in table.iter().enumerate() {
-        let disk = MemDisk::new(rt.alloc(), 8)?;
-        rows.nth(
-            row,
-            "the bytes behind the crash",
-            leaves(disk, choice, *left),
-        );
-    }
-    rows.all()?;
-    Ok(())
+    choose(rt.alloc()).passes()
 }
 
 /// Whether a crash in this mode leaves these four bytes of a disk of 8 between the others.
@@ -111,17 +121,33 @@ fn leaves_in<D: TestDisk>(mut disk: D, mode: CrashMode, [a, b, c, d]: [u8; 4]) -
     is_written(&mut disk) && bytes(disk.crashed_in(mode)) == Some([1, 2, a, b, c, d, 7, 8])
 }
 
+/// The four bytes that a crash in each mode leaves.
+const MODES: [(CrashMode, [u8; 4]); 4] = [
+    (CrashMode::Synced, [3, 4, 5, 6]),
+    (CrashMode::Written, [20; 4]),
+    (CrashMode::EvenWritten, [20, 4, 20, 6]),
+    (CrashMode::Garbled, [0xa5; 4]),
+];
+
+/// The same of a new disk.
+fn is_left_in(alloc: Global, mode: CrashMode, left: [u8; 4]) -> bool {
+    match MemDisk::new(alloc, 8) {
+        Ok(disk) => leaves_in(disk, mode, left),
+        Err(_) => false,
+    }
+}
+
+fn crash_in_each(alloc: Global) -> Rows {
+    let mut rows = Rows::new();
+    for (row, (mode, left)) in MODES.iter().enumerate() {
+        rows.nth(row, left_in(*mode), is_left_in(alloc, *mode, *left));
+    }
+    rows
+}
+
 #[test]
 fn a_crash_leaves_what_its_mode_says(rt: HostRuntime) -> Result<(), Fail> {
-    let left = [[3, 4, 5, 6], [20; 4], [20, 4, 20, 6], [0xa5; 4]];
-    let mut rows = Rows::new();
-    for (row, (mode, left)) in CrashMode::ALL.iter().zip(left.iter()).enumerate() {
-        let disk = MemDisk::new(rt.alloc(), 8)?;
-        let is_left = leaves_in(disk, *mode, *left);
-        rows.nth(row, left_in(*mode), is_left);
-    }
-    rows.all()?;
-    Ok(())
+    crash_in_each(rt.alloc()).passes()
 }
 
 /// Which of these places are pending.
@@ -175,8 +201,7 @@ fn listed_calls_fail(rt: HostRuntime) -> Result<(), Fail> {
     let mut rows = Rows::new();
     let is_done = fail::<Made>(&mut rows, rt.alloc()).is_some();
     rows.is("a disk is made", is_done);
-    rows.all()?;
-    Ok(())
+    rows.passes()
 }
 
 /// Writes and reads in the second half of a disk of 1,024 bytes.
@@ -200,11 +225,12 @@ fn use_region<D: Disk>(rows: &mut Rows, disk: &mut D) {
 
 #[test]
 fn a_region_counts_from_its_start(rt: HostRuntime) -> Result<(), Fail> {
-    let mut disk = MemDisk::new(rt.alloc(), 1024)?;
     let mut rows = Rows::new();
-    use_region(&mut rows, &mut disk);
-    rows.all()?;
-    Ok(())
+    match MemDisk::new(rt.alloc(), 1024) {
+        Ok(mut disk) => use_region(&mut rows, &mut disk),
+        Err(_) => rows.is("memory for a disk", false),
+    }
+    rows.passes()
 }
 
 /// Takes what may go to another thread.

@@ -56,8 +56,7 @@ fn a_block_is_spelled(rt: HostRuntime) -> Result<(), Fail> {
     let mut rows = Rows::new();
     let is_done = spell::<Made>(&mut rows, rt.alloc()).is_some();
     rows.is("a disk is made", is_done);
-    rows.all()?;
-    Ok(())
+    rows.passes()
 }
 
 /// Whether a disk of this length gets so many arenas, or none for this cause.
@@ -86,8 +85,7 @@ fn a_disk_has_as_many_arenas_as_fit(rt: HostRuntime) -> Result<(), Fail> {
         let is_it = counts::<Made>(rt.alloc(), *len, *wanted);
         rows.nth(row, "the count of arenas, or the refusal", is_it);
     }
-    rows.all()?;
-    Ok(())
+    rows.passes()
 }
 
 /// What a partition tells of itself: its name, the size of an arena, their count, and the last one.
@@ -118,8 +116,7 @@ fn a_partition_is_mounted(rt: HostRuntime) -> Result<(), Fail> {
     let mut rows = Rows::new();
     let is_done = give_back::<Made>(&mut rows, rt.alloc()).is_some();
     rows.is("a partition is mounted", is_done);
-    rows.all()?;
-    Ok(())
+    rows.passes()
 }
 
 /// Mounts a disk: why it is no partition.
@@ -174,8 +171,7 @@ fn the_first_fault_is_told(rt: HostRuntime) -> Result<(), Fail> {
         let is_it = mounts::<Made>(rt.alloc(), *len, &head, *wanted);
         rows.nth(row, "the refusal", is_it);
     }
-    rows.all()?;
-    Ok(())
+    rows.passes()
 }
 
 /// Makes a disk of this length a partition of this name, one more of these. Whether it is made.
@@ -241,8 +237,7 @@ fn arenas_are_listed(rt: HostRuntime) -> Result<(), Fail> {
     let wanted = [arena(0, 0, 8192), arena(0, 1, 40_960), arena(1, 0, 8192)];
     let mut rows = Rows::new();
     see_listed::<Made>(&mut rows, rt.alloc(), &disks, &wanted);
-    rows.all()?;
-    Ok(())
+    rows.passes()
 }
 
 #[test]
@@ -260,8 +255,7 @@ fn two_of_one_name_are_refused(rt: HostRuntime) -> Result<(), Fail> {
     let mut rows = Rows::new();
     let is_it = is_refused::<Made>(rt.alloc(), &disks, bad);
     rows.is("the refusal", is_it);
-    rows.all()?;
-    Ok(())
+    rows.passes()
 }
 
 /// Formats a disk of which calls 0, 2 and 5 fail, and mounts it. None where it isn't made.
@@ -288,8 +282,7 @@ fn a_fault_hands_the_disk_back(rt: HostRuntime) -> Result<(), Fail> {
     let mut rows = Rows::new();
     let is_done = go_on::<Made>(&mut rows, rt.alloc()).is_some();
     rows.is("a disk is made", is_done);
-    rows.all()?;
-    Ok(())
+    rows.passes()
 }
 
 /// Notes of each row whether it says if it is a name.
@@ -325,6 +318,5 @@ fn names_and_sizes_are_tested(rt: HostRuntime) -> Result<(), Fail> {
         let is_it = is_arena_size(*size) == *wanted;
         rows.nth(row, "whether an arena may have that size", is_it);
     }
-    rows.all()?;
-    Ok(())
+    rows.passes()
 }

@@ -4,7 +4,7 @@
 
 ghost use Rattle.std.specs.Prelude.{◌≡◌, IsSome, true};
 
-use crate::disks::{FailingDisk, Made, NEVER, left_in, read};
+use crate::disks::{FailingDisk, Made, NEVER, in_mode, left_in, read};
 use std::alloc::Global;
 use std::test::Fail;
 use vt_base::Bytes;
@@ -207,8 +207,7 @@ fn a_byte_names_a_frame(rt: HostRuntime) -> Result<(), Fail> {
     for (row, (selector, current)) in table.iter().enumerate() {
         see_resumed(&mut rows, row, *selector, *current);
     }
-    rows.all()?;
-    Ok(())
+    rows.passes()
 }
 
 /// The disk of a change that ends with this call.
@@ -255,10 +254,16 @@ fn crashed<D: FailingDisk>(
 
 /// Ends a change with this call and crashes, in each mode: whether the new frame is there then, and
 /// else the old one.
-fn crash(rows: &mut Rows, alloc: Global, row: usize, end: (u64, bool), is_new: &[bool; 4]) {
-    for (mode, is_new) in CrashMode::ALL.iter().zip(is_new.iter()) {
-        let found = crashed::<Made>(rows, alloc, row, end, *mode);
-        let wanted = if *is_new { NEW } else { OLD };
+fn crash<D: FailingDisk>(
+    rows: &mut Rows,
+    alloc: Global,
+    row: usize,
+    end: (u64, bool),
+    is_new: &[bool; 4],
+) {
+    for mode in &CrashMode::ALL {
+        let found = crashed::<D>(rows, alloc, row, end, *mode);
+        let wanted = if in_mode(*mode, is_new) { NEW } else { OLD };
         rows.nth(row, left_in(*mode), found == Some(wanted));
     }
 }
@@ -276,14 +281,17 @@ const ENDS: [(u64, bool, [bool; 4]); 8] = [
     (3, false, [true, true, true, true]),
 ];
 
-#[test]
-fn a_change_is_stopped_anywhere(rt: HostRuntime) -> Result<(), Fail> {
+fn stop_anywhere<D: FailingDisk>(alloc: Global) -> Rows {
     let mut rows = Rows::new();
     for (row, (call, fails, is_new)) in ENDS.iter().enumerate() {
-        crash(&mut rows, rt.alloc(), row, (*call, *fails), is_new);
+        crash::<D>(&mut rows, alloc, row, (*call, *fails), is_new);
     }
-    rows.all()?;
-    Ok(())
+    rows
+}
+
+#[test]
+fn a_change_is_stopped_anywhere(rt: HostRuntime) -> Result<(), Fail> {
+    stop_anywhere::<Made>(rt.alloc()).passes()
 }
 
 /// Changes a frame twice, and sees the disk byte for byte: what lies outside stays, and the
@@ -317,6 +325,5 @@ fn changes_follow_one_another(rt: HostRuntime) -> Result<(), Fail> {
     let mut rows = Rows::new();
     let is_done = change_twice::<Made>(&mut rows, rt.alloc()).is_some();
     rows.is("a twin is mounted", is_done);
-    rows.all()?;
-    Ok(())
+    rows.passes()
 }

@@ -68,8 +68,7 @@ fn a_file_is_a_disk(rt: HostRuntime) -> Result<(), Fail> {
     // The file is made shorter behind the disk's back.
     file.set_len(5_001)?;
     see_short(&mut rows, &mut disk);
-    rows.all()?;
-    Ok(())
+    rows.passes()
 }
 
 /// Opens files of 8 bytes. The opening of the first number fails, and of each file the call of the
@@ -108,8 +107,7 @@ fn an_error_of_a_file_is_handed_on(rt: HostRuntime) -> Result<(), Fail> {
     let mut rows = Rows::new();
     see_sync(&mut rows, &mut disk);
     rows.is("how many files are opened", files.notes.calls.len() == 2);
-    rows.all()?;
-    Ok(())
+    rows.passes()
 }
 
 /// Whether a file is opened as a disk of 9 bytes, where this opening, and of each file this call,
@@ -137,6 +135,5 @@ fn an_error_of_opening_is_handed_on(rt: HostRuntime) -> Result<(), Fail> {
         let found = opens(rt, rt.alloc(), opening, call);
         rows.nth(row, "a disk is opened", found == wanted);
     }
-    rows.all()?;
-    Ok(())
+    rows.passes()
 }

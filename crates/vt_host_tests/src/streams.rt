@@ -83,8 +83,7 @@ fn see_reads<S: Source>(rows: &mut Rows, source: &mut S) {
 fn a_broken_read_is_a_fault(rt: HostRuntime) -> Result<(), Fail> {
     let mut rows = Rows::new();
     see_reads(&mut rows, &mut StdSource::new(Broken::new()));
-    rows.all()?;
-    Ok(())
+    rows.passes()
 }
 
 /// Pieces, and what a sink says of them.
@@ -101,8 +100,7 @@ fn a_piece_is_written_whole_or_is_a_fault(rt: HostRuntime) -> Result<(), Fail> {
     let pieces: Pieces = [(b"abcde", Ok(())), (b"f", Err(Failed)), (b"g", Ok(()))];
     let mut rows = Rows::new();
     see_pieces(&mut rows, &mut StdSink::new(Broken::new()), pieces);
-    rows.all()?;
-    Ok(())
+    rows.passes()
 }
 
 #[test]
@@ -113,8 +111,7 @@ fn a_piece_is_flushed(rt: HostRuntime) -> Result<(), Fail> {
     });
     let mut rows = Rows::new();
     see_pieces(&mut rows, &mut sink, pieces);
-    rows.all()?;
-    Ok(())
+    rows.passes()
 }
 
 #[test]
@@ -127,8 +124,7 @@ fn an_interrupted_read_is_made_again(rt: HostRuntime) -> Result<(), Fail> {
     let mut rows = Rows::new();
     rows.is("how many bytes come in", taken == Ok(3));
     rows.is("the bytes that come in", buf == [7; 3]);
-    rows.all()?;
-    Ok(())
+    rows.passes()
 }
 
 /// Takes what may go to another thread.

@@ -1,21 +1,16 @@
 //! Sections on disks in memory: spelled by hand, stopped, crashed, damaged and refused.
 //!
-//! What is done with a section is data. It is done on any disk, which is much less work to prove than
-//! on one in memory, and the test functions alone make such disks and crash them.
+//! What is done with a section is data. It is done to any `TestSection`, and the test functions alone
+//! name the real one.
 
-ghost use Rattle.std.specs.Prelude.{◌≡◌, ◌<◌};
-ghost use Rattle.vt_isect.specs.Layout.{InRange};
-
-use crate::cases::note;
+use crate::disks::{Change, Made, TestDisk, changed};
+use crate::sections::{MadeSection, TestSection, count, make};
 use std::alloc::{AllocError, Global};
-use std::marker::Brand;
-use std::sync::ledger::{Blank, Ledger};
 use std::test::Fail;
-use vt_base::{Entry, FieldValue, Key, Kind, Place, Score, Steps, Text};
+use vt_base::{Entry, FieldValue, Key, Kind, Place, Score};
 use vt_bucket::Bucket;
-use vt_disk::Disk;
-use vt_isect::{Entries, Field, SectBad, Section, ShardErr, bucket_number, format, mount};
-use vt_memdisk::{CrashMode, Listed, MemDisk};
+use vt_isect::{Entries, Field, SectBad, ShardErr, bucket_number};
+use vt_memdisk::CrashMode;
 use vt_rows::Rows;
 use vt_twin::Step;
 
@@ -33,12 +28,6 @@ const NEVER: u64 = u64::MAX;
 const MANY: u32 = 66;
 
 const MANY_LEN: u64 = 1_139_712;
-
-/// A disk of this length, of which this call fails.
-fn disk(alloc: Global, len: u64, failing: u64) -> Result<MemDisk<Listed>, Fail> {
-    let calls = vec![in alloc; failing]?;
-    Ok(MemDisk::failing(alloc, len, calls)?)
-}
 
 /// An entry whose score begins with these bytes.
 fn entry(first: u8, second: u8, offset: u32) -> Entry {
@@ -151,9 +140,9 @@ impl Act<'_> {
 }
 
 /// Does these with a section. Each is a row, and the first has this number.
-fn play<D: Disk>(
+fn play<T: TestSection>(
     alloc: Global,
-    section: &mut Section<D>,
+    section: &mut T,
     acts: &[Act],
     first: usize,
     rows: &mut Rows,
@@ -165,20 +154,20 @@ fn play<D: Disk>(
 }
 
 /// Whether a section gives what it has to.
-fn begins<D: Disk>(alloc: Global, section: &mut Section<D>, act: &Act) -> bool {
+fn begins<T: TestSection>(alloc: Global, section: &mut T, act: &Act) -> bool {
     match act {
         Act::ChangeHead(state, mark) => change_head(section, *state, *mark),
-        Act::Clear(first, count) => clear(section, *first, *count) == Some(Ok(())),
+        Act::Clear(first, count) => section.empty(*first, *count) == Some(Ok(())),
         Act::FillAndClear(answer) => fill_and_clear(section) == Some(*answer),
-        Act::Put(behind) => put_three(alloc, section, *behind),
-        Act::PutMany => put_many(alloc, section),
+        Act::Put(behind) => put(section, three(alloc), *behind),
+        Act::PutMany => put(section, one_of_each(alloc), None),
         Act::TakeBack => take_back(section),
         _ => goes_on(section, act),
     }
 }
 
 /// The same of what is under way.
-fn goes_on<D: Disk>(section: &mut Section<D>, act: &Act) -> bool {
+fn goes_on<T: TestSection>(section: &mut T, act: &Act) -> bool {
     match act {
         Act::Go(calls) => { step_after(section, calls.saturating_sub(1)) == Some(Ok(Step::More)) }
         Act::Finish(calls) => finish(section, *calls),
@@ -187,53 +176,46 @@ fn goes_on<D: Disk>(section: &mut Section<D>, act: &Act) -> bool {
         Act::Stopped(call) => is_stopped(section, *call),
         Act::Level(wanted) => level(section) == *wanted,
         Act::Has(number, offsets) => has(section, *number, offsets),
-        Act::Found(is_found) => is_given(section, 1) == *is_found,
-        Act::Lost(number, bad) => { bucket(section, *number).and_then(Result::err) == Some(*bad) }
+        Act::Found(is_found) => matches!(section.look_up(1), Some(Ok(_))) == *is_found,
+        Act::Lost(number, bad) => section.look_up(*number).and_then(Result::err) == Some(*bad),
         _ => tells(section, act),
     }
 }
 
 /// The same where the section isn't changed.
-fn tells<D: Disk>(section: &Section<D>, act: &Act) -> bool {
+fn tells<T: TestSection>(section: &T, act: &Act) -> bool {
+    let told = section.told();
     match act {
-        Act::Calls(most) => section.calls_left() == *most,
-        Act::UnderWay(bucket) => section.bucket_under_way() == *bucket,
-        Act::Changing(changes) => section.is_changing() == *changes,
-        Act::Written(entries) => section.written() == *entries,
-        Act::Name(name) => section.name()[..8] == name[..],
-        Act::Buckets(count) => section.buckets() == *count,
+        Act::Calls(most) => told.calls == *most,
+        Act::UnderWay(bucket) => told.bucket == *bucket,
+        Act::Changing(changes) => told.is_changing == *changes,
+        Act::Written(entries) => told.written == *entries,
+        Act::Name(name) => told.name == **name,
+        Act::Buckets(count) => told.buckets == *count,
         _ => false,
     }
 }
 
-/// Makes one device call, where something is under way.
-fn step<D: Disk>(section: &mut Section<D>) -> Option<Result<Step, ShardErr>> {
-    if !section.is_changing() {
-        return None;
-    }
-    Some(section.advance())
-}
-
 /// Makes so many device calls and one further call, which gives this, where each of those before it
 /// gives More.
-fn step_after<D: Disk>(section: &mut Section<D>, calls: u64) -> Option<Result<Step, ShardErr>> {
+fn step_after<T: TestSection>(section: &mut T, calls: u64) -> Option<Result<Step, ShardErr>> {
     for _ in 0..calls {
-        if step(section) != Some(Ok(Step::More)) {
+        if section.step() != Some(Ok(Step::More)) {
             return None;
         }
     }
-    step(section)
+    section.step()
 }
 
 /// Whether what is under way takes so many calls at least, and ends with the last of them.
-fn finish<D: Disk>(section: &mut Section<D>, calls: u64) -> bool {
-    section.calls_left() >= calls
+fn finish<T: TestSection>(section: &mut T, calls: u64) -> bool {
+    section.told().calls >= calls
         && step_after(section, calls.saturating_sub(1)) == Some(Ok(Step::Done))
-        && section.calls_left() == 0
+        && section.told().calls == 0
 }
 
 /// Whether of so many calls and one further call that alone fails, or none.
-fn stop<D: Disk>(section: &mut Section<D>, call: u64, fails: bool) -> bool {
+fn stop<T: TestSection>(section: &mut T, call: u64, fails: bool) -> bool {
     match step_after(section, call) {
         Some(Ok(_)) => !fails,
         Some(Err(bad)) => fails && bad == ShardErr::Fault,
@@ -242,124 +224,63 @@ fn stop<D: Disk>(section: &mut Section<D>, call: u64, fails: bool) -> bool {
 }
 
 /// Whether the section is stopped at this call, or at none.
-fn is_stopped<D: Disk>(section: &mut Section<D>, call: Option<u64>) -> bool {
-    if section.stopped() != call {
+fn is_stopped<T: TestSection>(section: &mut T, call: Option<u64>) -> bool {
+    if section.told().stopped != call {
         return false;
     }
     match call {
-        Some(call) => step(section) == Some(Err(ShardErr::Stopped(call))),
+        Some(call) => section.step() == Some(Err(ShardErr::Stopped(call))),
         None => true,
     }
 }
 
-/// Changes the head to this state and mark, of the only section.
-fn change_head<D: Disk>(section: &mut Section<D>, state: u8, mark: u64) -> bool {
-    if section.is_changing() {
-        return false;
-    }
-    let buckets = section.buckets();
-    section.begin_head(state, 0, buckets, mark);
-    finish(section, 4)
-}
-
-/// Clears so many buckets, from this one on, where they are there.
-fn clear<D: Disk>(
-    section: &mut Section<D>,
-    first: u32,
-    count: u32,
-) -> Option<Result<(), ShardErr>> {
-    let buckets = section.buckets();
-    let is_there = section.head().first == 0 && first < buckets && count <= buckets - first;
-    if section.is_changing() || !is_there {
-        return None;
-    }
-    Some(section.clear(first, count))
+/// Changes the head to this state and mark.
+fn change_head<T: TestSection>(section: &mut T, state: u8, mark: u64) -> bool {
+    section.begin_change(state, mark) && finish(section, 4)
 }
 
 /// Fills bucket 1 with an entry, looks it up and clears it again, up to a call that fails. None where
 /// another bucket is looked up, or it isn't there.
-fn fill_and_clear<D: Disk>(section: &mut Section<D>) -> Option<Result<(), ShardErr>> {
+fn fill_and_clear<T: TestSection>(section: &mut T) -> Option<Result<(), ShardErr>> {
     let mut one = Bucket::new(1);
-    let added = one.with(entry(0x80, 0, 8));
-    if added.is_err() || section.is_changing() || !section.has_bucket(one.number()) {
+    if one.with(entry(0x80, 0, 8)).is_err() {
         return None;
     }
-    if let Err(bad) = section.fill(&one) {
+    if let Err(bad) = section.refill(&one)? {
         return Some(Err(bad));
     }
-    match bucket(section, 1)? {
-        Ok(found) if found.entries() == one.entries() => clear(section, 1, 1),
+    match section.look_up(1)? {
+        Ok(found) if found.entries() == one.entries() => section.empty(1, 1),
         Ok(_) => None,
         Err(bad) => Some(Err(bad)),
     }
 }
 
-/// Begins to write these entries back, where that may be done.
-fn put<D: Disk>(section: &mut Section<D>, entries: Entries, behind: Option<u32>) -> bool {
-    if section.is_changing() || !section.has_buckets(entries.as_slice()) {
-        return false;
-    }
-    section.begin_file(entries, 3, behind);
-    true
-}
-
-/// Begins to write the three entries back.
-fn put_three<D: Disk>(alloc: Global, section: &mut Section<D>, behind: Option<u32>) -> bool {
-    match three(alloc) {
-        Ok(entries) => put(section, entries, behind),
-        Err(_) => false,
-    }
-}
-
-/// Begins to write an entry of each bucket but the last.
-fn put_many<D: Disk>(alloc: Global, section: &mut Section<D>) -> bool {
-    match one_of_each(alloc) {
-        Ok(entries) => put(section, entries, None),
+/// Begins to write these entries back, where there is memory for them.
+fn put<T: TestSection>(
+    section: &mut T,
+    entries: Result<Entries, AllocError>,
+    behind: Option<u32>,
+) -> bool {
+    match entries {
+        Ok(entries) => section.begin_writeback(entries, behind),
         Err(_) => false,
     }
 }
 
 /// Whether the three entries are handed back, in the order of their buckets, and not twice.
-fn take_back<D: Disk>(section: &mut Section<D>) -> bool {
-    let Some(list) = section.idle() else {
+fn take_back<T: TestSection>(section: &mut T) -> bool {
+    let Some(list) = section.take_back() else {
         return false;
     };
     let entries = list.as_slice();
     let is_last = entries.last().is_some_and(|last| last.place.offset == 8);
-    entries.len() == 3 && is_last && section.idle().is_none()
-}
-
-/// A bucket, with a count of steps of its own.
-fn look_up<D: Disk, L: Ledger>(
-    section: &mut Section<D>,
-    number: u32,
-    blank: Blank,
-) -> Result<Bucket, ShardErr>
-    requires range { InRange section.old.head section.old.buckets number }
-    requires name { blank.name ≡ L.name }
-    requires parts { blank.parts ≡ L.parts }
-    requires some { 0 < L.parts }
-{
-    let mut steps = Steps::<L>::new(blank);
-    section.bucket(number, &mut steps)
-}
-
-/// What a look-up of a bucket answers, where it is there.
-fn bucket<D: Disk>(section: &mut Section<D>, number: u32) -> Option<Result<Bucket, ShardErr>> {
-    if !section.has_bucket(number) {
-        return None;
-    }
-    Some(look_up::<D, Brand>(section, number, Blank::new(1)))
-}
-
-/// Whether a look-up gives a bucket.
-fn is_given<D: Disk>(section: &mut Section<D>, number: u32) -> bool {
-    matches!(bucket(section, number), Some(Ok(_)))
+    entries.len() == 3 && is_last && section.take_back().is_none()
 }
 
 /// Whether a look-up gives a bucket with entries at these offsets, in this order, and no others.
-fn has<D: Disk>(section: &mut Section<D>, number: u32, offsets: &[u32]) -> bool {
-    match bucket(section, number) {
+fn has<T: TestSection>(section: &mut T, number: u32, offsets: &[u32]) -> bool {
+    match section.look_up(number) {
         Some(Ok(bucket)) => are_at(bucket.entries(), offsets),
         _ => false,
     }
@@ -381,8 +302,8 @@ fn are_at(entries: &[Entry], offsets: &[u32]) -> bool {
 /// How far the writeback of the three entries has come, as the disk has it: 0 where nothing is
 /// written, 1 where bucket 0 is, 2 where both buckets are, 3 where the mark is raised too. Else the
 /// buckets and the mark don't go together.
-fn level<D: Disk>(section: &mut Section<D>) -> u8 {
-    let mark = section.mark();
+fn level<T: TestSection>(section: &mut T) -> u8 {
+    let mark = section.told().mark;
     let first = [has(section, 0, &[]), has(section, 0, &[9, 7])];
     let second = [has(section, 1, &[]), has(section, 1, &[8])];
     match (first, second, mark) {
@@ -394,106 +315,119 @@ fn level<D: Disk>(section: &mut Section<D>) -> u8 {
     }
 }
 
-/// Makes a disk a section.
-fn format_named<D: Disk>(alloc: Global, disk: &mut D) -> Result<Result<u32, SectBad>, Fail> {
-    let name = Text::copy_of(alloc, b"index.0")?;
-    if name.len() > 64 {
-        return Err("name".into());
-    }
-    Ok(format(disk, &name))
+// ---- sections of new disks
+
+/// Puts a section to use with so many empty buckets.
+fn begins_use<T: TestSection>(section: &mut T, buckets: u32) -> bool {
+    change_head(section, 2, 0)
+        && section.empty(0, buckets) == Some(Ok(()))
+        && change_head(section, 1, 0)
 }
 
-/// The section of a disk.
-pub fn mounted<D: Disk + Drop>(alloc: Global, disk: D) -> Result<Section<D>, Fail> {
-    match mount(alloc, disk) {
-        Ok(section) => Ok(section),
-        Err(_) => Err("not mounted".into()),
+/// A section that is put to use with so many empty buckets, on a new disk of this length, of which
+/// these calls fail.
+pub fn used<T: TestSection>(alloc: Global, len: u64, failing: &[u64], buckets: u32) -> Option<T> {
+    let mut section = T::made(alloc, len, failing, &[])?;
+    if begins_use(&mut section, buckets) {
+        Some(section)
+    } else {
+        None
     }
 }
 
-/// Makes a disk a section.
-fn formatted<D: Disk + Drop>(alloc: Global, mut disk: D) -> Result<D, Fail> {
-    if format_named(alloc, &mut disk)?.is_err() {
-        return Err("not formatted".into());
-    }
-    Ok(disk)
+/// The same, mounted again, so that it remembers no bucket's frame.
+pub fn live<T: TestSection>(alloc: Global, len: u64, failing: &[u64], buckets: u32) -> Option<T> {
+    let section: Option<T> = used(alloc, len, failing, buckets);
+    again(alloc, section, Change::Nothing)
 }
 
-/// Does these with the section of a disk, and gives the disk back.
-fn session<D: Disk + Drop>(
+/// A section is mounted again, behind a change of its disk.
+fn again<T: TestSection>(alloc: Global, section: Option<T>, change: Change) -> Option<T> {
+    match section {
+        Some(section) => section.again(alloc, change),
+        None => None,
+    }
+}
+
+/// Does these with a section, and gives it back. Each is a row, and the first has this number.
+fn session<T: TestSection>(
     alloc: Global,
-    disk: D,
+    section: Option<T>,
     acts: &[Act],
     first: usize,
     rows: &mut Rows,
-) -> Result<D, Fail> {
-    let mut section = mounted(alloc, disk)?;
-    play(alloc, &mut section, acts, first, rows);
-    Ok(section.into_devices())
-}
-
-/// Makes a disk a section that is put to use with so many empty buckets.
-pub fn live(alloc: Global, disk: MemDisk<Listed>, buckets: u32) -> Result<MemDisk<Listed>, Fail> {
-    let acts = [
-        Act::ChangeHead(2, 0),
-        Act::Clear(0, buckets),
-        Act::ChangeHead(1, 0),
-    ];
-    let mut rows = Rows::new();
-    let disk = session(alloc, formatted(alloc, disk)?, &acts, 0, &mut rows)?;
-    rows.all()?;
-    Ok(disk)
-}
-
-/// Does these with a section that is put to use and mounted again, so that it remembers no bucket's
-/// frame, on a disk with two buckets of which this call fails. Each is a row.
-fn run(alloc: Global, failing: u64, acts: &[Act]) -> Result<Rows, Fail> {
-    let disk = live(alloc, disk(alloc, LEN, failing)?, 2)?;
-    let mut rows = Rows::new();
-    session(alloc, disk, acts, 0, &mut rows)?;
-    Ok(rows)
-}
-
-/// Writes these bytes over a disk, each at its place.
-fn spoil<D: Disk>(disk: &mut D, bytes: &[(u64, u8)]) -> Result<(), Fail> {
-    for (at, byte) in bytes {
-        if *at >= disk.len() {
-            return Err("a place".into());
+) -> Option<T> {
+    match section {
+        Some(mut section) => {
+            play(alloc, &mut section, acts, first, rows);
+            Some(section)
         }
-        disk.write_at(*at, &[*byte])?;
+        None => {
+            rows.nth(first, "a section is mounted", false);
+            None
+        }
     }
-    Ok(())
 }
 
-/// The same behind writes of these bytes.
-fn run_spoiled(alloc: Global, bytes: &[(u64, u8)], acts: &[Act]) -> Result<Rows, Fail> {
-    let mut disk = live(alloc, disk(alloc, LEN, NEVER)?, 2)?;
-    spoil(&mut disk, bytes)?;
+/// Does these with a section that was put to use and is mounted again behind a change of its disk. It
+/// has two buckets, and this call of the disk fails. Each is a row.
+fn run<T: TestSection>(alloc: Global, failing: u64, change: Change, acts: &[Act]) -> Rows {
     let mut rows = Rows::new();
-    session(alloc, disk, acts, 0, &mut rows)?;
-    Ok(rows)
+    let section: Option<T> = used(alloc, LEN, &[failing], 2);
+    session(alloc, again(alloc, section, change), acts, 0, &mut rows);
+    rows
 }
 
-/// A section's disk on which a writeback of the three entries ends with this call of it.
-fn written(alloc: Global, call: u8, fails: bool, rows: &mut Rows) -> Result<MemDisk<Listed>, Fail> {
-    let call = u64::from(call);
-    // The first two calls of a bucket read, and end a writeback where they fail.
+// ---- a writeback that is stopped
+
+/// How a writeback of the three entries ends.
+#[derive(Clone, Copy)]
+struct End {
+    /// The call with which it ends, and whether that fails.
+    call: u64,
+    fails: bool,
+    /// The number of the disk's call that fails.
+    failing: u64,
+    /// The call at which the section is stopped then.
+    stopped: Option<u64>,
+    /// Whether something is under way then.
+    is_changing: bool,
+}
+
+/// It ends with this call. The first two calls of a bucket read, and end a writeback where they fail.
+fn end_with(call: u64, fails: bool) -> End {
     let is_read = call < 2 || call == 3 || call == 4;
-    let (failing, changes) = if fails {
-        (FIRST_CALL + call, !is_read)
+    if fails {
+        End {
+            call,
+            fails,
+            failing: FIRST_CALL.saturating_add(call),
+            stopped: if is_read { None } else { Some(call) },
+            is_changing: !is_read,
+        }
     } else {
-        (NEVER, call < 13)
-    };
+        End {
+            call,
+            fails,
+            failing: NEVER,
+            stopped: None,
+            is_changing: call < 13,
+        }
+    }
+}
+
+/// A section of which a writeback of the three entries ends so.
+fn written<T: TestSection>(alloc: Global, end: &End, rows: &mut Rows) -> Option<T> {
     let acts = [
         Act::Put(None),
         Act::Calls(16),
         Act::UnderWay(Some(0)),
-        Act::Stop(call, fails),
-        Act::Stopped(if fails && !is_read { Some(call) } else { None }),
-        Act::Changing(changes),
+        Act::Stop(end.call, end.fails),
+        Act::Stopped(end.stopped),
+        Act::Changing(end.is_changing),
     ];
-    let disk = live(alloc, disk(alloc, LEN, failing)?, 2)?;
-    session(alloc, disk, &acts, 0, rows)
+    let section = live(alloc, LEN, &[end.failing], 2);
+    session(alloc, section, &acts, 0, rows)
 }
 
 /// What is left by a crash after each call, in the four modes, where it is done and where it fails:
@@ -516,45 +450,33 @@ const WRITEBACK: [[[u8; 4]; 2]; 14] = [
     [*b"3333", *b"2333"],
 ];
 
-/// How far a writeback has come that ends with this call, after a crash.
-fn crash_at(
-    alloc: Global,
-    call: u8,
-    fails: bool,
-    mode: CrashMode,
-    wanted: u8,
-) -> Result<Rows, Fail> {
+/// How far a writeback has come that ends so, after a crash.
+fn crash_at<T: TestSection>(alloc: Global, end: &End, mode: CrashMode, wanted: u8) -> Rows {
     let mut rows = Rows::new();
-    let disk = written(alloc, call, fails, &mut rows)?;
-    session(
-        alloc,
-        disk.crash_in(mode),
-        &[Act::Level(wanted)],
-        6,
-        &mut rows,
-    )?;
-    Ok(rows)
+    let section: Option<T> = written(alloc, end, &mut rows);
+    let section = again(alloc, section, Change::Crash(mode));
+    session(alloc, section, &[Act::Level(wanted)], 6, &mut rows);
+    rows
 }
 
 /// The same of each mode.
-fn crash_in_each(
-    alloc: Global,
-    call: u8,
-    fails: bool,
-    wanted: [u8; 4],
-    rows: &mut Rows,
-) -> Result<(), Fail> {
-    for mode in CrashMode::ALL {
-        let (thousands, wanted) = in_mode(mode, wanted);
-        let found = crash_at(alloc, call, fails, mode, wanted)?;
-        let row = thousands as usize + 10 * call as usize + usize::from(fails);
-        note(rows, row, &found);
+fn crash_in_each<T: TestSection>(alloc: Global, end: &End, wanted: [u8; 4], rows: &mut Rows) {
+    for mode in &CrashMode::ALL {
+        let (thousands, wanted) = in_mode(*mode, wanted);
+        let found = crash_at::<T>(alloc, end, *mode, wanted);
+        rows.note(thousands.saturating_add(row_of(end)), &found);
     }
-    Ok(())
+}
+
+/// The last three digits of a row's number are two of the call, and 1 where it fails.
+fn row_of(end: &End) -> usize {
+    (end.call as usize)
+        .saturating_mul(10)
+        .saturating_add(usize::from(end.fails))
 }
 
 /// A thousand for each mode before this one, and what is wanted in it.
-fn in_mode(mode: CrashMode, wanted: [u8; 4]) -> (u16, u8) {
+fn in_mode(mode: CrashMode, wanted: [u8; 4]) -> (usize, u8) {
     let [synced, written, even, garbled] = wanted;
     match mode {
         CrashMode::Synced => (0, synced),
@@ -564,95 +486,91 @@ fn in_mode(mode: CrashMode, wanted: [u8; 4]) -> (u16, u8) {
     }
 }
 
+fn stop_anywhere<T: TestSection>(alloc: Global) -> Rows {
+    let mut rows = Rows::new();
+    for (call, [done, failed]) in WRITEBACK.iter().enumerate() {
+        crash_in_each::<T>(alloc, &end_with(call as u64, false), *done, &mut rows);
+        crash_in_each::<T>(alloc, &end_with(call as u64, true), *failed, &mut rows);
+    }
+    rows
+}
+
 // The digits of a row's number are the mode's, two of the call, and 1 where it fails.
 #[test]
 fn a_writeback_is_stopped_anywhere(rt: HostRuntime) -> Result<(), Fail> {
-    let mut rows = Rows::new();
-    for (call, [done, failed]) in (0..14u8).zip(WRITEBACK) {
-        crash_in_each(rt.alloc(), call, false, done, &mut rows)?;
-        crash_in_each(rt.alloc(), call, true, failed, &mut rows)?;
-    }
-    rows.all()?;
-    Ok(())
+    see_in_memory(rt.alloc(), Case::Writeback).passes()
+}
+
+/// These where a bucket is new, as its selector's byte is odd, and else none.
+fn where_new(byte: u8, offsets: &[u32]) -> &[u32] {
+    if byte % 2 == 1 { offsets } else { &[] }
 }
 
 /// A writeback ended behind the sync of the frames, and the selectors begin with these bytes: each
 /// bucket is new where its byte is odd, and else as before the writeback.
-fn select(alloc: Global, first: u8, second: u8) -> Result<Rows, Fail> {
+fn select<T: TestSection>(alloc: Global, first: u8, second: u8) -> Rows {
     let mut rows = Rows::new();
-    let mut disk = written(alloc, 6, false, &mut rows)?;
-    spoil(&mut disk, &[(40_960, first), (57_856, second)])?;
+    let section: Option<T> = written(alloc, &end_with(6, false), &mut rows);
+    let change = Change::Spoil(&[(40_960, &[first]), (57_856, &[second])]);
     let acts = [
-        Act::Has(0, if first % 2 == 1 { &[9, 7] } else { &[] }),
-        Act::Has(1, if second % 2 == 1 { &[8] } else { &[] }),
+        Act::Has(0, where_new(first, &[9, 7])),
+        Act::Has(1, where_new(second, &[8])),
     ];
-    session(alloc, disk, &acts, 6, &mut rows)?;
-    Ok(rows)
+    session(alloc, again(alloc, section, change), &acts, 6, &mut rows);
+    rows
+}
+
+/// Bytes with which selectors begin.
+const SELECTORS: [u8; 6] = [0x00, 0x01, 0x7f, 0xa5, 0xfe, 0xff];
+
+/// The first selector begins with this byte. The rows' numbers are this one and the second's.
+fn select_second<T: TestSection>(alloc: Global, first: u8, tens: usize, rows: &mut Rows) {
+    for (ones, second) in SELECTORS.iter().enumerate() {
+        let found = select::<T>(alloc, first, *second);
+        rows.note(tens.saturating_add(ones), &found);
+    }
+}
+
+fn select_each<T: TestSection>(alloc: Global) -> Rows {
+    let mut rows = Rows::new();
+    for (number, first) in SELECTORS.iter().enumerate() {
+        select_second::<T>(alloc, *first, number.saturating_mul(10), &mut rows);
+    }
+    rows
 }
 
 // A row's number tells by its two digits which of the bytes the selectors begin with.
 #[test]
 fn selectors_hold_any_bytes(rt: HostRuntime) -> Result<(), Fail> {
-    let mut rows = Rows::new();
-    let bytes = [
-        (0u8, 0x00),
-        (1, 0x01),
-        (2, 0x7f),
-        (3, 0xa5),
-        (4, 0xfe),
-        (5, 0xff),
-    ];
-    for (tens, first) in bytes {
-        for (ones, second) in bytes {
-            let found = select(rt.alloc(), first, second)?;
-            note(&mut rows, 10 * tens as usize + ones as usize, &found);
-        }
-    }
-    rows.all()?;
-    Ok(())
+    see_in_memory(rt.alloc(), Case::Selectors).passes()
 }
 
-/// The disk of a section with the three entries, where any bytes stood before. They are written back
-/// where the frames of both buckets are remembered, and looked up while they are written.
-fn spelled(alloc: Global, rows: &mut Rows) -> Result<MemDisk<Listed>, Fail> {
-    let mut disk = disk(alloc, LEN, NEVER)?;
-    if disk.len() != LEN {
-        return Err("another length".into());
-    }
-    disk.write_at(41_472, &[0xa5; 16_896])?;
-    let acts = [
-        Act::ChangeHead(2, 0),
-        Act::Clear(0, 2),
-        Act::ChangeHead(1, 0),
-        Act::Name(b"index.0\0"),
-        Act::Put(None),
-        Act::Calls(15),
-        Act::UnderWay(Some(0)),
-        Act::Go(2),
-        Act::UnderWay(Some(1)),
-        Act::Go(5),
-        Act::UnderWay(None),
-        Act::Written(0),
-        // No new frame is looked up before the sync of the selectors.
-        Act::Level(b'0'),
-        Act::Go(1),
-        Act::Written(3),
-        Act::Finish(4),
-        Act::Level(b'3'),
-        Act::TakeBack,
-        Act::ChangeHead(2, 0x0102_0304_0506_0708),
-    ];
-    session(alloc, formatted(alloc, disk)?, &acts, 0, rows)
-}
+// ---- a section that is spelled by hand
 
-/// Whether these bytes stand at a place of a disk.
-fn stands<D: Disk>(disk: &mut D, at: u64, bytes: &[u8; 31]) -> bool {
-    if disk.len() != LEN || at > LEN - 31 {
-        return false;
-    }
-    let mut found = [0; 31];
-    disk.read_at(at, &mut found) == Ok(()) && found == *bytes
-}
+/// The three entries are written back where the frames of both buckets are remembered, and looked up
+/// while they are written.
+const SPELLS: [Act<'static>; 19] = [
+    Act::ChangeHead(2, 0),
+    Act::Clear(0, 2),
+    Act::ChangeHead(1, 0),
+    Act::Name(b"index.0\0"),
+    Act::Put(None),
+    Act::Calls(15),
+    Act::UnderWay(Some(0)),
+    Act::Go(2),
+    Act::UnderWay(Some(1)),
+    Act::Go(5),
+    Act::UnderWay(None),
+    Act::Written(0),
+    // No new frame is looked up before the sync of the selectors.
+    Act::Level(b'0'),
+    Act::Go(1),
+    Act::Written(3),
+    Act::Finish(4),
+    Act::Level(b'3'),
+    Act::TakeBack,
+    Act::ChangeHead(2, 0x0102_0304_0506_0708),
+];
 
 /// The bytes of a section, by hand.
 const SPELLED: [(u64, [u8; 31]); 6] = [
@@ -686,47 +604,50 @@ const SPELLED: [(u64, [u8; 31]); 6] = [
     ),
 ];
 
-/// These bytes stand on a disk, each at its place.
-fn stand<D: Disk>(disk: &mut D, rows: &mut Rows) {
-    for (row, (at, bytes)) in SPELLED.into_iter().enumerate() {
-        rows.nth(
-            row,
-            "the bytes at a place of the disk",
-            stands(disk, at, &bytes),
-        );
+/// Whether these bytes stand at a place.
+fn stand(bytes: &[u8], at: u64, wanted: &[u8; 31]) -> bool {
+    match bytes.get(at as usize..) {
+        Some(found) => found.starts_with(wanted),
+        None => false,
     }
+}
+
+/// The bytes of a disk are as they are spelled.
+fn see_bytes(bytes: &[u8], rows: &mut Rows) {
+    rows.is("the length of a disk", bytes.len() as u64 == LEN);
+    for (row, (at, wanted)) in SPELLED.iter().enumerate() {
+        let is_it = stand(bytes, *at, wanted);
+        rows.nth(row, "the bytes at a place of the disk", is_it);
+    }
+}
+
+/// The bytes of a section's disk.
+fn bytes<T: TestSection>(alloc: Global, section: Option<T>) -> Option<Vec<u8>> {
+    section?.bytes(alloc)
+}
+
+/// The bytes of such a section, where other bytes stood before.
+fn spell<T: TestSection>(alloc: Global) -> Rows {
+    let mut rows = Rows::new();
+    let section = T::made(alloc, LEN, &[NEVER], &[(41_472, &[0xa5; 16_896])]);
+    let section = session(alloc, section, &SPELLS, 0, &mut rows);
+    match bytes(alloc, section) {
+        Some(bytes) => see_bytes(&bytes, &mut rows),
+        None => rows.is("the bytes of a disk", false),
+    }
+    rows
 }
 
 // A row is an act, or behind these a place.
 #[test]
 fn a_section_is_spelled(rt: HostRuntime) -> Result<(), Fail> {
-    let mut rows = Rows::new();
-    let mut disk = spelled(rt.alloc(), &mut rows)?;
-    stand(&mut disk, &mut rows);
-    rows.all()?;
-    Ok(())
+    see_in_memory(rt.alloc(), Case::Spelled).passes()
 }
 
-/// How many buckets a disk has as a section that has these bytes in its head, or why it isn't one:
-/// as formatting it tells, and as mounting it does, which is done where no call has failed.
-fn refusal<D: Disk + Drop>(
-    alloc: Global,
-    mut disk: D,
-    at: u64,
-    bytes: &[u8; 2],
-) -> Result<[Result<u32, SectBad>; 2], Fail> {
-    let made = format_named(alloc, &mut disk)?;
-    if made == Err(SectBad::Fault) {
-        return Ok([made, made]);
-    }
-    if made.is_ok() && disk.len() >= 100 && at <= 98 {
-        disk.write_at(at, bytes)?;
-    }
-    match mount(alloc, disk) {
-        Ok(section) => Ok([made, Ok(section.buckets())]),
-        Err((bad, _disk)) => Ok([made, Err(bad)]),
-    }
-}
+// ---- what is no section
+
+/// The length of a disk, a call of it that fails, bytes at a place, and what mounting answers.
+type Refusal = (u64, u64, u64, [u8; 2], Result<u32, SectBad>);
 
 const SMALL: SectBad = SectBad::TooSmall {
     len: 41_471,
@@ -739,8 +660,7 @@ const OTHER: SectBad = SectBad::Torn {
     want: 1,
 };
 
-/// The length of a disk, a call of it that fails, bytes at a place, and what mounting answers.
-const REFUSALS: [(u64, u64, u64, [u8; 2], Result<u32, SectBad>); 10] = [
+const REFUSALS: [Refusal; 10] = [
     (41_471, NEVER, 98, *b"\0\0", Err(SMALL)),
     (41_472, NEVER, 98, *b"\0\0", Ok(1)),
     (58_367, NEVER, 98, *b"\0\0", Ok(1)),
@@ -754,51 +674,74 @@ const REFUSALS: [(u64, u64, u64, [u8; 2], Result<u32, SectBad>); 10] = [
     (LEN, 6, 98, *b"\0\0", Err(SectBad::Fault)),
 ];
 
-#[test]
-fn sections_are_refused(rt: HostRuntime) -> Result<(), Fail> {
-    let mut rows = Rows::new();
-    for (row, (len, failing, at, bytes, wanted)) in REFUSALS.into_iter().enumerate() {
-        let disk = disk(rt.alloc(), len, failing)?;
-        let [made, found] = refusal(rt.alloc(), disk, at, &bytes)?;
-        rows.nth(
-            row,
-            "the buckets of a section, or its refusal",
-            found == wanted,
-        );
-        let agrees = made.is_ok() || made == found;
-        rows.nth(
-            row,
-            "what formatting refuses is refused by mounting",
-            agrees,
-        );
+/// How many buckets a disk has as a section, or why it isn't one, of which formatting told this:
+/// behind a write of the bytes, if it was made a section. Where a call failed it isn't mounted.
+fn remounted<D: TestDisk>(
+    alloc: Global,
+    disk: D,
+    made: Result<u32, SectBad>,
+    case: &Refusal,
+) -> Option<Result<u32, SectBad>> {
+    match made {
+        Ok(_) => {
+            let change = Change::Spoil(&[(case.2, &case.3)]);
+            Some(count(alloc, changed(disk, change)?))
+        }
+        Err(SectBad::Fault) => Some(made),
+        Err(_) => Some(count(alloc, disk)),
     }
-    rows.all()?;
-    Ok(())
 }
 
-/// A bucket of a new section is filled and cleared, where this call fails.
-fn fill_fresh(alloc: Global, failing: u64, answer: Result<(), ShardErr>) -> Result<Rows, Fail> {
-    let disk = formatted(alloc, disk(alloc, LEN, failing)?)?;
+/// Whether a disk is refused as is wanted, and what formatting refuses is refused by mounting.
+fn is_refused<D: TestDisk>(alloc: Global, case: &Refusal) -> bool {
+    let Some(mut disk) = D::failing(alloc, case.0, &[case.1]) else {
+        return false;
+    };
+    let Some(made) = make(alloc, &mut disk) else {
+        return false;
+    };
+    let found = remounted(alloc, disk, made, case);
+    found == Some(case.4) && (made.is_ok() || found == Some(made))
+}
+
+fn refuse<D: TestDisk>(alloc: Global) -> Rows {
     let mut rows = Rows::new();
-    session(alloc, disk, &[Act::FillAndClear(answer)], 0, &mut rows)?;
-    Ok(rows)
+    for (row, case) in REFUSALS.iter().enumerate() {
+        let is_it = is_refused::<D>(alloc, case);
+        rows.nth(row, "the buckets of a section, or its refusal", is_it);
+    }
+    rows
+}
+
+#[test]
+fn sections_are_refused(rt: HostRuntime) -> Result<(), Fail> {
+    refuse::<Made>(rt.alloc()).passes()
+}
+
+// ---- buckets that are filled and looked up
+
+/// A bucket of a new section is filled and cleared, where this call fails.
+fn fill_fresh<T: TestSection>(alloc: Global, call: u8, answer: Result<(), ShardErr>) -> Rows {
+    let mut rows = Rows::new();
+    let section = T::made(alloc, LEN, &[u64::from(call)], &[]);
+    session(alloc, section, &[Act::FillAndClear(answer)], 0, &mut rows);
+    rows
+}
+
+fn fill_each<T: TestSection>(alloc: Global) -> Rows {
+    let mut rows = Rows::new();
+    for call in 6..12u8 {
+        let found = fill_fresh::<T>(alloc, call, Err(ShardErr::Fault));
+        rows.note(usize::from(call), &found);
+    }
+    rows.note(12, &fill_fresh::<T>(alloc, 12, Ok(())));
+    rows
 }
 
 // Each call fails in turn: two of filling, one of the look-up, three of clearing. A row is the call.
 #[test]
 fn buckets_are_filled_and_cleared(rt: HostRuntime) -> Result<(), Fail> {
-    let mut rows = Rows::new();
-    for call in 6..13u8 {
-        let answer = if call < 12 {
-            Err(ShardErr::Fault)
-        } else {
-            Ok(())
-        };
-        let found = fill_fresh(rt.alloc(), u64::from(call), answer)?;
-        note(&mut rows, call as usize, &found);
-    }
-    rows.all()?;
-    Ok(())
+    see_in_memory(rt.alloc(), Case::Fills).passes()
 }
 
 /// A call that fails, and which of three look-ups of a bucket behind mounting are answered: the
@@ -812,21 +755,46 @@ const LOOK_UPS: [(u8, [bool; 3]); 5] = [
     (26, [true, true, true]),
 ];
 
+fn look_up_thrice<T: TestSection>(alloc: Global) -> Rows {
+    let mut rows = Rows::new();
+    for (call, [first, second, third]) in &LOOK_UPS {
+        let acts = [Act::Found(*first), Act::Found(*second), Act::Found(*third)];
+        let found = run::<T>(alloc, u64::from(*call), Change::Nothing, &acts);
+        rows.note(usize::from(*call), &found);
+    }
+    rows
+}
+
 // A row is the call.
 #[test]
 fn a_selector_is_read_once(rt: HostRuntime) -> Result<(), Fail> {
-    let mut rows = Rows::new();
-    for (call, [first, second, third]) in LOOK_UPS {
-        let acts = [Act::Found(first), Act::Found(second), Act::Found(third)];
-        let found = run(rt.alloc(), u64::from(call), &acts)?;
-        note(&mut rows, call as usize, &found);
-    }
-    rows.all()?;
-    Ok(())
+    see_in_memory(rt.alloc(), Case::LookUps).passes()
 }
 
-/// A look-up and a writeback tell this of bucket 0, with this byte at a place.
-fn damage(alloc: Global, at: u8, byte: u8, bad: ShardErr) -> Result<Rows, Fail> {
+// ---- damage
+
+/// A byte at a place of bucket 0, and what is wanted and found then.
+type Damage = (u8, u8, FieldValue, FieldValue);
+
+const DAMAGES: [Damage; 4] = [
+    (
+        0,
+        b'W',
+        FieldValue::Magic(*b"VBKT"),
+        FieldValue::Magic(*b"WBKT"),
+    ),
+    (7, 5, FieldValue::Number(0), FieldValue::Number(5)),
+    (8, 2, FieldValue::Number(263), FieldValue::Number(512)),
+    (9, 1, FieldValue::Number(1), FieldValue::Number(0)),
+];
+
+/// A look-up and a writeback tell a damage of bucket 0.
+fn damage<T: TestSection>(alloc: Global, (at, byte, want, found): &Damage) -> Rows {
+    let bad = ShardErr::Damaged {
+        bucket: 0,
+        want: *want,
+        found: *found,
+    };
     let acts = [
         Act::Lost(0, bad),
         Act::Put(None),
@@ -834,104 +802,147 @@ fn damage(alloc: Global, at: u8, byte: u8, bad: ShardErr) -> Result<Rows, Fail> 
         Act::UnderWay(Some(0)),
         Act::Refused(0, bad),
     ];
-    run_spoiled(alloc, &[(24_576 + u64::from(at), byte)], &acts)
+    let change = Change::Spoil(&[(24_576 + u64::from(*at), &[*byte])]);
+    run::<T>(alloc, NEVER, change, &acts)
 }
 
-/// A byte at a place of bucket 0, and what is wanted and found then.
-fn damages() -> [(u8, u8, FieldValue, FieldValue); 4] {
-    let number = FieldValue::Number;
-    let magic = FieldValue::Magic;
-    [
-        (0, b'W', magic(*b"VBKT"), magic(*b"WBKT")),
-        (7, 5, number(0), number(5)),
-        (8, 2, number(263), number(512)),
-        (9, 1, number(1), number(0)),
-    ]
+fn tell_damage<T: TestSection>(alloc: Global) -> Rows {
+    let mut rows = Rows::new();
+    for (row, case) in DAMAGES.iter().enumerate() {
+        rows.note(row, &damage::<T>(alloc, case));
+    }
+    rows
 }
 
 #[test]
 fn damage_is_told_with_both_values(rt: HostRuntime) -> Result<(), Fail> {
-    let mut rows = Rows::new();
-    for (row, (at, byte, want, found)) in damages().into_iter().enumerate() {
-        let bad = ShardErr::Damaged {
-            bucket: 0,
-            want,
-            found,
-        };
-        note(&mut rows, row, &damage(rt.alloc(), at, byte, bad)?);
-    }
-    rows.all()?;
-    Ok(())
+    see_in_memory(rt.alloc(), Case::Damages).passes()
 }
 
-/// Where bucket 1 is damaged, a writeback of both ends with neither written. The next one begins
-/// behind it, and writes bucket 0 by itself before it ends. A row is an act.
+/// Bucket 1 is damaged.
+const DAMAGED: ShardErr = ShardErr::Damaged {
+    bucket: 1,
+    want: FieldValue::Magic(*b"VBKT"),
+    found: FieldValue::Magic(*b"WBKT"),
+};
+
+/// A writeback of both buckets ends with neither written. The next one begins behind the damaged one,
+/// and writes bucket 0 by itself before it ends.
+const BESIDE: [Act<'static>; 10] = [
+    Act::Put(None),
+    Act::Calls(16),
+    Act::UnderWay(Some(0)),
+    Act::Refused(4, DAMAGED),
+    Act::Written(0),
+    Act::Has(0, &[]),
+    Act::Put(Some(1)),
+    Act::Refused(5, DAMAGED),
+    Act::Written(2),
+    Act::Has(0, &[9, 7]),
+];
+
+fn write_beside<T: TestSection>(alloc: Global) -> Rows {
+    let change = Change::Spoil(&[(41_472, b"W")]);
+    run::<T>(alloc, NEVER, change, &BESIDE)
+}
+
+// A row is an act.
 #[test]
 fn a_damaged_bucket_keeps_no_other_from_being_written(rt: HostRuntime) -> Result<(), Fail> {
-    let bad = ShardErr::Damaged {
-        bucket: 1,
-        want: FieldValue::Magic(*b"VBKT"),
-        found: FieldValue::Magic(*b"WBKT"),
-    };
-    let acts = [
-        Act::Put(None),
-        Act::Calls(16),
-        Act::UnderWay(Some(0)),
-        Act::Refused(4, bad),
-        Act::Written(0),
-        Act::Has(0, &[]),
-        Act::Put(Some(1)),
-        Act::Refused(5, bad),
-        Act::Written(2),
-        Act::Has(0, &[9, 7]),
-    ];
-    run_spoiled(rt.alloc(), &[(41_472, b'W')], &acts)?.all()?;
-    Ok(())
+    see_in_memory(rt.alloc(), Case::DamagedBucket).passes()
 }
+
+// ---- a full group
 
 /// Entries are written to 65 buckets, which are two groups: two reads and two writes for each of
 /// them, two syncs for each group, and the four calls of the head. When that is done again no selector
-/// is read. A row is an act.
+/// is read.
+const FULL: [Act<'static>; 9] = [
+    Act::Buckets(MANY),
+    Act::PutMany,
+    Act::Finish(268),
+    Act::PutMany,
+    Act::Finish(203),
+    Act::Has(0, &[0]),
+    Act::Has(63, &[63]),
+    Act::Has(64, &[64]),
+    Act::Has(65, &[]),
+];
+
+fn fill_group<T: TestSection>(alloc: Global) -> Rows {
+    let mut rows = Rows::new();
+    let section: Option<T> = live(alloc, MANY_LEN, &[NEVER], MANY);
+    session(alloc, section, &FULL, 0, &mut rows);
+    rows
+}
+
+// A row is an act.
 #[test]
 fn a_group_is_full(rt: HostRuntime) -> Result<(), Fail> {
-    let acts = [
-        Act::Buckets(MANY),
-        Act::PutMany,
-        Act::Finish(268),
-        Act::PutMany,
-        Act::Finish(203),
-        Act::Has(0, &[0]),
-        Act::Has(63, &[63]),
-        Act::Has(64, &[64]),
-        Act::Has(65, &[]),
-    ];
+    see_in_memory(rt.alloc(), Case::FullGroup).passes()
+}
+
+// ---- the tests of sections
+
+/// What a test sees.
+#[derive(Clone, Copy)]
+enum Case {
+    Writeback,
+    Selectors,
+    Spelled,
+    Fills,
+    LookUps,
+    Damages,
+    DamagedBucket,
+    FullGroup,
+}
+
+fn see<T: TestSection>(alloc: Global, case: Case) -> Rows {
+    match case {
+        Case::Writeback => stop_anywhere::<T>(alloc),
+        Case::Selectors => select_each::<T>(alloc),
+        Case::Spelled => spell::<T>(alloc),
+        Case::Fills => fill_each::<T>(alloc),
+        Case::LookUps => look_up_thrice::<T>(alloc),
+        Case::Damages => tell_damage::<T>(alloc),
+        Case::DamagedBucket => write_beside::<T>(alloc),
+        Case::FullGroup => fill_group::<T>(alloc),
+    }
+}
+
+/// The same, of sections of disks in memory.
+fn see_in_memory(alloc: Global, case: Case) -> Rows {
+    see::<MadeSection>(alloc, case)
+}
+
+// ---- the bucket of a score
+
+/// The greatest score, and that of `abc`, as far as it says the bucket.
+const LAST: Score = Score([0xff; 20]);
+
+const ABC: Score = Score(
+    *b"\xa9\x99\x3e\x36\xff\xff\xff\xff\xff\xff\xff\xff\xff\xff\xff\xff\xff\xff\xff\xff",
+);
+
+/// A count of buckets, a score, and its bucket.
+const NUMBERS: [(u32, Score, u32); 5] = [
+    (1, LAST, 0),
+    (2, LAST, 1),
+    (u32::MAX, LAST, u32::MAX - 1),
+    (4, ABC, 2),
+    (1000, ABC, 662),
+];
+
+fn number_scores() -> Rows {
     let mut rows = Rows::new();
-    let disk = live(rt.alloc(), disk(rt.alloc(), MANY_LEN, NEVER)?, MANY)?;
-    session(rt.alloc(), disk, &acts, 0, &mut rows)?;
-    rows.all()?;
-    Ok(())
+    for (row, (total, score, wanted)) in NUMBERS.iter().enumerate() {
+        let number = bucket_number(*total, score);
+        rows.nth(row, "the bucket of a score", number == *wanted);
+    }
+    rows
 }
 
 #[test]
-fn buckets_go_by_the_first_32_bits(rt: HostRuntime) -> Result<(), Fail> {
-    let last = Score([0xff; 20]);
-    // The score of `abc`, a9993e36..
-    let mut abc = last;
-    abc.0[..4].copy_from_slice(b"\xa9\x99\x3e\x36");
-    let mut rows = Rows::new();
-    for (row, (total, score, wanted)) in [
-        (1, last, 0),
-        (2, last, 1),
-        (u32::MAX, last, u32::MAX - 1),
-        (4, abc, 2),
-        (1000, abc, 662),
-    ]
-    .into_iter()
-    .enumerate()
-    {
-        let number = bucket_number(total, &score);
-        rows.nth(row, "the bucket of a score", number == wanted);
-    }
-    rows.all()?;
-    Ok(())
+fn buckets_go_by_the_first_32_bits(_rt: HostRuntime) -> Result<(), Fail> {
+    number_scores().passes()
 }

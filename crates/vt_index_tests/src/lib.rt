@@ -2,8 +2,12 @@
 #![tactic(auto)]
 
 #[cfg(test)]
-mod cases;
+mod disks;
 #[cfg(test)]
 mod isect;
 #[cfg(test)]
+mod sections;
+#[cfg(test)]
 mod shard;
+#[cfg(test)]
+mod shards;

@@ -1,32 +1,18 @@
 //! Arenas on disks in memory: committed, stopped, crashed, damaged and mounted again.
 //!
-//! What is done with an arena is data. It is done on any disk, which is much less work to prove than
-//! on one in memory, and the test functions alone make such disks and crash them.
+//! What is done with an arena is data. It is done to any `TestArena`, and one function alone names the
+//! real one.
 
-ghost use Rattle.std.specs.Prelude.{◌≡◌, IsSome, true};
-
-use crate::cases::note;
-use std::alloc::{AllocError, Global};
+use crate::arenas::{LEN, MadeArena, NUMBER, REGION, TestArena};
+use crate::disks::Crash;
+use std::alloc::Global;
 use std::test::Fail;
-use vt_arena::{
-    Arena, ArenaBad, At, BackBad, Field, Found, ReadBad, STAGED_MAX, find, format, has_room, info,
-    mount, read,
-};
-use vt_base::{Failed, FieldValue, Info, Key, Kind, Place, Score, Scorer, Sha1Scorer};
-use vt_clump::{Clump, pack};
-use vt_disk::{CallCount, Disk, Region};
-use vt_memdisk::{CrashMode, Listed, MemDisk};
+use vt_arena::{ArenaBad, At, BackBad, Field, Found, ReadBad, has_room};
+use vt_base::{FieldValue, Info, Key, Kind, Place, Score, Scorer, Sha1Scorer};
+use vt_clump::{Clump, Packed, pack};
+use vt_memdisk::CrashMode;
 use vt_rows::Rows;
 use vt_twin::{Step, TwinErr};
-
-const LEN: u64 = 33_792;
-
-const REGION: Region = Region {
-    start: 512,
-    len: 32_768,
-};
-
-const NUMBER: u32 = 3;
 
 /// What a block of three bytes is thought to have at most.
 const SIZES: [u16; 4] = [0, 2, 3, u16::MAX];
@@ -38,12 +24,12 @@ const FIRST_CALL: u64 = 6;
 const NEVER: u64 = u64::MAX;
 
 /// The score of `abc` (FIPS 180-4).
-const ABC: Score = Score(
+pub const ABC: Score = Score(
     *b"\xa9\x99\x3e\x36\x47\x06\x81\x6a\xba\x3e\x25\x71\x78\x50\xc2\x6c\x9c\xd0\xd8\x9d",
 );
 
 /// The score of `abd`.
-const ABD: Score = Score(
+pub const ABD: Score = Score(
     *b"\xcb\x4c\xc2\x8d\xf0\xfd\xbe\x0e\xcf\x9d\x96\x62\xe2\x94\xb1\x18\x09\x2a\x57\x35",
 );
 
@@ -147,261 +133,179 @@ impl Act<'_> {
     }
 }
 
-/// A disk of which this call fails.
-fn disk(alloc: Global, failing: u64) -> Result<MemDisk<Listed>, Fail> {
-    let calls = vec![in alloc; failing]?;
-    Ok(MemDisk::failing(alloc, LEN, calls)?)
+/// Does these in turn. Each is a row, and the first has this number.
+fn play<T: TestArena>(alloc: Global, arena: &mut T, acts: &[Act], first: usize, rows: &mut Rows) {
+    for (number, act) in acts.iter().enumerate() {
+        let holds = does(alloc, arena, act);
+        rows.nth(first.saturating_add(number), act.what(), holds);
+    }
 }
 
-/// A disk with an arena, the arena, and the count of its calls.
-#[derive(Drop)]
-struct Rig<D: Disk> {
-    disk: D,
-    arena: Arena,
-    calls: CallCount,
-    ghost sized: { D.size disk ≡ 33792 },
-    ghost len: { arena.len ≡ 32768 },
-    ghost lent: { arena.failed ≡ true → IsSome calls.stopped },
+/// Whether an arena gives what it has to.
+fn does<T: TestArena>(alloc: Global, arena: &mut T, act: &Act) -> bool {
+    match act {
+        Act::Stage(block, n, staged) => stage_many(alloc, arena, block, *n) == Some(*staged),
+        Act::Commit => commit(arena),
+        Act::Stop(call, fails) => stop(arena, *call, *fails),
+        Act::Stopped(call) => is_stopped(arena, *call),
+        Act::Seal => arena.begin_seal(),
+        Act::Move => arena.turn_to_itself(),
+        _ => reads(alloc, arena, act),
+    }
 }
 
-impl<D: Disk + Drop> Rig<D> {
-    /// A disk with the arena that is there.
-    fn mounted(alloc: Global, mut disk: D) -> Result<Self, Fail> {
-        if disk.len() != LEN {
-            return Err("another length".into());
+/// The same where it is read.
+fn reads<T: TestArena>(alloc: Global, arena: &mut T, act: &Act) -> bool {
+    match act {
+        Act::Read(offset, block) => is_read(alloc, arena, *offset, block),
+        Act::ReadLeft(clumps, offset, block) => {
+            arena.told().head.clumps < *clumps || is_read(alloc, arena, *offset, block)
         }
-        let arena = mount(alloc, &mut disk, REGION, NUMBER)?;
-        Ok(Rig {
-            disk,
-            arena,
-            calls: CallCount::new(),
-        })
-    }
-
-    /// Does these in turn. Each is a row, and the first has this number.
-    fn play(&mut self, alloc: Global, acts: &[Act], first: usize, rows: &mut Rows) {
-        for (number, act) in acts.iter().enumerate() {
-            let holds = self.does(alloc, act);
-            rows.nth(first.saturating_add(number), act.what(), holds);
+        Act::Unread(offset, bad) => is_refused(alloc, arena, *offset, *bad),
+        Act::ReadFails(size, fails) => {
+            let bad = arena.block(alloc, 24_576, *size).err();
+            (bad == Some(ReadBad::Fault)) == *fails
         }
+        Act::Back(start, answer, end) => steps_back(arena, *start, *end, answer),
+        Act::BackFails(fails) => fails_back(arena) == *fails,
+        _ => finds(alloc, arena, act),
     }
+}
 
-    /// Whether the arena gives what it has to.
-    fn does(&mut self, alloc: Global, act: &Act) -> bool {
-        match act {
-            Act::Stage(block, n, staged) => self.stage_many(alloc, block, *n) == Ok(*staged),
-            Act::Calls(calls) => self.arena.calls_left() == *calls,
-            Act::Commit => self.commit(),
-            Act::Stop(call, fails) => self.stop(*call, *fails),
-            Act::Stopped(call) => self.is_stopped(*call),
-            Act::Seal => self.seal(),
-            Act::Sealing => self.arena.is_sealing() && !self.arena.head().sealed,
-            Act::Move => self.find_again(),
-            _ => self.reads(alloc, act),
+/// The same where the disk is read or written over.
+fn finds<T: TestArena>(alloc: Global, arena: &mut T, act: &Act) -> bool {
+    match act {
+        Act::Bytes(first, second, selector) => {
+            is_spelled(arena.bytes(alloc), first, second, *selector)
         }
+        Act::Write(at, bytes) => arena.write_over(*at, bytes),
+        Act::Unfound(bad) => arena.found() == Err(*bad),
+        Act::Unmounted(bad) => arena.refusal(alloc) == Some(*bad),
+        Act::Found(selector) => {
+            let wanted = Found {
+                head: arena.told().head,
+                selector: *selector,
+            };
+            arena.found() == Ok(wanted)
+        }
+        _ => tells(arena, act),
     }
+}
 
-    /// The same where it is read.
-    fn reads(&mut self, alloc: Global, act: &Act) -> bool {
-        match act {
-            Act::Read(offset, block) => self.is_read(alloc, *offset, block),
-            Act::ReadLeft(clumps, offset, block) => {
-                self.arena.head().clumps < *clumps || self.is_read(alloc, *offset, block)
+/// The same where it tells of itself.
+fn tells<T: TestArena>(arena: &T, act: &Act) -> bool {
+    let told = arena.told();
+    match act {
+        Act::Calls(calls) => told.calls == *calls,
+        Act::Sealing => told.is_sealing && !told.head.sealed,
+        Act::Head(sealed, clumps) => told.head.sealed == *sealed && told.head.clumps == *clumps,
+        Act::Start(at) => At::start(&told.head) == *at,
+        _ => false,
+    }
+}
+
+/// A block of type 13.
+fn packed(alloc: Global, block: &[u8]) -> Option<Packed> {
+    if block.is_empty() || block.len() > 57_344 {
+        return None;
+    }
+    pack(alloc, Kind::DATA, block, Sha1Scorer.score(block), 0).ok()
+}
+
+/// Stages a block of type 13 as often as it has room, up to `n` times.
+fn stage_many<T: TestArena>(alloc: Global, arena: &mut T, block: &[u8], n: u32) -> Option<u32> {
+    for i in 0..n {
+        match packed(alloc, block) {
+            Some(packed) => {
+                if !arena.add(packed) {
+                    return Some(i);
+                }
             }
-            Act::Unread(offset, bad) => self.is_refused(alloc, *offset, *bad),
-            Act::ReadFails(size, fails) => {
-                let bad = self.read(alloc, 24_576, *size).err();
-                (bad == Some(ReadBad::Fault)) == *fails
-            }
-            Act::Head(sealed, clumps) => self.is_head(*sealed, *clumps),
-            Act::Start(at) => At::start(&self.arena.head()) == *at,
-            Act::Back(start, answer, end) => self.steps_back(*start, *end, answer),
-            Act::BackFails(fails) => self.fails_back() == *fails,
-            _ => self.finds(alloc, act),
+            None => return None,
         }
     }
+    Some(n)
+}
 
-    /// The same where the disk is read or written over.
-    fn finds(&mut self, alloc: Global, act: &Act) -> bool {
-        match act {
-            Act::Bytes(first, second, selector) => self.is_spelled(first, second, *selector),
-            Act::Write(at, bytes) => self.write(*at, bytes) == Ok(()),
-            Act::Unfound(bad) => find(&mut self.disk, REGION, NUMBER) == Err(*bad),
-            Act::Unmounted(bad) => {
-                mount(alloc, &mut self.disk, REGION, NUMBER).err() == Some(*bad)
-            }
-            Act::Found(selector) => {
-                let wanted = Found {
-                    head: self.arena.head(),
-                    selector: *selector,
-                };
-                find(&mut self.disk, REGION, NUMBER) == Ok(wanted)
-            }
-            _ => false,
-        }
-    }
-
-    /// Stages a block of type 13, where that may be done.
-    fn stage(&mut self, alloc: Global, block: &[u8]) -> Result<bool, AllocError> {
-        let kind = Kind::DATA;
-        if block.is_empty() || block.len() > 57_344 {
-            return Ok(false);
-        }
-        let arena = &mut self.arena;
-        let is_full = arena.staged().len() == STAGED_MAX || !arena.fits(block.len() as u32);
-        if arena.is_committing() || is_full {
-            return Ok(false);
-        }
-        let packed = pack(alloc, kind, block, Sha1Scorer.score(block), 0)?;
-        arena.stage(&Sha1Scorer, packed);
-        Ok(true)
-    }
-
-    /// Stages a block as often as that may be done, up to `n` times.
-    fn stage_many(&mut self, alloc: Global, block: &[u8], n: u32) -> Result<u32, AllocError> {
-        for i in 0..n {
-            if !self.stage(alloc, block)? {
-                return Ok(i);
-            }
-        }
-        Ok(n)
-    }
-
-    /// Makes one call of a commit.
-    fn advance(&mut self) -> Result<Step, TwinErr> {
-        self.arena.advance(&mut self.calls, &mut self.disk, REGION)
-    }
-
-    /// Makes so many calls of a commit and one further call, which gives this, where each of those
-    /// before it gives More.
-    fn advance_after(&mut self, calls: u64) -> Option<Result<Step, TwinErr>> {
-        for _ in 0..calls {
-            if self.advance() != Ok(Step::More) {
-                return None;
-            }
-        }
-        Some(self.advance())
-    }
-
-    /// Whether of so many calls and one further call that alone fails, or none.
-    fn stop(&mut self, call: u64, fails: bool) -> bool {
-        match self.advance_after(call) {
-            Some(Ok(_)) => !fails,
-            Some(Err(bad)) => fails && bad == TwinErr::Fault,
-            None => false,
-        }
-    }
-
-    /// Whether the arena is stopped at this call, and so is its commit, or at none.
-    fn is_stopped(&mut self, call: Option<u64>) -> bool {
-        if self.calls.stopped != call {
-            return false;
-        }
-        match call {
-            Some(call) => {
-                self.advance() == Err(TwinErr::Stopped(call)) && self.arena.is_committing()
-            }
-            None => true,
-        }
-    }
-
-    /// Commits what is staged.
-    fn commit(&mut self) -> bool {
-        let calls = self.arena.calls_left();
-        self.advance_after(calls.saturating_sub(1)) == Some(Ok(Step::Done))
-    }
-
-    /// Lets the next commit seal the arena, where that may be done.
-    fn seal(&mut self) -> bool {
-        let arena = &mut self.arena;
-        if arena.is_committing() {
-            return false;
-        }
-        arena.seal();
-        true
-    }
-
-    /// Gives the arena's room to the one that stands there, where that may be done.
-    fn find_again(&mut self) -> bool {
-        let Ok(found) = find(&mut self.disk, REGION, NUMBER) else {
-            return false;
-        };
-        let arena = &mut self.arena;
-        if arena.is_committing() {
-            return false;
-        }
-        let [] = arena.staged() else {
-            return false;
-        };
-        arena.move_to(REGION.len, found);
-        true
-    }
-
-    /// The block at an offset, which is thought to have so many bytes at most, or why it isn't
-    /// read.
-    fn read(&mut self, alloc: Global, offset: u64, size: u16) -> Result<Clump, ReadBad> {
-        read(alloc, &mut self.disk, REGION, offset, size, &Sha1Scorer)
-    }
-
-    /// Whether the block at an offset is read as this one, whatever size it is thought to have.
-    fn is_read(&mut self, alloc: Global, offset: u64, block: &[u8]) -> bool {
-        for size in SIZES {
-            if !is_block(&self.read(alloc, offset, size), block) {
-                return false;
-            }
-        }
-        true
-    }
-
-    /// Whether no block is read at an offset for this reason, whatever size it is thought to have.
-    fn is_refused(&mut self, alloc: Global, offset: u64, bad: ReadBad) -> bool {
-        for size in SIZES {
-            if self.read(alloc, offset, size).err() != Some(bad) {
-                return false;
-            }
-        }
-        true
-    }
-
-    /// Whether the head is sealed or not, and has so many blocks.
-    fn is_head(&self, sealed: bool, clumps: u32) -> bool {
-        let head = self.arena.head();
-        head.sealed == sealed && head.clumps == clumps
-    }
-
-    /// What the directory says where a walk stands, while it isn't at its end.
-    fn walk(&mut self, at: &mut At) -> Option<Result<Info, BackBad>> {
-        let head = self.arena.head();
-        if at.index == 0 || at.index > head.clumps || at.end > head.used {
+/// Makes so many calls of a commit and one further call, which gives this, where each of those
+/// before it gives More.
+fn step_after<T: TestArena>(arena: &mut T, calls: u64) -> Option<Result<Step, TwinErr>> {
+    for _ in 0..calls {
+        if arena.step() != Ok(Step::More) {
             return None;
         }
-        Some(info(&mut self.disk, REGION, &head, at))
     }
+    Some(arena.step())
+}
 
-    /// Whether a walk answers this, and then stands there.
-    fn steps_back(&mut self, start: At, end: At, answer: &Option<Result<Info, BackBad>>) -> bool {
-        let mut at = start;
-        self.walk(&mut at) == *answer && at == end
+/// Whether of so many calls and one further call that alone fails, or none.
+fn stop<T: TestArena>(arena: &mut T, call: u64, fails: bool) -> bool {
+    match step_after(arena, call) {
+        Some(Ok(_)) => !fails,
+        Some(Err(bad)) => fails && bad == TwinErr::Fault,
+        None => false,
     }
+}
 
-    /// Whether a walk's first read fails.
-    fn fails_back(&mut self) -> bool {
-        let mut at = At::start(&self.arena.head());
-        self.walk(&mut at) == Some(Err(BackBad::Fault))
+/// Whether the arena is stopped at this call, and so is its commit, or at none.
+fn is_stopped<T: TestArena>(arena: &mut T, call: Option<u64>) -> bool {
+    if arena.told().stopped != call {
+        return false;
     }
+    match call {
+        Some(call) => arena.step() == Err(TwinErr::Stopped(call)) && arena.told().is_committing,
+        None => true,
+    }
+}
 
-    /// Writes over the disk, from a place of the region on.
-    fn write(&mut self, at: u64, bytes: &[u8]) -> Result<(), Failed> {
-        if at > REGION.len || bytes.len() as u64 > REGION.len - at {
-            return Err(Failed);
+/// Commits what is staged.
+fn commit<T: TestArena>(arena: &mut T) -> bool {
+    let calls = arena.told().calls;
+    step_after(arena, calls.saturating_sub(1)) == Some(Ok(Step::Done))
+}
+
+/// Whether the block at an offset is read as this one, whatever size it is thought to have.
+fn is_read<T: TestArena>(alloc: Global, arena: &mut T, offset: u64, block: &[u8]) -> bool {
+    for size in SIZES {
+        if !is_block(&arena.block(alloc, offset, size), block) {
+            return false;
         }
-        self.disk.write_at(REGION.start + at, bytes)
     }
+    true
+}
 
-    /// Whether the disk is as it is spelled by hand.
-    fn is_spelled(&mut self, first: &[u8; 43], second: &[u8; 43], selector: u8) -> bool {
-        let mut file = [0; LEN as usize];
-        self.disk.read_at(0, &mut file) == Ok(()) && are_expected(&file, first, second, selector)
+/// Whether no block is read at an offset for this reason, whatever size it is thought to have.
+fn is_refused<T: TestArena>(alloc: Global, arena: &mut T, offset: u64, bad: ReadBad) -> bool {
+    for size in SIZES {
+        if arena.block(alloc, offset, size).err() != Some(bad) {
+            return false;
+        }
+    }
+    true
+}
+
+/// Whether a walk answers this, and then stands there.
+fn steps_back<T: TestArena>(
+    arena: &mut T,
+    start: At,
+    end: At,
+    answer: &Option<Result<Info, BackBad>>,
+) -> bool {
+    let mut at = start;
+    arena.walk(&mut at) == *answer && at == end
+}
+
+/// Whether a walk's first read fails.
+fn fails_back<T: TestArena>(arena: &mut T) -> bool {
+    let mut at = At::start(&arena.told().head);
+    arena.walk(&mut at) == Some(Err(BackBad::Fault))
+}
+
+/// Whether a disk is as it is spelled by hand.
+fn is_spelled(file: Option<Vec<u8>>, first: &[u8; 43], second: &[u8; 43], selector: u8) -> bool {
+    match file {
+        Some(file) => are_expected(&file, first, second, selector),
+        None => false,
     }
 }
 
@@ -416,12 +320,7 @@ fn is_block(found: &Result<Clump, ReadBad>, block: &[u8]) -> bool {
 }
 
 /// Whether each byte of a disk is as it is spelled by hand.
-fn are_expected(
-    file: &[u8; LEN as usize],
-    first: &[u8; 43],
-    second: &[u8; 43],
-    selector: u8,
-) -> bool {
+fn are_expected(file: &[u8], first: &[u8; 43], second: &[u8; 43], selector: u8) -> bool {
     for (at, byte) in file.iter().enumerate() {
         if *byte != expected(at, first, second, selector) {
             return false;
@@ -448,69 +347,72 @@ fn expected(at: usize, first: &[u8; 43], second: &[u8; 43], selector: u8) -> u8 
     }
 }
 
-/// Makes a disk one with an empty arena.
-fn formatted<D: Disk + Drop>(mut disk: D) -> Result<D, Fail> {
-    if disk.len() != LEN || format(&mut disk, REGION, NUMBER).is_err() {
-        return Err("not formatted".into());
-    }
-    Ok(disk)
-}
-
-/// Does these with the arena of a disk, and gives the disk back.
-fn session<D: Disk + Drop>(
+/// Does these with an arena, and gives it back. Each is a row, and the first has this number.
+fn session<T: TestArena>(
     alloc: Global,
-    disk: D,
+    arena: Option<T>,
     acts: &[Act],
     first: usize,
     rows: &mut Rows,
-) -> Result<D, Fail> {
-    let mut rig = Rig::mounted(alloc, disk)?;
-    rig.play(alloc, acts, first, rows);
-    let Rig {
-        disk,
-        arena: _,
-        calls: _,
-    } = rig;
-    Ok(disk)
-}
-
-/// Does these with an empty arena on a disk of which this call fails. Each is a row.
-fn run(alloc: Global, failing: u64, acts: &[Act]) -> Result<Rows, Fail> {
-    let mut rows = Rows::new();
-    let disk = formatted(disk(alloc, failing)?)?;
-    session(alloc, disk, acts, 0, &mut rows)?;
-    Ok(rows)
-}
-
-/// What a crash leaves.
-#[derive(Clone, Copy)]
-enum Crash<'a> {
-    Mode(CrashMode),
-    /// The choice for each pending byte.
-    Choice(&'a [u16]),
-}
-
-fn crashed(disk: MemDisk<Listed>, crash: Crash) -> MemDisk<Listed> {
-    match crash {
-        Crash::Mode(mode) => disk.crash_in(mode),
-        Crash::Choice(choice) => disk.crash(choice),
+) -> Option<T> {
+    match arena {
+        Some(mut arena) => {
+            play(alloc, &mut arena, acts, first, rows);
+            Some(arena)
+        }
+        None => {
+            rows.nth(first, "an arena is mounted", false);
+            None
+        }
     }
 }
 
+/// An empty arena on a new disk of which this call fails.
+fn made<T: TestArena>(alloc: Global, failing: u64) -> Option<T> {
+    match T::made(alloc, failing) {
+        Some(Ok(arena)) => Some(arena),
+        _ => None,
+    }
+}
+
+/// An arena is mounted again, behind a crash.
+fn again<T: TestArena>(alloc: Global, arena: Option<T>, crash: Crash) -> Option<T> {
+    match arena {
+        Some(arena) => arena.again(alloc, crash),
+        None => None,
+    }
+}
+
+/// Does these with an empty arena on a disk of which this call fails. Each is a row.
+fn run<T: TestArena>(alloc: Global, failing: u64, acts: &[Act]) -> Rows {
+    let mut rows = Rows::new();
+    let arena: Option<T> = made(alloc, failing);
+    session(alloc, arena, acts, 0, &mut rows);
+    rows
+}
+
 /// The same, and further acts with what a crash leaves. They are numbered on.
-fn run_on(
+fn run_on<T: TestArena>(
     alloc: Global,
     failing: u64,
     acts: &[Act],
     crash: Crash,
     then: &[Act],
-) -> Result<Rows, Fail> {
+) -> Rows {
     let mut rows = Rows::new();
-    let disk = formatted(disk(alloc, failing)?)?;
-    let disk = session(alloc, disk, acts, 0, &mut rows)?;
-    session(alloc, crashed(disk, crash), then, acts.len(), &mut rows)?;
-    Ok(rows)
+    let arena: Option<T> = made(alloc, failing);
+    let arena = session(alloc, arena, acts, 0, &mut rows);
+    session(
+        alloc,
+        again(alloc, arena, crash),
+        then,
+        acts.len(),
+        &mut rows,
+    );
+    rows
 }
+
+// ---- room
 
 /// What an arena of 32,768 bytes has, a block, and whether that has room.
 const ROOMS: [(u64, u32, u32, bool); 5] = [
@@ -521,59 +423,65 @@ const ROOMS: [(u64, u32, u32, bool); 5] = [
     (u64::MAX, u32::MAX, u32::MAX, false),
 ];
 
-#[test]
-fn room_is_used_to_the_end(rt: HostRuntime) -> Result<(), Fail> {
+fn see_rooms() -> Rows {
     let mut rows = Rows::new();
-    for (row, (used, clumps, n, fits)) in ROOMS.into_iter().enumerate() {
-        rows.nth(
-            row,
-            "a block has room",
-            has_room(32_768, used, clumps, n) == fits,
-        );
+    for (row, (used, clumps, n, fits)) in ROOMS.iter().enumerate() {
+        let is_it = has_room(32_768, *used, *clumps, *n) == *fits;
+        rows.nth(row, "a block has room", is_it);
     }
-    rows.all()?;
-    Ok(())
+    rows
 }
 
-/// An arena is filled, with 64 blocks a commit at most. A row is an act.
+#[test]
+fn room_is_used_to_the_end(_rt: HostRuntime) -> Result<(), Fail> {
+    see_rooms().passes()
+}
+
+/// An arena is filled, with 64 blocks a commit at most.
+const FILLED: [Act<'static>; 10] = [
+    Act::Stage(b"abc", 65, 64),
+    Act::Calls(69),
+    Act::Commit,
+    Act::Stage(b"abc", 64, 60),
+    Act::Calls(65),
+    Act::Commit,
+    Act::Stage(b"abc", 1, 0),
+    Act::Calls(4),
+    Act::Head(false, 124),
+    Act::Read(24_576 + 123 * 41, b"abc"),
+];
+
+// A row is an act.
 #[test]
 fn an_arena_is_filled(rt: HostRuntime) -> Result<(), Fail> {
-    let acts = [
-        Act::Stage(b"abc", 65, 64),
-        Act::Calls(69),
-        Act::Commit,
-        Act::Stage(b"abc", 64, 60),
-        Act::Calls(65),
-        Act::Commit,
-        Act::Stage(b"abc", 1, 0),
-        Act::Calls(4),
-        Act::Head(false, 124),
-        Act::Read(24_576 + 123 * 41, b"abc"),
-    ];
-    run(rt.alloc(), NEVER, &acts)?.all()?;
-    Ok(())
+    see_in_memory(rt.alloc(), Case::Filled).passes()
 }
 
-/// Two blocks byte for byte, and sealed. A row is an act.
+/// The same head as `TWO`, but for the flag.
+const SEALED: [u8; 43] = *b"VARN\x00\x01\x00\x00\x00\x03\x01\x00\x00\x00\x02\
+    \x00\x00\x00\x00\x00\x00\x00\x52\
+    \xe5\xa4\x74\x09\x00\xa0\x3a\x26\x25\xaa\x16\x03\x07\xa5\x80\x90\x38\x65\xf8\x3b";
+
+/// Two blocks byte for byte, and sealed.
+const SPELLED: [Act<'static>; 9] = [
+    Act::Stage(b"abc", 1, 1),
+    Act::Stage(b"abd", 1, 1),
+    Act::Commit,
+    Act::Bytes(&EMPTY, &TWO, 1),
+    Act::Seal,
+    Act::Sealing,
+    Act::Commit,
+    Act::Head(true, 2),
+    Act::Bytes(&SEALED, &TWO, 0),
+];
+
+// A row is an act.
 #[test]
 fn two_blocks_byte_for_byte(rt: HostRuntime) -> Result<(), Fail> {
-    // The other frame has the same head, but for the flag.
-    let mut sealed = TWO;
-    sealed[10] = 1;
-    let acts = [
-        Act::Stage(b"abc", 1, 1),
-        Act::Stage(b"abd", 1, 1),
-        Act::Commit,
-        Act::Bytes(&EMPTY, &TWO, 1),
-        Act::Seal,
-        Act::Sealing,
-        Act::Commit,
-        Act::Head(true, 2),
-        Act::Bytes(&sealed, &TWO, 0),
-    ];
-    run(rt.alloc(), NEVER, &acts)?.all()?;
-    Ok(())
+    see_in_memory(rt.alloc(), Case::Spelled).passes()
 }
+
+// ---- a commit that is stopped
 
 /// The call of a commit at which it ends, whether it fails, and how many blocks a crash then leaves
 /// in each mode. The new selector is 0, so that a5 names the old frame.
@@ -592,23 +500,36 @@ const STOPS: [(u8, bool, [u32; 4]); 12] = [
     (5, false, [2, 2, 2, 2]),
 ];
 
-/// A commit of `abd` behind `abc` is stopped at a call, and there is a crash.
-fn crash_at(
-    alloc: Global,
-    (call, fails): (u8, bool),
-    mode: CrashMode,
-    clumps: u32,
-) -> Result<Rows, Fail> {
-    let (failing, stop) = if fails {
-        (FIRST_CALL + 6 + u64::from(call), Some(6 + u64::from(call)))
+/// The number of the call of a commit behind that of `abc`, and the call of the disk that it is.
+const NEXT_COMMIT: u64 = 6;
+
+const NEXT_CALL: u64 = FIRST_CALL + NEXT_COMMIT;
+
+/// The call of the disk that fails where this call of that commit does, and the call at which the
+/// arena is stopped then.
+fn failing(call: u64, fails: bool) -> (u64, Option<u64>) {
+    if fails {
+        let stop = NEXT_COMMIT.saturating_add(call);
+        (NEXT_CALL.saturating_add(call), Some(stop))
     } else {
         (NEVER, None)
-    };
+    }
+}
+
+/// A commit of `abd` behind `abc` is stopped at a call, and there is a crash.
+fn crash_at<T: TestArena>(
+    alloc: Global,
+    call: u64,
+    fails: bool,
+    mode: CrashMode,
+    clumps: u32,
+) -> Rows {
+    let (failing, stop) = failing(call, fails);
     let acts = [
         Act::Stage(b"abc", 1, 1),
         Act::Commit,
         Act::Stage(b"abd", 1, 1),
-        Act::Stop(u64::from(call), fails),
+        Act::Stop(call, fails),
         Act::Stopped(stop),
         Act::Read(24_576, b"abc"),
     ];
@@ -617,11 +538,11 @@ fn crash_at(
         Act::Read(24_576, b"abc"),
         Act::ReadLeft(2, 24_617, b"abd"),
     ];
-    run_on(alloc, failing, &acts, Crash::Mode(mode), &then)
+    run_on::<T>(alloc, failing, &acts, Crash::Mode(mode), &then)
 }
 
 /// A hundred for each mode before this one, and what is wanted in it.
-fn in_mode(mode: CrashMode, wanted: [u32; 4]) -> (u16, u32) {
+fn in_mode(mode: CrashMode, wanted: [u32; 4]) -> (usize, u32) {
     let [synced, written, even, garbled] = wanted;
     match mode {
         CrashMode::Synced => (0, synced),
@@ -631,52 +552,62 @@ fn in_mode(mode: CrashMode, wanted: [u32; 4]) -> (u16, u32) {
     }
 }
 
-/// The same in each mode.
-fn crash_in_each(
+/// The same in each mode. The rows' numbers are this one and the mode's.
+fn crash_in_each<T: TestArena>(
     alloc: Global,
-    (call, fails, wanted): (u8, bool, [u32; 4]),
+    call: u64,
+    fails: bool,
+    wanted: [u32; 4],
     rows: &mut Rows,
-) -> Result<(), Fail> {
-    for mode in CrashMode::ALL {
-        let (hundreds, clumps) = in_mode(mode, wanted);
-        let found = crash_at(alloc, (call, fails), mode, clumps)?;
-        let row = hundreds as usize + 10 * call as usize + usize::from(fails);
-        note(rows, row, &found);
+) {
+    for mode in &CrashMode::ALL {
+        let (hundreds, clumps) = in_mode(*mode, wanted);
+        let found = crash_at::<T>(alloc, call, fails, *mode, clumps);
+        rows.note(hundreds.saturating_add(row_of(call, fails)), &found);
     }
-    Ok(())
+}
+
+/// The last two digits of a row's number are the call, and 1 where it fails.
+fn row_of(call: u64, fails: bool) -> usize {
+    (call as usize)
+        .saturating_mul(10)
+        .saturating_add(usize::from(fails))
+}
+
+fn stop_anywhere<T: TestArena>(alloc: Global) -> Rows {
+    let mut rows = Rows::new();
+    for (call, fails, wanted) in &STOPS {
+        crash_in_each::<T>(alloc, u64::from(*call), *fails, *wanted, &mut rows);
+    }
+    rows
 }
 
 // The digits of a row's number are the mode's, the call, and 1 where it fails.
 #[test]
 fn a_commit_is_stopped_anywhere(rt: HostRuntime) -> Result<(), Fail> {
-    let mut rows = Rows::new();
-    for stop in STOPS {
-        crash_in_each(rt.alloc(), stop, &mut rows)?;
-    }
-    rows.all()?;
-    Ok(())
+    see_in_memory(rt.alloc(), Case::Stops).passes()
 }
 
-/// What a crash leaves of a commit of 63 blocks: its clumps, and of its directory, which is 1,575 bytes from
-/// 31,680 on, the bytes that were written or those that were there, by blocks of 512 bytes.
-fn torn(alloc: Global, written: [bool; 4]) -> Result<Vec<u16>, Fail> {
-    let mut choice = vec![in alloc; 257; 63 * 41]?;
-    for (len, is_written) in [64, 512, 512, 487].into_iter().zip(written) {
-        let end = choice.len().saturating_add(len);
-        choice.resize(end, if is_written { 257 } else { 256 })?;
+/// A bit for each block of 512 bytes that the directory of a commit of 63 blocks is in, and how many of
+/// its bytes are there: it is 1,575 bytes from 31,680 on.
+const PARTS: [(u8, usize); 4] = [(1, 64), (2, 512), (4, 512), (8, 487)];
+
+/// What a crash leaves of that commit: its clumps, and of its directory the bytes that were written
+/// or those that were there, by blocks of 512 bytes, whose bits say which.
+fn torn(alloc: Global, blocks: u8) -> Option<Vec<u16>> {
+    let mut choice = vec![in alloc; 257; 63 * 41].ok()?;
+    for (bit, len) in &PARTS {
+        let end = choice.len().saturating_add(*len);
+        let byte = if blocks & bit == *bit { 257 } else { 256 };
+        choice.resize(end, byte).ok()?;
     }
-    Ok(choice)
+    Some(choice)
 }
 
-/// A commit of 63 blocks behind `abc` is stopped at the write of their directory, of which a crash
-/// leaves these blocks.
-fn tear(alloc: Global, blocks: u8, fails: bool) -> Result<Rows, Fail> {
-    let choice = torn(alloc, [1, 2, 4, 8].map(|block| blocks & block == block))?;
-    let (failing, stop) = if fails {
-        (FIRST_CALL + 6 + 63, Some(6 + 63))
-    } else {
-        (NEVER, None)
-    };
+/// A commit of 63 blocks behind `abc` is stopped at the write of their directory, and a crash leaves
+/// this.
+fn tear<T: TestArena>(alloc: Global, choice: &[u16], fails: bool) -> Rows {
+    let (failing, stop) = failing(63, fails);
     let acts = [
         Act::Stage(b"abc", 1, 1),
         Act::Commit,
@@ -685,155 +616,227 @@ fn tear(alloc: Global, blocks: u8, fails: bool) -> Result<Rows, Fail> {
         Act::Stopped(stop),
     ];
     let start = At { index: 1, end: 41 };
-    let end = At { index: 0, end: 0 };
     let then = [
         Act::Read(24_576, b"abc"),
         Act::Start(start),
-        Act::Back(start, info_of(b"abc", 0, 24_576).map(Ok), end),
+        Act::Back(
+            start,
+            Some(Ok(info_of(b"abc", 0, 24_576))),
+            At { index: 0, end: 0 },
+        ),
     ];
-    run_on(alloc, failing, &acts, Crash::Choice(&choice), &then)
+    run_on::<T>(alloc, failing, &acts, Crash::Choice(choice), &then)
+}
+
+/// A crash leaves these blocks of the directory.
+fn tear_at<T: TestArena>(alloc: Global, blocks: u8, fails: bool) -> Rows {
+    match torn(alloc, blocks) {
+        Some(choice) => tear::<T>(alloc, &choice, fails),
+        None => Rows::wrong("memory for what a crash leaves"),
+    }
+}
+
+fn tear_each<T: TestArena>(alloc: Global) -> Rows {
+    let mut rows = Rows::new();
+    for blocks in 0..16u8 {
+        let row = usize::from(blocks);
+        rows.note(row, &tear_at::<T>(alloc, blocks, false));
+        rows.note(100 + row, &tear_at::<T>(alloc, blocks, true));
+    }
+    rows
 }
 
 // A row's number tells by its bits which blocks of the directory are left, and is greater by 100
 // where their write fails.
 #[test]
 fn a_torn_directory_loses_no_block(rt: HostRuntime) -> Result<(), Fail> {
-    let mut rows = Rows::new();
-    for blocks in 0..16u8 {
-        note(
-            &mut rows,
-            blocks as usize,
-            &tear(rt.alloc(), blocks, false)?,
-        );
-        note(
-            &mut rows,
-            100 + blocks as usize,
-            &tear(rt.alloc(), blocks, true)?,
-        );
+    see_in_memory(rt.alloc(), Case::TornDirectory).passes()
+}
+
+// ---- what isn't mounted or read
+
+/// Bytes of a head at a place, and the field for which it is refused, with what is found there and
+/// what is wanted; none says that it isn't formatted.
+type BadHead = (u64, [u8; 8], Option<(Field, u128, u128)>);
+
+const HEADS: [BadHead; 7] = [
+    (0, *b"VARM\0\0\0\0", None),
+    (4, *b"\0\x02\0\0\0\x04\x02\0", Some((Field::Version, 2, 1))),
+    (6, *b"\0\0\0\x04\x02\0\0\0", Some((Field::Number, 4, 3))),
+    (10, *b"\x02\0\0\x01\x48\0\0\0", Some((Field::Sealed, 2, 1))),
+    (
+        11,
+        *b"\0\0\x01\x48\0\0\0\0",
+        Some((Field::Used, 8_200, 8_192)),
+    ),
+    (
+        15,
+        *b"\0\0\0\0\0\0\x20\x01",
+        Some((Field::Used, 8_193, 8_192)),
+    ),
+    (
+        15,
+        [0xff; 8],
+        Some((Field::Used, 18_446_744_073_709_551_615, 8_192)),
+    ),
+];
+
+/// Why such a head is refused.
+fn bad_of(torn: Option<(Field, u128, u128)>) -> ArenaBad {
+    match torn {
+        Some((field, found, want)) => ArenaBad::Torn { field, found, want },
+        None => ArenaBad::NotFormatted,
     }
-    rows.all()?;
-    Ok(())
 }
 
-/// Bytes of a head, and why it is refused.
-fn heads() -> [(u64, [u8; 8], ArenaBad); 7] {
-    let torn = |field, found, want| ArenaBad::Torn { field, found, want };
-    [
-        (0, *b"VARM\0\0\0\0", ArenaBad::NotFormatted),
-        (4, *b"\0\x02\0\0\0\x04\x02\0", torn(Field::Version, 2, 1)),
-        (6, *b"\0\0\0\x04\x02\0\0\0", torn(Field::Number, 4, 3)),
-        (10, *b"\x02\0\0\x01\x48\0\0\0", torn(Field::Sealed, 2, 1)),
-        (11, *b"\0\0\x01\x48\0\0\0\0", torn(Field::Used, 8200, 8192)),
-        (15, *b"\0\0\0\0\0\0\x20\x01", torn(Field::Used, 8193, 8192)),
-        (
-            15,
-            [0xff; 8],
-            torn(Field::Used, 18_446_744_073_709_551_615, 8192),
-        ),
-    ]
-}
-
-/// A head with these bytes is refused.
-fn refuse_head(alloc: Global, at: u64, bytes: &[u8], bad: ArenaBad) -> Result<Rows, Fail> {
+/// Such a head is refused.
+fn refuse_head<T: TestArena>(alloc: Global, (at, bytes, torn): &BadHead) -> Rows {
+    let bad = bad_of(*torn);
     let acts = [
-        Act::Write(at, bytes),
+        Act::Write(*at, bytes),
         Act::Unfound(bad),
         Act::Unmounted(bad),
     ];
-    run(alloc, NEVER, &acts)
+    run::<T>(alloc, NEVER, &acts)
+}
+
+fn refuse_heads<T: TestArena>(alloc: Global) -> Rows {
+    let mut rows = Rows::new();
+    for (row, head) in HEADS.iter().enumerate() {
+        rows.note(row, &refuse_head::<T>(alloc, head));
+    }
+    rows
 }
 
 #[test]
 fn heads_are_refused(rt: HostRuntime) -> Result<(), Fail> {
-    let mut rows = Rows::new();
-    for (row, (at, bytes, bad)) in heads().into_iter().enumerate() {
-        note(&mut rows, row, &refuse_head(rt.alloc(), at, &bytes, bad)?);
-    }
-    rows.all()?;
-    Ok(())
+    see_in_memory(rt.alloc(), Case::Heads).passes()
 }
 
-/// Why the empty arena of a disk isn't mounted.
-fn refusal<D: Disk + Drop>(alloc: Global, disk: D) -> Result<Option<ArenaBad>, Fail> {
-    let mut disk = formatted(disk)?;
-    if disk.len() != LEN {
-        return Err("another length".into());
+/// Whether the empty arena of a disk isn't mounted where this call fails.
+fn is_faulty<T: TestArena>(alloc: Global, failing: u64) -> bool {
+    match T::made(alloc, failing) {
+        Some(Err(bad)) => bad == ArenaBad::Fault,
+        _ => false,
     }
-    Ok(mount(alloc, &mut disk, REGION, NUMBER).err())
+}
+
+fn fail_each<T: TestArena>(alloc: Global) -> Rows {
+    let mut rows = Rows::new();
+    for call in 3..6u8 {
+        let is_faulty = is_faulty::<T>(alloc, u64::from(call));
+        rows.nth(usize::from(call), "why the arena isn't mounted", is_faulty);
+    }
+    rows
 }
 
 // Each call of mounting fails in turn: the sync, the read of the selector, that of the head. A row
 // is the call.
 #[test]
 fn a_fault_refuses_an_arena(rt: HostRuntime) -> Result<(), Fail> {
-    let mut rows = Rows::new();
-    for call in 3..6u8 {
-        let bad = refusal(rt.alloc(), disk(rt.alloc(), u64::from(call))?)?;
-        rows.nth(
-            call as usize,
-            "why the arena isn't mounted",
-            bad == Some(ArenaBad::Fault),
-        );
-    }
-    rows.all()?;
-    Ok(())
+    see_in_memory(rt.alloc(), Case::Faults).passes()
 }
 
 /// An offset, a byte at a place, and what is wanted and found at the offset then.
-fn damages() -> [(u64, u64, u8, FieldValue, FieldValue); 9] {
-    let number = FieldValue::Number;
-    let magic = FieldValue::Magic;
-    [
-        (24_576, 24_576, b'X', magic(*b"VCLP"), magic(*b"XCLP")),
-        (24_576, 24_580, 0, number(13), number(0)),
-        (24_576, 24_605, 2, number(1), number(2)),
-        (24_576, 24_605, 7, number(1), number(7)),
-        (24_576, 24_582, 4, number(4), number(3)),
-        (24_576, 24_584, 4, number(3), number(4)),
-        (
-            24_576,
-            24_616,
-            b'd',
-            FieldValue::Score(ABC),
-            FieldValue::Score(ABD),
-        ),
-        (24_575, 24_616, b'c', number(24_576), number(24_575)),
-        (32_731, 24_616, b'c', number(24_576), number(32_731)),
-    ]
-}
+type Damage = (u64, u64, u8, FieldValue, FieldValue);
 
-/// In an arena that holds `abc` no block is read at an offset, with this byte at a place.
-fn refuse_clump(
-    alloc: Global,
-    offset: u64,
-    (at, byte): (u64, u8),
-    bad: ReadBad,
-) -> Result<Rows, Fail> {
+const DAMAGES: [Damage; 9] = [
+    (
+        24_576,
+        24_576,
+        b'X',
+        FieldValue::Magic(*b"VCLP"),
+        FieldValue::Magic(*b"XCLP"),
+    ),
+    (
+        24_576,
+        24_580,
+        0,
+        FieldValue::Number(13),
+        FieldValue::Number(0),
+    ),
+    (
+        24_576,
+        24_605,
+        2,
+        FieldValue::Number(1),
+        FieldValue::Number(2),
+    ),
+    (
+        24_576,
+        24_605,
+        7,
+        FieldValue::Number(1),
+        FieldValue::Number(7),
+    ),
+    (
+        24_576,
+        24_582,
+        4,
+        FieldValue::Number(4),
+        FieldValue::Number(3),
+    ),
+    (
+        24_576,
+        24_584,
+        4,
+        FieldValue::Number(3),
+        FieldValue::Number(4),
+    ),
+    (
+        24_576,
+        24_616,
+        b'd',
+        FieldValue::Score(ABC),
+        FieldValue::Score(ABD),
+    ),
+    (
+        24_575,
+        24_616,
+        b'c',
+        FieldValue::Number(24_576),
+        FieldValue::Number(24_575),
+    ),
+    (
+        32_731,
+        24_616,
+        b'c',
+        FieldValue::Number(24_576),
+        FieldValue::Number(32_731),
+    ),
+];
+
+/// In an arena that holds `abc` no block is read at an offset, with a byte at a place.
+fn refuse_clump<T: TestArena>(alloc: Global, damage: &Damage) -> Rows {
+    let (offset, at, byte, want, found) = *damage;
     let acts = [
         Act::Stage(b"abc", 1, 1),
         Act::Commit,
         Act::Read(24_576, b"abc"),
         Act::Write(at, &[byte]),
-        Act::Unread(offset, bad),
+        Act::Unread(offset, ReadBad::Damaged { want, found }),
     ];
-    run(alloc, NEVER, &acts)
+    run::<T>(alloc, NEVER, &acts)
+}
+
+fn refuse_clumps<T: TestArena>(alloc: Global) -> Rows {
+    let mut rows = Rows::new();
+    for (row, damage) in DAMAGES.iter().enumerate() {
+        rows.note(row, &refuse_clump::<T>(alloc, damage));
+    }
+    rows
 }
 
 #[test]
 fn damaged_clumps_are_refused(rt: HostRuntime) -> Result<(), Fail> {
-    let mut rows = Rows::new();
-    for (row, (offset, at, byte, want, found)) in damages().into_iter().enumerate() {
-        let bad = ReadBad::Damaged { want, found };
-        let found = refuse_clump(rt.alloc(), offset, (at, byte), bad)?;
-        note(&mut rows, row, &found);
-    }
-    rows.all()?;
-    Ok(())
+    see_in_memory(rt.alloc(), Case::Clumps).passes()
 }
 
+// ---- the directory
+
 /// What a directory says of a block of data.
-fn info_of(block: &[u8], number: u64, offset: u32) -> Option<Info> {
-    Some(Info {
+fn info_of(block: &[u8], number: u64, offset: u32) -> Info {
+    Info {
         key: Key {
             score: Sha1Scorer.score(block),
             kind: Kind::DATA,
@@ -844,31 +847,33 @@ fn info_of(block: &[u8], number: u64, offset: u32) -> Option<Info> {
             offset,
         },
         number,
-    })
+    }
 }
 
-/// A directory of three blocks is walked. A row is an act.
-#[test]
-fn the_directory_is_walked(rt: HostRuntime) -> Result<(), Fail> {
-    let starts = [
-        At { index: 3, end: 120 },
-        At { index: 2, end: 79 },
-        At { index: 1, end: 39 },
-        At { index: 0, end: 0 },
-    ];
+/// A directory of three blocks is walked.
+fn walk_three<T: TestArena>(alloc: Global) -> Rows {
+    let third = At { index: 3, end: 120 };
+    let second = At { index: 2, end: 79 };
+    let first = At { index: 1, end: 39 };
+    let none = At { index: 0, end: 0 };
     let acts = [
         Act::Stage(b"a", 1, 1),
         Act::Stage(b"bc", 1, 1),
         Act::Stage(b"def", 1, 1),
         Act::Commit,
-        Act::Start(starts[0]),
-        Act::Back(starts[0], info_of(b"def", 2, 24_655).map(Ok), starts[1]),
-        Act::Back(starts[1], info_of(b"bc", 1, 24_615).map(Ok), starts[2]),
-        Act::Back(starts[2], info_of(b"a", 0, 24_576).map(Ok), starts[3]),
-        Act::Back(starts[3], None, starts[3]),
+        Act::Start(third),
+        Act::Back(third, Some(Ok(info_of(b"def", 2, 24_655))), second),
+        Act::Back(second, Some(Ok(info_of(b"bc", 1, 24_615))), first),
+        Act::Back(first, Some(Ok(info_of(b"a", 0, 24_576))), none),
+        Act::Back(none, None, none),
     ];
-    run(rt.alloc(), NEVER, &acts)?.all()?;
-    Ok(())
+    run::<T>(alloc, NEVER, &acts)
+}
+
+// A row is an act.
+#[test]
+fn the_directory_is_walked(rt: HostRuntime) -> Result<(), Fail> {
+    see_in_memory(rt.alloc(), Case::Walk).passes()
 }
 
 /// The size that a block is thought to have, the call that fails, and whether it is one of reading
@@ -887,21 +892,31 @@ const FAULTS: [(u16, u8, bool, bool); 10] = [
     (4, 2, false, false),
 ];
 
+/// A read of `abc` fails, or one of its entry.
+fn fail_read<T: TestArena>(
+    alloc: Global,
+    (size, call, reads, walks): &(u16, u8, bool, bool),
+) -> Rows {
+    let acts = [
+        Act::Stage(b"abc", 1, 1),
+        Act::Commit,
+        Act::ReadFails(*size, *reads),
+        Act::BackFails(*walks),
+    ];
+    run::<T>(alloc, NEXT_CALL + u64::from(*call), &acts)
+}
+
+fn fail_reads<T: TestArena>(alloc: Global) -> Rows {
+    let mut rows = Rows::new();
+    for (row, case) in FAULTS.iter().enumerate() {
+        rows.note(row, &fail_read::<T>(alloc, case));
+    }
+    rows
+}
+
 #[test]
 fn each_read_fails(rt: HostRuntime) -> Result<(), Fail> {
-    let mut rows = Rows::new();
-    for (row, (size, call, reads, walks)) in FAULTS.into_iter().enumerate() {
-        let acts = [
-            Act::Stage(b"abc", 1, 1),
-            Act::Commit,
-            Act::ReadFails(size, reads),
-            Act::BackFails(walks),
-        ];
-        let found = run(rt.alloc(), FIRST_CALL + 6 + u64::from(call), &acts)?;
-        note(&mut rows, row, &found);
-    }
-    rows.all()?;
-    Ok(())
+    see_in_memory(rt.alloc(), Case::Reads).passes()
 }
 
 /// Where a walk stands, the bytes with which the entry there begins, and what is wanted and found
@@ -916,42 +931,86 @@ const ENTRIES: [(At, [u8; 5], u128, u128); 6] = [
 ];
 
 /// A walk of a directory of three blocks refuses an entry that begins with these bytes, and stays.
-fn refuse_entry(alloc: Global, at: At, bytes: &[u8], bad: BackBad) -> Result<Rows, Fail> {
+fn refuse_entry<T: TestArena>(alloc: Global, case: &(At, [u8; 5], u128, u128)) -> Rows {
+    let (at, bytes, want, found) = *case;
+    let bad = BackBad::Damaged {
+        want: FieldValue::Number(want),
+        found: FieldValue::Number(found),
+    };
     let place = u64::from(at.index).saturating_mul(25);
     let acts = [
         Act::Stage(b"a", 1, 1),
         Act::Stage(b"bc", 1, 1),
         Act::Stage(b"def", 1, 1),
         Act::Commit,
-        Act::Write(REGION.len.saturating_sub(place), bytes),
+        Act::Write(REGION.len.saturating_sub(place), &bytes),
         Act::Back(at, Some(Err(bad)), at),
     ];
-    run(alloc, NEVER, &acts)
+    run::<T>(alloc, NEVER, &acts)
+}
+
+fn refuse_entries<T: TestArena>(alloc: Global) -> Rows {
+    let mut rows = Rows::new();
+    for (row, case) in ENTRIES.iter().enumerate() {
+        rows.note(row, &refuse_entry::<T>(alloc, case));
+    }
+    rows
 }
 
 #[test]
 fn damaged_entries_are_refused(rt: HostRuntime) -> Result<(), Fail> {
-    let mut rows = Rows::new();
-    for (row, (at, bytes, want, found)) in ENTRIES.into_iter().enumerate() {
-        let bad = BackBad::Damaged {
-            want: FieldValue::Number(want),
-            found: FieldValue::Number(found),
-        };
-        note(&mut rows, row, &refuse_entry(rt.alloc(), at, &bytes, bad)?);
-    }
-    rows.all()?;
-    Ok(())
+    see_in_memory(rt.alloc(), Case::Entries).passes()
 }
 
-/// An arena's room is given to itself, and it goes on. A row is an act.
+/// An arena's room is given to itself, and it goes on.
+const MOVED: [Act<'static>; 4] = [
+    Act::Move,
+    Act::Stage(b"abc", 1, 1),
+    Act::Commit,
+    Act::Found(1),
+];
+
+// A row is an act.
 #[test]
 fn an_arena_moves_to_another(rt: HostRuntime) -> Result<(), Fail> {
-    let acts = [
-        Act::Move,
-        Act::Stage(b"abc", 1, 1),
-        Act::Commit,
-        Act::Found(1),
-    ];
-    run(rt.alloc(), NEVER, &acts)?.all()?;
-    Ok(())
+    see_in_memory(rt.alloc(), Case::Moved).passes()
+}
+
+// ---- the tests
+
+/// What a test sees.
+#[derive(Clone, Copy)]
+enum Case {
+    Filled,
+    Spelled,
+    Stops,
+    TornDirectory,
+    Heads,
+    Faults,
+    Clumps,
+    Walk,
+    Reads,
+    Entries,
+    Moved,
+}
+
+fn see<T: TestArena>(alloc: Global, case: Case) -> Rows {
+    match case {
+        Case::Filled => run::<T>(alloc, NEVER, &FILLED),
+        Case::Spelled => run::<T>(alloc, NEVER, &SPELLED),
+        Case::Stops => stop_anywhere::<T>(alloc),
+        Case::TornDirectory => tear_each::<T>(alloc),
+        Case::Heads => refuse_heads::<T>(alloc),
+        Case::Faults => fail_each::<T>(alloc),
+        Case::Clumps => refuse_clumps::<T>(alloc),
+        Case::Walk => walk_three::<T>(alloc),
+        Case::Reads => fail_reads::<T>(alloc),
+        Case::Entries => refuse_entries::<T>(alloc),
+        Case::Moved => run::<T>(alloc, NEVER, &MOVED),
+    }
+}
+
+/// The same, of arenas on disks in memory.
+fn see_in_memory(alloc: Global, case: Case) -> Rows {
+    see::<MadeArena>(alloc, case)
 }

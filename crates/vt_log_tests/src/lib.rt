@@ -4,6 +4,10 @@
 #[cfg(test)]
 mod arena;
 #[cfg(test)]
-mod cases;
+mod arenas;
+#[cfg(test)]
+mod disks;
 #[cfg(test)]
 mod log;
+#[cfg(test)]
+mod logs;

@@ -1,6 +1,8 @@
 //! What the rows of a test came to: the first one that doesn't hold, and where it stands.
 #![tactic(auto)]
 
+use std::test::Fail;
+
 /// The rows that a test compared: the first of them that didn't hold.
 #[derive(Clone, Copy)]
 pub struct Rows {
@@ -31,11 +33,31 @@ impl Rows {
         }
     }
 
+    /// Those of a test that can't begin, since this doesn't hold.
+    pub fn wrong(what: &'static str) -> Rows {
+        let mut rows = Rows::new();
+        rows.is(what, false);
+        rows
+    }
+
+    /// Notes at the row of a case what doesn't hold of it.
+    pub fn note(&mut self, row: usize, found: &Rows) {
+        if let Some(wrong) = found.wrong {
+            self.nth(row, wrong.what, false);
+        }
+    }
+
     /// Refuses with the first comparison that didn't hold.
     pub fn all(&self) -> Result<(), RowError> {
         match self.wrong {
             None => Ok(()),
             Some(wrong) => Err(wrong),
         }
+    }
+
+    /// What a test comes to: it passes where each comparison holds.
+    pub fn passes(&self) -> Result<(), Fail> {
+        self.all()?;
+        Ok(())
     }
 }

@@ -350,6 +350,5 @@ fn the_first_damage_is_told(rt: HostRuntime) -> Result<(), Fail> {
             None => rows.nth(row, "memory for the disk", false),
         }
     }
-    rows.all()?;
-    Ok(())
+    rows.passes()
 }

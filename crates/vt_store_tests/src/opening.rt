@@ -109,8 +109,7 @@ fn opens_each<P: Parts>(to: &mut Made<P>, rows: &mut Rows) {
 fn stores_are_opened(rt: HostRuntime) -> Result<(), Fail> {
     let mut rows = Rows::new();
     opens_each(&mut in_memory(rt.alloc()), &mut rows);
-    rows.all()?;
-    Ok(())
+    rows.passes()
 }
 
 // ---- calls that fail
@@ -137,8 +136,7 @@ fn calls_fail_in_turn(rt: HostRuntime) -> Result<(), Fail> {
     for call in 32..35u64 {
         fail_in(rt.alloc(), call, &mut rows);
     }
-    rows.all()?;
-    Ok(())
+    rows.passes()
 }
 
 fn fail_in(alloc: Global, call: u64, rows: &mut Rows) {
@@ -188,8 +186,7 @@ fn a_section_is_refused_until_it_is_in_use(rt: HostRuntime) -> Result<(), Fail> 
         };
         see_state(rt.alloc(), call, state, &mut rows);
     }
-    rows.all()?;
-    Ok(())
+    rows.passes()
 }
 
 // ---- the files of a configuration
@@ -209,6 +206,5 @@ fn files_have_numbers(rt: HostRuntime) -> Result<(), Fail> {
         rows.nth(part, "the file of a partition", found == *name);
     }
     drop(conf);
-    rows.all()?;
-    Ok(())
+    rows.passes()
 }

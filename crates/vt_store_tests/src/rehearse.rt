@@ -92,8 +92,7 @@ fn rehearsals_are_those_of_the_seed(rt: HostRuntime) -> Result<(), Fail> {
             found == Some(*wanted),
         );
     }
-    rows.all()?;
-    Ok(())
+    rows.passes()
 }
 
 /// Two rehearsals of one seed, and whether both are there, all answers are right, and they are alike.
@@ -111,6 +110,5 @@ fn see_alike(alloc: Global, rows: &mut Rows) {
 fn a_long_rehearsal_ends_well_and_alike(rt: HostRuntime) -> Result<(), Fail> {
     let mut rows = Rows::new();
     see_alike(rt.alloc(), &mut rows);
-    rows.all()?;
-    Ok(())
+    rows.passes()
 }

@@ -61,8 +61,7 @@ fn metadata_is_spelled(rt: HostRuntime) -> Result<(), Fail> {
         "the bytes of two records",
         bytes.as_slice() == SPELLED.as_slice(),
     );
-    rows.all()?;
-    Ok(())
+    rows.passes()
 }
 
 /// The second of two records is that of the folder.
@@ -84,8 +83,7 @@ fn metadata_is_read(rt: HostRuntime) -> Result<(), Fail> {
     let mut rows = Rows::new();
     let records = decode(rt.alloc(), &SPELLED)?;
     see_records(records.as_slice(), &mut rows);
-    rows.all()?;
-    Ok(())
+    rows.passes()
 }
 
 /// Why so many bytes of the two records, one of them changed, aren't read.
@@ -146,6 +144,5 @@ fn flaws_have_their_places(rt: HostRuntime) -> Result<(), Fail> {
     let mut rows = Rows::new();
     rows.is("no bytes", refusal(rt.alloc(), 0, 0, 0) == None);
     see_flaws(rt.alloc(), &mut rows);
-    rows.all()?;
-    Ok(())
+    rows.passes()
 }

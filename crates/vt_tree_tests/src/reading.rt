@@ -130,8 +130,7 @@ fn roots_are_tested_field_by_field(rt: HostRuntime) -> Result<(), Fail> {
     let top = put(alloc, &mut blocks, Kind::DIRECTORY, &top)?;
     let mut rows = Rows::new();
     see_roots(alloc, &mut blocks, top, &mut rows);
-    rows.all()?;
-    Ok(())
+    rows.passes()
 }
 
 /// What is told of an archive whose root names so many bytes of these two entries.
@@ -195,8 +194,7 @@ fn top_entries_are_tested(rt: HostRuntime) -> Result<(), Fail> {
     let (entries, metadata) = empty_folder(alloc, &mut blocks)?;
     let mut rows = Rows::new();
     see_top(alloc, &mut blocks, &entries, &metadata, &mut rows);
-    rows.all()?;
-    Ok(())
+    rows.passes()
 }
 
 /// The bytes of entries, one behind another.
@@ -329,8 +327,7 @@ fn broken_records_are_placed(rt: HostRuntime) -> Result<(), Fail> {
     let entries = nineteen_entries(alloc, &mut blocks)?;
     let mut rows = Rows::new();
     see_pairs(alloc, &mut blocks, entries, &mut rows)?;
-    rows.all()?;
-    Ok(())
+    rows.passes()
 }
 
 /// These names as texts.
@@ -433,8 +430,7 @@ fn items_are_listed_and_found(rt: HostRuntime) -> Result<(), Fail> {
     let top = sample_top(alloc, &mut blocks)?;
     let mut rows = Rows::new();
     see_items(alloc, &mut blocks, &top, &mut rows);
-    rows.all()?;
-    Ok(())
+    rows.passes()
 }
 
 /// Whether these bytes are read.
@@ -487,8 +483,7 @@ fn parts_of_files_are_read(rt: HostRuntime) -> Result<(), Fail> {
         Some(file) => see_parts(alloc, &mut blocks, &file, &mut rows),
         None => rows.is("the way to the file", false),
     }
-    rows.all()?;
-    Ok(())
+    rows.passes()
 }
 
 /// An entry with another byte of its size at this place.
@@ -565,6 +560,5 @@ fn streams_past_their_limits_are_too_long(rt: HostRuntime) -> Result<(), Fail> {
     rows.is("a long file", file == ((1 << 40) + 3, Told::TooLong));
     rows.is("a folder of many entries", first == Told::TooLong);
     rows.is("a folder of long metadata", second == Told::TooLong);
-    rows.all()?;
-    Ok(())
+    rows.passes()
 }

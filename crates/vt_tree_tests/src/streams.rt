@@ -155,8 +155,7 @@ fn streams_are_written_and_read_back(rt: HostRuntime) -> Result<(), Fail> {
     for (row, stream) in STREAMS.iter().enumerate() {
         see_stream(rt.alloc(), row, *stream, &mut rows)?;
     }
-    rows.all()?;
-    Ok(())
+    rows.passes()
 }
 
 /// Whether what was written is read back whole as so many zeros.
@@ -216,8 +215,7 @@ fn short_files_and_zeros(rt: HostRuntime) -> Result<(), Fail> {
     see_zeros(alloc, &mut blocks, &mut rows);
     rows.is("how many blocks are put", blocks.puts().len() == 1);
     rows.is("how many blocks are asked for", blocks.gets().len() == 0);
-    rows.all()?;
-    Ok(())
+    rows.passes()
 }
 
 /// A store of which call 2 fails, and call 4 is refused.
@@ -240,8 +238,7 @@ fn streams_are_given_up_where_a_store_fails(rt: HostRuntime) -> Result<(), Fail>
     rows.is("how many bytes aren't taken", source.left().len() == 1_560);
     let came = write(alloc, &mut blocks, &mut source, 480, 500, true);
     rows.is("call 4, a put that is refused", came == Came::Refused);
-    rows.all()?;
-    Ok(())
+    rows.passes()
 }
 
 /// A source of 3,000 bytes, in pieces of 100, of which the one with this number fails.
@@ -265,8 +262,7 @@ fn streams_are_given_up_where_a_source_fails(rt: HostRuntime) -> Result<(), Fail
         "how many of its bytes aren't taken",
         source.left().len() == 1_840,
     );
-    rows.all()?;
-    Ok(())
+    rows.passes()
 }
 
 /// Gives zeros.

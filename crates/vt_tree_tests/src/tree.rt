@@ -59,8 +59,7 @@ fn entries_are_tested_field_by_field(rt: HostRuntime) -> Result<(), Fail> {
         found.is_ok_and(|e| !e.active && e.depth == 0),
     );
     see_entries(&mut rows);
-    rows.all()?;
-    Ok(())
+    rows.passes()
 }
 
 #[test]
@@ -98,8 +97,7 @@ fn roots_are_300_bytes_of_version_2(rt: HostRuntime) -> Result<(), Fail> {
         "a root of version 3",
         Root::decode(&bytes) == Err(RootError::Version),
     );
-    rows.all()?;
-    Ok(())
+    rows.passes()
 }
 
 /// What a call came to.
@@ -175,8 +173,7 @@ fn calls_fail_and_are_refused_on_demand(rt: HostRuntime) -> Result<(), Fail> {
     let score = put(alloc, &mut blocks, Kind::DATA, b"abc")?;
     let mut rows = Rows::new();
     see_calls(alloc, &mut blocks, &score, &mut rows);
-    rows.all()?;
-    Ok(())
+    rows.passes()
 }
 
 /// A file below one pointer block, whose leaves are three bytes, none, and three bytes.
@@ -280,8 +277,7 @@ fn a_file_is_told_byte_by_byte(rt: HostRuntime) -> Result<(), Fail> {
     let entry = small_tree(alloc, &mut blocks)?;
     let mut rows = Rows::new();
     see_bytes(alloc, &blocks, entry, long, &mut rows);
-    rows.all()?;
-    Ok(())
+    rows.passes()
 }
 
 /// What reading comes to.
@@ -366,8 +362,7 @@ fn parts_are_read_by_the_blocks_on_their_way(rt: HostRuntime) -> Result<(), Fail
     let entry = small_tree(alloc, &mut blocks)?;
     let mut rows = Rows::new();
     see_parts(alloc, &mut blocks, &entry, &mut rows);
-    rows.all()?;
-    Ok(())
+    rows.passes()
 }
 
 /// What is told of the first ten bytes of an entry's file, which has none or can't be read.
@@ -425,6 +420,5 @@ fn a_bad_tree_is_refused(rt: HostRuntime) -> Result<(), Fail> {
     let entry = small_tree(alloc, &mut blocks)?;
     let mut rows = Rows::new();
     see_refusals(alloc, &mut blocks, entry, &mut rows);
-    rows.all()?;
-    Ok(())
+    rows.passes()
 }

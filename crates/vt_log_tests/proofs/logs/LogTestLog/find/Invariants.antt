@@ -1,0 +1,4 @@
+use Rattle.vt_log_tests.proofs.logs.LogTestLog.find.Given as goal
+
+abbrev pub ghosts-read : goal.ghosts-read
+ghosts-read g a = record { name = a.blank.name; parts = a.blank.parts }
