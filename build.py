@@ -27,8 +27,9 @@ TOP = os.path.dirname(os.path.realpath(__file__))
 PROGRAM = "vt_prog"
 FOLDER = os.path.join(TOP, "crates", PROGRAM)
 LOG = os.path.join(FOLDER, "out", "build.log")
-# What the check of the largest crate takes of the memory; most take half of that.
-MEMORY = 2 << 30
+# GiB of memory: what the checks that go on at a time may take, what one takes at most, and what the large ones do.
+MEMORY, PEAK = 6.0, 1.5
+PEAKS = {"vt_core": 2.6, "vt_shard": 2.4, "vt_format": 2.3, "vt_isect": 1.9, "vt_rebuild": 1.8}
 # What is called of the script rt, with arguments as they are given here; `share_work` only where there is one.
 CALLS = [
     ("rtlib.guarded", []), ("rtlib.lock", [[]]), ("rtlib.stop_on_links", [""]),
@@ -41,11 +42,16 @@ def say(text):
     print(f"venti: {text}", file=sys.stderr, flush=True)
 
 
+def memory():
+    """How many GiB of memory the checks may take at a time."""
+    with open("/proc/meminfo") as lines:
+        free = next(int(line.split()[1]) for line in lines if line.startswith("MemAvailable:"))
+    return min(MEMORY, free / (1 << 20))
+
+
 def at_once():
     """How many crates are proved at a time, by processors and free memory."""
-    with open("/proc/meminfo") as lines:
-        free = next(int(line.split()[1]) << 10 for line in lines if line.startswith("MemAvailable:"))
-    return max(1, min(len(os.sched_getaffinity(0)), free // MEMORY))
+    return max(1, min(len(os.sched_getaffinity(0)), int(memory() / PEAK)))
 
 
 def toolchain():
@@ -90,7 +96,7 @@ class Jobs:
     the longest chain of crates that wait for them, their own among these."""
 
     def __init__(self, rt, crates, log):
-        self.log, self.lanes, self.count = log, at_once(), len(crates) + 1
+        self.log, self.lanes, self.memory, self.count = log, at_once(), memory(), len(crates) + 1
         self.running, self.ended, behind = [], queue.Queue(), {}
         for it in reversed(crates):
             behind[it] = lines_of(rt, it) + max([behind[above] for above in behind if it in above.deps], default=0)
@@ -105,9 +111,16 @@ class Jobs:
         finally:
             self.ended.put((crate, status))
 
+    def has_room(self, crate):
+        """Whether a crate can be proved beside those that are: there is a lane, and the memory that it may take."""
+        takes = sum(PEAKS.get(it.name, PEAK) for it in [*self.running, crate])
+        return not self.running or len(self.running) < self.lanes and takes <= self.memory
+
     def begin(self):
-        ready = [it for it in self.left if self.done.issuperset(it.below())]
-        for crate in ready[: self.lanes - len(self.running)]:
+        for crate in [it for it in self.left if self.done.issuperset(it.below())]:
+            if not self.has_room(crate):
+                # (those behind it wait too: it would never find room beside them)
+                break
             self.left.remove(crate)
             self.running.append(crate)
             say(f"proving {crate.name}, {len(self.done) + len(self.running)} of {self.count}")
