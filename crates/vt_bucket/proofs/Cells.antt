@@ -86,13 +86,6 @@ module _ (e : Entry) (rest : List ℕ) (is : IsIndexEntry e) where
     };
   }
 
-pub length-cell : (e : Entry) → IsIndexEntry e → length (cell e) ≡ 31
-length-cell e is = omega (arith, length-append e.key.score.0 (e.key.kind ∷ (big_bytes 2 e.size ++ (big_bytes 4 e.place.arena ++ big_bytes 4 e.place.offset))), is.score_len)
-
-pub length-cells : (xs : List Entry) → AllByRecursion IsIndexEntry xs → length (cells xs) ≡ 31 * length xs
-length-cells [] each = refl
-length-cells (x ∷ xs) each = omega (arith, length-append (cell x) (cells xs), length-cell x each.0, length-cells xs each.1)
-
 pub one_entry : (a b : Entry) (x y : List ℕ) → IsIndexEntry a → IsIndexEntry b → cell a ++ x ≡ cell b ++ y → (a ≡ b) × (x ≡ y)
 one_entry a b x y is also same =
     (sym (entry_in-cell a x is) ∙ ap entry_in same ∙ entry_in-cell b y also, sym (drop-cell a x is) ∙ ap (λ (l : List ℕ). drop 31 l) same ∙ drop-cell b y also)

@@ -307,14 +307,6 @@ mapped : (b : Bool) (t : Setting) → map file_of (cond b (t ∷ []) []) ≡ con
 mapped true t = refl
 mapped false t = refl
 
--- one more setting is looked at
-pub files_more : (k : Keyword) (settings : List Setting) (i : ℕ) (s : Setting) → i < length settings → get_or settings i s ≡ s
-    → map file_of (said k (take (i + 1) settings)) ≡ map file_of (said k (take i settings)) ++ cond (is_of k s) (file_of s ∷ []) []
-files_more k settings i s below at =
-    ap (map file_of) (filter_more (is_of k) settings i s below ∙ ap (λ (t : Setting). said k (take i settings) ++ cond (is_of k t) (t ∷ []) []) at)
-    ∙ map-append file_of (said k (take i settings)) (cond (is_of k s) (s ∷ []) [])
-    ∙ ap (λ (l : List PartFile). map file_of (said k (take i settings)) ++ l) (mapped (is_of k s) s)
-
 pub bad_read : (text line : List ℕ) (start number : ℕ) (old : List Setting) (e : ConfErr) → HasRead text start number old
     → start ≤ length text → line ≡ line_at text start → IsConfText text → IsBad (IsBadLine old (number + 1) line) e
     → IsBad (IsFirstCause text) e

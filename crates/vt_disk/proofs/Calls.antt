@@ -76,7 +76,3 @@ module _ {D : Type 0} (disk : DiskOf D) where
   pub made_then : (first second : ℕ) (old mid new : D) → MadeCalls disk first old mid
       → MadeCalls disk second mid new → MadeCalls disk (first + second) old new
   made_then first second old mid new one two told = omega (arith, one told, two told)
-
-  pub made_most : (many : ℕ) (old new : D) → MadeCalls disk many old new → IsTrue disk.tells
-      → disk.calls new ≤ disk.calls old + many
-  made_most many old new made told = omega (arith, made told)

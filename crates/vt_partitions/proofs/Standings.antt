@@ -24,14 +24,6 @@ zeros l n len all =
 pub zeroed : (file : List ℕ) (len : ℕ) → length file ≡ len → ((i : ℕ) → slice_index file i ≡ 0) → file ≡ filled len []
 zeroed file len size all = zeros file (len - 0) (omega (arith, size)) all
 
-pub fronted : (front : List ℕ) (len : ℕ) → with_bytes 0 front (filled len []) ≡ filled len front
-fronted front len =
-    let whole : len - 0 ≡ len = omega arith in
-    ap (λ (l : List ℕ). front ++ l)
-    (ap (λ (k : ℕ). drop k (replicate (len - 0) 0)) (zero-add (length front))
-    ∙ drop-replicate (length front) (len - 0) 0
-    ∙ ap (λ (n : ℕ). replicate (n - length front) 0) whole)
-
 -- a disk of zero bytes, of which a crash leaves nothing else
 pub made_zero : {D E : Type 0} (disk : DiskOf D) (r : Result D E) (len : ℕ) → IfOk r (λ d. disk.size d ≡ len)
     → IfOk r (λ d. length (disk.bytes d) ≡ len) → IfOk r (λ d. (i : ℕ) → slice_index (disk.bytes d) i ≡ 0)
@@ -188,10 +180,6 @@ module _ {D : Type 0} (disk : DiskOf D) where
       → StaysThere disk s s'
   stays_there s s' old back is is' stays =
       subst (λ (t : Standing D). StaysThere disk t s') (sym is) (subst (λ (t : Standing D). StaysThere disk (there old) t) (sym is') stays)
-
-  pub stays_out : (s s' : Standing D) → s ≡ lent → s' ≡ lent → StaysThere disk s s'
-  stays_out s s' is is' =
-      subst (λ (t : Standing D). StaysThere disk t s') (sym is) (subst (λ (t : Standing D). StaysThere disk lent t) (sym is') refl)
 
 module _ {D : Type 0} where
   -- a new name, of a partition that was handed out at once

@@ -153,15 +153,6 @@ module _ (left : Unheard) (frame behind body : List ℕ) (first : IsFrame frame 
         let same : new ≡ behind_frame left body item behind = cc in
         rest_item item hears items ended (subst (λ l. HearsRest l items ended) same x)
 
-    pub next_given : (next : Next) → ((ended : Ended) → next ≡ End ended → ⊥)
-        → greeted ≡ (left.greeted || is_hello next) → FrameGives left body next
-        → HearsNext next (going_on left) (going_on new)
-    next_given (Hello tag) item kept gives = item_given _ kept gives
-    next_given (Ping tag) item kept gives = item_given _ kept gives
-    next_given (Ask tag operation) item kept gives = item_given _ kept gives
-    next_given (Refused rule tag) item kept gives = item_given _ kept gives
-    next_given (End ended) item kept gives = absurd (item ended refl)
-
 -- a whole frame at the front
 module _ (left : Unheard) (body more : List ℕ) (small : IsBody body)
     (is : left.bytes ≡ framed body ++ more) where

@@ -72,42 +72,6 @@ partial : (left : Unheard) → IsTrue (nat_lt (length left.bytes) (frame_len lef
     → IsPartial left.bytes
 partial left needs = (Decides-ltb (length left.bytes) (frame_len left.bytes)).0 needs
 
-pub heard_at_end : (phase : Phase) (place : ℕ) (bytes : List ℕ) → HoldsIn phase place bytes
-    → let stage = stage_of phase place bytes in IsTrue (needs_more stage)
-    → HearsStage stage [] (ended_at stage)
-heard_at_end AtLine place bytes front needs =
-    subst (λ l. HearsBehind bytes l [] (end_of bytes)) (sym front.1) (refl, refl)
-heard_at_end (BehindLine offered greeted) place bytes front needs =
-    let left : Unheard =
-    record { offered = offered; greeted = greeted; place = place; bytes = bytes } in
-    rest_partial left (partial left needs)
-heard_at_end (Over ended) place bytes front needs = absurd (cc)
-
-end_is_open : (rest : List ℕ) → (end_of rest ≡ Closed) ⊎ (end_of rest ≡ Cut)
-end_is_open [] = inl refl
-end_is_open (b ∷ rest) = inr refl
-
-open_so : (stage : Stage) (rest : List ℕ) → HearsStage stage [] (end_of rest) → IsOpen stage
-open_so stage rest heard = elim (end_is_open rest) [
-  | inl is ↦ inl (subst (HearsStage stage []) is heard)
-  | inr is ↦ inr (subst (HearsStage stage []) is heard)
-]
-
-pub is_open : (phase : Phase) (place : ℕ) (bytes : List ℕ) → HoldsIn phase place bytes
-    → IsTrue (needs_more (stage_of phase place bytes)) → IsOpen (stage_of phase place bytes)
-is_open AtLine place bytes holds needs =
-    open_so (at_line bytes) bytes (heard_at_end AtLine place bytes holds needs)
-is_open (BehindLine offered greeted) place bytes holds needs =
-    open_so (stage_of (BehindLine offered greeted) place bytes) bytes
-    (heard_at_end (BehindLine offered greeted) place bytes holds needs)
-is_open (Over ended) place bytes holds needs = absurd (cc)
-
-pub holds_on : (phase : Phase) (place : ℕ) (bytes more : List ℕ) → (phase ≡ AtLine → ⊥)
-    → HoldsIn phase place bytes → HoldsIn phase place more
-holds_on AtLine place bytes more on holds = absurd (on refl)
-holds_on (BehindLine offered greeted) place bytes more on holds = tt
-holds_on (Over ended) place bytes more on holds = holds
-
 pub bytes_take : (n : ℕ) (bytes : List ℕ) → AreBytes bytes → AreBytes (take n bytes)
 bytes_take n bytes are =
     bytes-front (take n bytes) (drop n bytes) (subst AreBytes (sym (take-append-drop n bytes)) are)
@@ -200,15 +164,6 @@ front_ends left next len ended x is =
 -- ---- behind it
 
 module _ (left : Unheard) (next : Next) (len : ℕ) (x : IsFrontFrame left next len) where
-  pub front_whole : nat_lt (length left.bytes) (frame_len left.bytes) ≡ false
-  front_whole = le-ltb (length left.bytes) (frame_len left.bytes) (omega (
-    arith,
-    ap frame_len x.bytes_are ∙ frame_len-framed x.body x.behind x.counted,
-    ap length x.bytes_are,
-    length-append (framed x.body) x.behind,
-    length-framed x.body,
-  ))
-
   with_bytes : (more : List ℕ) → left.bytes ++ more ≡ framed x.body ++ (x.behind ++ more)
   with_bytes more = ap (λ b. b ++ more) x.bytes_are ∙ append_assoc (framed x.body) x.behind more
 

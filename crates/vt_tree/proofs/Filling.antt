@@ -65,14 +65,3 @@ pub counts_from : {X : Type 0} (result : Result X TreeErr) (a b c : ℕ) → b �
     → CountsFault is_source_fault result b c → CountsFault is_source_fault result a c
 counts_from {X} result a b c same counts =
     subst (λ (n : ℕ). CountsFault is_source_fault result n c) same counts
-
-pub no_source_fault : {X : Type 0} (result : Result X TreeErr) (a b : ℕ) → b ≡ a
-    → ((err : TreeErr) → result ≡ Err err → IsOfCall err)
-    → CountsFault is_source_fault result a b
-no_source_fault (Ok x) a b same plain = same
-no_source_fault (Err (errs.Block err)) a b same plain = same
-no_source_fault (Err errs.SourceFault) a b same plain = absurd (plain errs.SourceFault refl)
-no_source_fault (Err (errs.BadEntry bad)) a b same plain = same
-no_source_fault (Err (errs.BadBlock depth len)) a b same plain = same
-no_source_fault (Err errs.TooLong) a b same plain = same
-no_source_fault (Err errs.NoMemory) a b same plain = same

@@ -25,9 +25,6 @@ makes_one does a b call done = (b, done, refl)
 pub refusals_join : (xs ys : List Call) → refusals_of (xs ++ ys) ≡ refusals_of xs ++ refusals_of ys
 refusals_join xs ys = filter_map-append refusal_of xs ys
 
-pub asked_join : (xs ys : List Call) → map asked_of (xs ++ ys) ≡ map asked_of xs ++ map asked_of ys
-asked_join xs ys = map-append asked_of xs ys
-
 -- what calls answer is true of what is held, and what they leave is held
 pub told : {S : Type 0} (does : S → Call → S → Type 0) (holds : S → Maps → Type 0)
     (score_of : List ℕ → List ℕ)

@@ -13,30 +13,6 @@ use Rattle.vt_tree.proofs.Making.{makes_one}
 
 module _ {S : Type 0} (does : S → Call → S → Type 0) (score_of : List ℕ → List ℕ) (s : S)
     (b : Block) where
-  -- it has no bytes
-  pub nothing_put : (zero : Score) → zero.0 ≡ score_of [] → (length b.bytes == 0) ≡ true
-      → PutsBlock does score_of s s b (Ok zero)
-  nothing_put zero is none = record {
-    calls = [];
-    made = refl;
-    refused = refl;
-    asked = ap (λ (t : Bool). map write_of_block (cond t [] (b ∷ []))) (sym none);
-    scored = is
-        ∙ ap score_of (sym (nil_from_length b.bytes (eqb-true (length b.bytes) 0 none)));
-    plain = tt;
-  }
-
-  -- memory is short
-  pub no_put_for_memory : PutsBlock does score_of s s b (Err errs.NoMemory)
-  no_put_for_memory = record {
-    calls = [];
-    made = refl;
-    refused = refl;
-    asked = (map write_of_block (cond (length b.bytes == 0) [] (b ∷ [])), refl);
-    scored = tt;
-    plain = tt;
-  }
-
   module _ (s' : S) (some : (length b.bytes == 0) ≡ false) where
     alone : write_of_block b ∷ [] ≡ map write_of_block (cond (length b.bytes == 0) [] (b ∷ []))
     alone = ap (λ (t : Bool). map write_of_block (cond t [] (b ∷ []))) (sym some)

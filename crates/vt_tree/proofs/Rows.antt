@@ -29,41 +29,6 @@ pub leaf_len : (score_of : List ℕ → List ℕ) (cut : Cut) (ahead : Ahead) (t
 leaf_len score_of cut ahead tells left ready =
     length-take-le ahead.filled ahead.leaf.items ready.filled
 
--- it is ready for the next leaf
-pub ready_again : (score_of : List ℕ → List ℕ) (cut : Cut) (old new : Ahead) (tells : Bool)
-    (from to : List ℕ) → IsReadyToWrite score_of cut old tells from
-    → TakesNextLeaf cut.dsize (next_of old) (next_of new) (IsTaken tells from to)
-    → (old.ended ≡ false → new.ended ≡ true → IsTrue tells → to ≡ [])
-    → (old.ended ≡ true → (new.ended ≡ true) × (to ≡ from))
-    → length new.leaf.items ≡ length old.leaf.items → new.filled ≤ length new.leaf.items
-    → IsReadyToWrite score_of cut new tells to
-ready_again score_of cut old new tells from to ready a end stays room filled = record {
-  zero = ready.zero;
-  fits = ready.fits;
-  room = room ∙ ready.room;
-  filled = filled;
-  next = a.next;
-  end = λ ended told. elim (cases_Bool old.ended) [
-    | inl was ↦ (stays was).1 ∙ ready.end was told
-    | inr going ↦ end going ended told
-  ];
-}
-
--- behind the last leaf the source has nothing left
-pub nothing_left : (score_of : List ℕ → List ℕ) (cut : Cut) (ahead : Ahead) (tells : Bool)
-    (left : List ℕ) → IsReadyToWrite score_of cut ahead tells left → ahead.filled ≡ 0
-    → IsTrue tells → left ≡ []
-nothing_left score_of cut ahead tells left ready none = elim (cases_Bool ahead.ended) [
-  | inl ended ↦ ready.end ended
-  | inr going ↦
-      let whole : length (next_of ahead).leaf ≡ cut.dsize = ready.next.last going in
-      absurd (omega (
-        arith,
-        leaf_len score_of cut ahead tells left ready,
-        size_some cut ready.fits,
-      ))
-]
-
 -- ---- the loop
 
 module _ {S : Type 0} (does : S → Call → S → Type 0) (score_of : List ℕ → List ℕ) (cut : Cut)

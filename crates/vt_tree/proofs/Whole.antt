@@ -156,15 +156,6 @@ module _ {S : Type 0} (does : S → Call → S → Type 0) (score_of : List ℕ 
 
   module _ (some : 0 < scores_in shape.psize) (s : S) (old : Next)
       (came : 0 < length old.leaf) (size_is : old.size ≡ length old.leaf) where
-    pub grown_first : (mid : S) (new : Next) (from to : List ℕ) (score : Score)
-        → GrowsTree does score_of s mid shape 0 old new (IsTaken tells from to) [] [] score
-        → Grown does score_of shape tells s old mid new from to 0 score
-    grown_first mid new from to score f = record {
-      tree = f;
-      least = λ k below. absurd (omega arith);
-      shallow = omega arith;
-    }
-
     -- what was taken is more than such a tree reaches
     more_than_reached : (mid : S) (half : Next) (from between : List ℕ) (depth : ℕ) (score : Score)
         → 0 < length half.leaf → Grown does score_of shape tells s old mid half from between depth

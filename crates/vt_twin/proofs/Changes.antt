@@ -37,23 +37,3 @@ pub begun_some : (change : Option FrameChange) (failed : Bool)
 begun_some None true begun = absurd (omega arith)
 begun_some None false begun = absurd (omega arith)
 begun_some (Some it) failed begun = refl
-
--- the frame of a change under way
-pub brings_length : (change : Option FrameChange) (n : ℕ) → IsSome change
-    → ForSome change (λ it. length it.frame ≡ n)
-    → length (option_map_or (λ it. it.frame) change []) ≡ n
-brings_length None n some each = absurd (cc)
-brings_length (Some it) n some each = each it refl
-
-abbrev HasLength : (n : ℕ) → TwinState → Type 0
-HasLength n t = ForSome t.change (λ it. length it.frame ≡ n)
-
--- a call that was made leaves the change and its frame's length
-pub call_length : (n : ℕ) (old new : TwinState) → new ≡ after_call old → IsSome old.change
-    → HasLength n old → HasLength n new
-call_length n old new steps some each = subst (HasLength n) (sym steps)
-    (λ it is. sym (ap (λ (o : Option FrameChange). option_map_or (λ x. length x.frame) o 0) is)
-    ∙ brings_length old.change n some each)
-
-pub call_changes : (old new : TwinState) → new ≡ after_call old → IsSome new.change
-call_changes old new steps = subst (λ (t : TwinState). IsSome t.change) (sym steps) refl

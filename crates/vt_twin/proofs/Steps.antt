@@ -16,13 +16,6 @@ use Rattle.vt_twin.specs.Sound.{HasFrame, NamesFrame, IsSoundTwin, TwinHasBegunS
 use Rattle.vt_twin.proofs.Changes.{begun_bound}
 use Rattle.vt_twin.proofs.Places.{current_free, idle_free, selector_free, frame_same, named_same, has_same, names_same, frame_bound}
 
--- the call behind this one has the next number
-pub next_number : (stage later : Stage) → next_stage stage ≡ Some later → stage_number later ≡ stage_number stage + 1
-next_number WriteFrame later is = cc
-next_number SyncFrame later is = cc
-next_number WriteSelector later is = cc
-next_number SyncSelector later is = cc
-
 -- what a crash between two calls leaves
 pub sound_gives : (t : TwinState) (region : Region) (old read : List ℕ) (images : List ℕ → Type 0) → IsSoundTwin t region old read images
     → (c : List ℕ) → images c → GivesOldOrNew (TwinHasBegunSelector t) region t.frame_len old (next_frame t) c
