@@ -16,7 +16,7 @@ from sources import CRATES
 # What a call is known by: the type or the path, the trait of a type that isn't fixed, or its name alone.
 SURE, TRAIT, NAME = "", "by its trait", "by name"
 # A name in front of a bracket, and one that is handed on as a value.
-CALL = re.compile(r"(?<![\w'])([a-z_]\w*)(?:::<[^(;{}]*>)?\(")
+CALL = re.compile(r"\b(?=[a-z_])(\w+)(?=[(:])(?:::<[^(;{}]*>)?\(")
 VALUE = re.compile(r"[(,]\s*(?:\w+::)*([a-z_]\w*)(?=\s*[,)])")
 ITEM = re.compile(r"(?m)^[ \t]*(?:pub(?:\([^)]*\))?\s+)?(struct|enum|trait|type)\s+(\w+)")
 # Types that are what they have, and calls that give what they are called on, where the type of a value is looked for.
@@ -51,6 +51,11 @@ def homes():
     return {it: crate for its in functions().values() for crate, it in its}
 
 
+def home_of(it):
+    """The crate in whose folder a function or an item stands."""
+    return os.path.relpath(it.file.path, CRATES).split(os.sep)[0]
+
+
 @functools.lru_cache(maxsize=None)
 def sites():
     """Where each name of a function is called or handed on, its own heads left out."""
@@ -58,7 +63,7 @@ def sites():
     for crate, file in every():
         for pattern in (CALL, VALUE):
             for it in pattern.finditer(file.code):
-                if it[1] in known and not re.search(r"\bfn\s+$", file.code[max(0, it.start(1) - 12):it.start(1)]):
+                if it[1] in known and not file.code[max(0, it.start(1) - 12):it.start(1)].rstrip().endswith("fn"):
                     found.setdefault(it[1], []).append(Site(crate, file, it.start(1), pattern is VALUE))
     return found
 
@@ -362,7 +367,8 @@ class Place:
         """The types that what is matched has, as an `Option` or a `Result` does, where an arm has this line."""
         code, start = self.function.file.code, self.function.file.starts[self.function.line - 1]
         indent = re.compile(r" *").match(code, line)[0]
-        found = list(re.compile(rf"\bmatch ([^{{;]*) \{{\n(?={indent}\S)").finditer(code[:line], start))
+        until = line + len(indent) + 1
+        found = list(re.compile(rf"\bmatch ([^{{;]*) \{{\n(?={indent}\S)").finditer(code, start, until))
         if not found:
             return []
         there = Place(self.crate, self.function, found[-1].start(), self.depth + 1)
@@ -425,7 +431,8 @@ class Place:
         if text[at] in "? \n":
             return (outer(found)[1] or [found])[0] if text[at] == "?" else found, at + 1
         if text[at] == "[":
-            return inside(found), closing(text, at)
+            behind = closing(text, at)
+            return found if ".." in text[at:behind] else inside(found), behind
         name = re.compile(r"\.(\w+)(?:::<[^(]*>)?").match(text, at)
         if not name:
             return None, len(text)
@@ -485,7 +492,9 @@ def has_own(name, method):
 
 def owner_is(crate, function, place, name):
     """By what a call on this type, or by it as `Type::name`, is known as one of the function; None where it isn't."""
-    its = head_of(function).generics if function.subject == name else {}
+    # (of an impl for `&S` a call on `S` is one by the trait)
+    is_its = function.subject == name and not re.search(rf"\bfor &(?:mut )?{name}\b", function.owner)
+    its = head_of(function).generics if is_its else {}
     bounds = place.bounds.get(name)
     if bounds is None:
         name = meant(place.crate, name, place.function.file)
@@ -630,9 +639,10 @@ def calls(function):
     return sorted(found.values(), key=lambda it: [SURE, TRAIT, NAME].index(it.how))
 
 
+@functools.lru_cache(maxsize=None)
 def callees(function):
-    """The functions that a function calls, each with the first of its lines that does, in order: those of which the
-    type is known, and the members of traits that it calls of a type that isn't fixed."""
+    """The functions that a function calls, each with its lines that do, in order: those of which the type is known, and
+    the members of traits that it calls of a type that isn't fixed."""
     file, found = function.file, {}
     start, stop = file.starts[function.line - 1], (file.starts + [len(file.code)])[function.last]
     for name in {it[1] for it in CALL.finditer(file.code, start, stop)} & set(functions()):
@@ -640,5 +650,6 @@ def callees(function):
             for it in (one for _, one in functions()[name]):
                 how = known_as(it, site)
                 if how == SURE or how == TRAIT and is_member(it):
-                    found.setdefault(it, site.at)
-    return {it: file.line(found[it]) for it in sorted(found, key=found.get) if it is not function}
+                    found.setdefault(it, set()).add(site.at)
+    ordered = sorted(found, key=lambda it: min(found[it]))
+    return {it: [file.line(at) for at in sorted(found[it])] for it in ordered if it is not function}

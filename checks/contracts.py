@@ -7,6 +7,10 @@ import sources
 from sources import CRATES, TOP
 
 
+# A step of a figure: a call, its crate, and the call's file.
+HOP = re.compile(r"\W*([\w:]+) +(\w+) +(src/[\w/]+\.rt)\b")
+
+
 def quoted(cell):
     return re.findall(r"`([^`]+)`", cell)
 
@@ -217,7 +221,7 @@ class Documents:
         """docs/ARCHITECTURE.md: a line of its figures that has a file names a call, its crate, and the call's file."""
         with open(os.path.join(TOP, "docs", "ARCHITECTURE.md"), encoding="utf-8") as lines:
             for number, line in enumerate(lines, 1):
-                hop = re.match(r"\W*([\w:]+) +(\w+) +(src/[\w/]+\.rt)\b", line)
+                hop = HOP.match(line)
                 if hop:
                     self.hop(f"docs/ARCHITECTURE.md:{number}", *hop.groups())
 

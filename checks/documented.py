@@ -39,10 +39,13 @@ def facts():
 
 
 def rows_of(function, clause=None):
-    """The rows of docs/PROVED.md on a function, or on a clause of it, on one line, those that follow each other as one;
-    nothing where there are none."""
-    numbers = sorted(it for it, clauses in facts().get(function, {}).items() if clause is None or clause in clauses)
-    found = []
+    """The rows of docs/PROVED.md on a function, or on a clause of it, on one line; nothing where there are none."""
+    return at_rows(it for it, clauses in facts().get(function, {}).items() if clause is None or clause in clauses)
+
+
+def at_rows(numbers):
+    """Rows of docs/PROVED.md on one line, those that follow each other as one; nothing where there are none."""
+    numbers, found = sorted(numbers), []
     for first in (it for it in numbers if it - 1 not in numbers):
         last = first
         while last + 1 in numbers:
@@ -67,18 +70,56 @@ def meanings_of(definitions):
     return [f"{line} ({', '.join(dict.fromkeys(names))})" for line, names in found.items()]
 
 
-def rows_above(function):
-    """The nearest functions with rows of docs/PROVED.md from which calls lead to a function; of a member of a trait
-    without rows the trait's."""
-    seen, level = {function}, [function]
+def levels_above(function):
+    """The functions from which calls lead to a function, but for those of tests, the nearest first: those that are
+    equally far as one, each with the one that it calls."""
+    level, seen = {function: None}, {function}
     while level:
-        steps = (it for one in level for it in tested.steps_up(one) if not tested.is_test_file(it.crate, it.file.path))
-        level = list(dict.fromkeys(it.function for it in steps if it.function not in seen))
+        steps = [(it, one) for one in level for it in tested.steps_up(one)]
+        level = {it.function: one for it, one in reversed(steps)
+                 if it.function not in seen and not tested.is_test_file(it.crate, it.file.path)}
         seen.update(level)
-        found = [one for it in level for one in (it, members.member_of(it)) if one in facts()]
-        if found:
-            return list(dict.fromkeys(found))[:3]
-    return []
+        yield dict(reversed(level.items()))
+
+
+# How many levels above the nearest functions with rows one is looked for that has one on a definition asked about; and
+# how many files of code may name a definition for it to tell something of a row.
+FURTHER, TELLING = 2, 30
+
+
+def rows_above(function, definitions):
+    """The nearest functions with rows of docs/PROVED.md from which calls lead to a function, and those above them up to
+    the first with a row on these definitions: each with its rows, the ones on the definitions first; and of a
+    function's impl the laws on what that gives."""
+    found, left = [], FURTHER
+    for level in levels_above(function):
+        members_too = [one for it in level for one in (it, members.member_of(it), *laws_on(it, members.member_of(it)))]
+        has_rows = [it for it in dict.fromkeys(members_too) if it in facts()]
+        found += [(it, *rows_by(it, definitions)) for it in has_rows]
+        left -= bool(found)
+        if not left or any(on for _, on, _ in found):
+            break
+    return sorted(found, key=lambda it: not it[1])
+
+
+def rows_by(function, definitions):
+    """The rows of a function whose clauses name these definitions or one that they name, or unfold to such, by their
+    names, those first that are named themselves, and by the fewest files; and the others."""
+    wanted = {key: (steps, stated.spread(it.name)) for key, (it, steps) in stated.unfolded(definitions, 1).items()
+              if it.path.endswith(".antt") and stated.spread(it.name) <= TELLING}
+    by_names, others, order = {}, [], {}
+    for number, clauses in facts()[function].items():
+        texts = members.texts_of(function, members.member_of(function), clauses)
+        stated_here = [it for file, text in texts for it in stated.stated_by(file, text)]
+        shared = [key for key in stated.unfolded(stated_here) if key in wanted]
+        nearest = min((wanted[key][0] for key in shared), default=0)
+        names = [key[1] for key in sorted(shared, key=wanted.get) if wanted[key][0] == nearest]
+        order.update((name, wanted[path, name]) for path, name in shared)
+        if names:
+            by_names.setdefault(tuple(names), []).append(number)
+        else:
+            others.append(number)
+    return dict(sorted(by_names.items(), key=lambda it: order[it[0][0]])), others
 
 
 def has_laws(file):
@@ -95,7 +136,46 @@ def laws_on(function, member):
                     for one in stated.stated_by(it.file, clause.text))]
 
 
+# Requests.
+
+@functools.lru_cache(maxsize=None)
+def steps():
+    """The functions that are a step in a figure of docs/ARCHITECTURE.md, each with its lines and their headings."""
+    found, heading = {}, ""
+    for number, line in enumerate(page("docs/ARCHITECTURE.md"), 1):
+        heading = line.lstrip("# ") if line.startswith("#") else heading
+        hop = contracts.HOP.match(line)
+        for it in contracts.functions(hop[2], hop[1]) if hop else []:
+            said = " ".join(line[hop.end():].split())
+            found.setdefault(it, []).append(f"docs/ARCHITECTURE.md:{number} ({heading}{': ' * bool(said)}{said})")
+    return {it: ", ".join(its) for it, its in found.items()}
+
+
+def step_above(function):
+    """The nearest step of a figure from which calls lead to a function, and the functions on the way down to it; or
+    None."""
+    if function in steps():
+        return steps()[function], [function]
+    below = {}
+    for level in levels_above(function):
+        below.update(level)
+        found = next((it for it in level if it in steps()), None)
+        if found:
+            way = [found]
+            while way[-1] is not function:
+                way.append(below[way[-1]])
+            return steps()[found], way
+    return None
+
+
 # Structures, and other lines.
+
+@functools.lru_cache(maxsize=None)
+def heading_of(name, words):
+    """The line of a document's heading that begins so, and the words."""
+    numbers = [number for number, it in enumerate(page(name), 1) if it.startswith(f"## {words}")]
+    return f"{name}:{numbers[0]} ({words})" if numbers else f"{name}, {words}"
+
 
 def structures(crate, path=None):
     """The rows of docs/ARCHITECTURE.md that name the file, or else the crate, with the headings of docs/FORMATS.md that
@@ -105,7 +185,7 @@ def structures(crate, path=None):
         if head[0] == "Structure" and f"`{crate}`" in cells[1] and (path is None or f"`{its}`" in cells[2]):
             yield f"docs/ARCHITECTURE.md:{number} ({cells[0]})"
             if cells[4]:
-                yield f"docs/FORMATS.md, {cells[4]}"
+                yield heading_of("docs/FORMATS.md", cells[4])
     if path is None:
         yield from (f"docs/ARCHITECTURE.md:{number} (the crate)"
                     for number, it in enumerate(page("docs/ARCHITECTURE.md"), 1) if it.startswith(f"- `{crate}`: "))

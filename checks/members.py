@@ -1,5 +1,6 @@
 """Tells what types, traits and impls have: the invariants of a type and what contracts see of it, ghost members, what
 of these the contract of a function leans on, and the files of its proof."""
+import functools
 import glob
 import os
 import re
@@ -75,15 +76,30 @@ def clauses_of(function, member):
     return [(its.file, it) for its in (function, member) if its for it in its.clauses]
 
 
-def texts_of(function, member):
-    """The texts that a function's contract is made of, each with its file: its clauses, and what its impl gives."""
-    return [*[(file, it.text) for file, it in clauses_of(function, member)],
+def texts_of(function, member, names=None):
+    """The texts that a function's contract is made of, each with its file: its clauses, or those of these names, and
+    what its impl gives."""
+    return [*[(file, it.text) for file, it in clauses_of(function, member) if not names or it.name in names],
             *[(function.file, it) for it in given(function, member).values()]]
 
 
 def definitions_of(function):
     """The definitions that a function's contract names."""
     return [it for file, text in texts_of(function, member_of(function)) for it in stated.stated_by(file, text)]
+
+
+def saying(definitions):
+    """The functions, but for laws, whose contracts name these definitions, those first that name those which the fewest
+    files do: each with the names."""
+    found, wanted = {}, {(it.path, it.name) for it in definitions}
+    word = re.compile(rf"(?<![\w'])(?:{'|'.join(re.escape(it.name) for it in definitions)})(?![\w'])")
+    for it in (one for name in sources.crates() if definitions for one in sources.crates()[name].functions):
+        if it.file.module.endswith("laws") or not any(word.search(text) for _, text in texts_of(it, None)):
+            continue
+        its = [one.name for one in definitions_of(it) if (one.path, one.name) in wanted]
+        if its:
+            found[it] = sorted(dict.fromkeys(its), key=stated.spread)
+    return dict(sorted(found.items(), key=lambda it: (stated.spread(it[1][0]), -len(it[1]))))
 
 
 def traits_of(crate, function):
@@ -111,17 +127,34 @@ def ghost_members(function):
                 yield trait, it
 
 
+@functools.lru_cache(maxsize=None)
+def proof_files(crate):
+    """The files of a crate's proofs, with those of lemmas."""
+    return glob.glob(f"{CRATES}/{crate}/proofs/**/*.antt", recursive=True)
+
+
+def proofs_of_impl(item):
+    """The files of the proof of what an `impl` gives."""
+    crate = calls.home_of(item)
+    return sorted(it for it in proof_files(crate) if f"/{item.name}{item.trait()}/TheImpl/" in it)
+
+
 def proofs(function):
-    """The files of a function's proof, and the files of lemmas that these bring in. A method's stand under the module
-    of its type, in a folder of the type's name, or of the type's and the trait's."""
+    """The files of a function's proof, and those of lemmas, each with the ones that these bring in. A method's stand
+    under the module of its type, in a folder of the type's name, or of the type's and the trait's."""
     crate = calls.homes()[function]
     begin = f"{CRATES}/{crate}/proofs/"
     module = os.path.relpath(function.file.path, f"{CRATES}/{crate}/src")[:-len(".rt")]
     folder = {"lib": "", "main": ""}.get(module, module + "/")
     if function.subject:
         folder = rf"(\w+/)*{function.subject}{function.trait or ''}[^/]*/"
-    own = [it for it in glob.glob(f"{begin}**/*.antt", recursive=True)
-           if re.fullmatch(rf"{folder}\+?{function.name}/\w+\.antt", it[len(begin):])]
-    cited = {f"{CRATES}/{name}/proofs/{path.replace('.', '/')}.antt" for it in own
-             for name, path in re.findall(r"use Rattle\.(\w+)\.proofs\.([A-Z][\w.]*)\.\{", sources.read(it))}
-    return sorted(own), sorted(it for it in cited if os.path.exists(it))
+    # (functions that call each other have one proof, under the name of their cycle)
+    cycle = re.search(r"#\[cycle\((\w+)\)\]", "\n".join(function.file.lines[function.first - 1:function.line]))
+    own = [it for it in proof_files(crate)
+           if re.fullmatch(rf"{folder}\+?{cycle[1] if cycle else function.name}/\w+\.antt", it[len(begin):])]
+    cited = {}
+    for it in own:
+        for name, path, names in re.findall(r"use Rattle\.(\w+)\.proofs\.([A-Z][\w.]*)\.\{([^}]*)\}", sources.read(it)):
+            its = cited.setdefault(f"{CRATES}/{name}/proofs/{path.replace('.', '/')}.antt", {})
+            its.update(dict.fromkeys(one.strip().partition(" as ")[0] for one in names.split(",")))
+    return sorted(own), {it: list(cited[it]) for it in sorted(cited) if os.path.exists(it)}

@@ -18,8 +18,12 @@ USE = re.compile(r"(?m)^[ \t]*(?:pub(?:\([^)]*\))?\s+)?(?:ghost\s+)?(?:use|mod)\
 MEMBER = re.compile(r"\s*(?:#\[[^\]]*\]\s*)*(?:pub(?:\([^)]*\))?\s+)?([A-Za-z_]\w*)")
 
 
-class Member(collections.namedtuple("Member", "file name line comment")):
+class Member(collections.namedtuple("Member", "owner name line comment")):
     """A case or a field of a type."""
+
+    @property
+    def file(self):
+        return self.owner.file
 
     def called(self):
         return self.name
@@ -53,13 +57,26 @@ def members_of(item):
             head = MEMBER.match(text, begin, end)
             if head and head[1] != "ghost":
                 at = opened + 1 + head.start(1)
-                member = Member(file, head[1], file.line(at), file.comment(at))
+                member = Member(item, head[1], file.line(at), tuple(file.comment(at)))
                 yield member, file.first_above(member.line), file.line(opened + 1 + end)
 
 
 def member_at(item, line):
     """The case or the field of a type in which a line stands, or None."""
     return next((it for it, first, last in members_of(item) if first <= line <= last), None)
+
+
+def row_at(item, line):
+    """The first and the last line of the row of a constant's list in which a line stands, or of the whole value."""
+    file = item.file
+    opened = re.compile(r"=\s*&?\[\n").search(file.code, item.begin, item.end)
+    begin = opened.end() - 1 if opened else item.end
+    for first, last in calls.spans(file.code[begin:item.end].rpartition("]")[0]):
+        row = file.code[begin + first:begin + last]
+        lines = file.line(begin + first + len(row) - len(row.lstrip())), file.line(begin + last)
+        if row.strip() and lines[0] <= line <= lines[1]:
+            return lines
+    return item.line, item.last
 
 
 # What the names of a line are of.
@@ -97,10 +114,11 @@ def constant_of(crate, file, name):
 
 
 def on_line(crate, function, line):
-    """The types, the cases of types and the constants that a line of a function names."""
+    """The types, the cases of types and the constants that a line of a function or of a constant names."""
     file = function.file
-    for it in re.finditer(r"\b([A-Z]\w+)(?:::([A-Z]\w+))?", file.code.split("\n")[line - 1]):
-        its_type = members.type_of(crate, function.subject if it[1] == "Self" else it[1], file)
+    # (what stands behind a type parameter, as `P::Disk` does, is none of these)
+    for it in re.finditer(r"(?<!\b[A-Z]::)\b([A-Z]\w+)(?:::([A-Z]\w+))?", file.code.split("\n")[line - 1]):
+        its_type = members.type_of(crate, getattr(function, "subject", "") if it[1] == "Self" else it[1], file)
         cases = [one for one, _, _ in members_of(its_type) if one.name == it[2]] if its_type else []
         found = (cases or [its_type or constant_of(crate, file, it[1])])[0]
         if found:
@@ -169,6 +187,21 @@ class Named:
     def holders(self):
         """The types that have it in a field."""
         return [it for it in self.code() if not isinstance(it, sources.Function) and it.kind in ("struct", "enum")]
+
+    def is_of_tests(self):
+        """Whether tests name the type, and of the code nothing but its own functions, laws, and functions that nothing
+        else calls."""
+        code = self.code()
+        others = [it for it in code if self.item.name not in (getattr(it, "subject", ""), it.name)
+                  and not it.file.module.endswith("laws")]
+        is_type = self.item.kind in ("struct", "enum") and not tested.is_test_file(self.crate, self.item.file.path)
+        return is_type and len(code) < len(self.places) and not any(map(self.is_called, others))
+
+    def is_called(self, it):
+        """Whether something of the code goes by what names the type: all that is no function does."""
+        by = calls.calls(it) if isinstance(it, sources.Function) and it.name != "main" else None
+        return by is None or any(not tested.is_test_file(one.crate, one.file.path) and one.function not in self.code()
+                                 and not one.file.module.endswith("laws") for one in by)
 
     def specs(self):
         """The files of specs that name it, each with the numbers of the lines."""

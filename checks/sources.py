@@ -103,7 +103,8 @@ class Function:
                 break
             self.add(*head.groups(), at + head.start(), behind)
             at = behind
-        self.last = line(behind - 1)
+        # Where its body begins, or the semicolon in its place.
+        self.body, self.last = stop, line(behind - 1)
         self.body_len = max(0, self.last - line(stop) - 1)
         self.ensures = [it for it in self.clauses if it.kind == "ensures"]
         if self.clauses:

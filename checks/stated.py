@@ -29,7 +29,8 @@ def comment_above(lines, number):
 
 
 # How a comment begins that leans on the one before it.
-LEANS = re.compile(r"(?i)(the same|so |and |they |it |no two|one that|there (is|are|isn't)\b|their |its )")
+LEANS = re.compile(r"(?i)(\.\.|the same|so (?!many|much|few)|and |they |it |no two|one that|there (is|are|isn't)\b|"
+                   r"their |its )")
 
 
 # What stands in front of the name of a definition, as a pattern.
@@ -42,22 +43,22 @@ def definition(path, name):
     as by `the same`, this too; and of a member without one, what stands above what it is a member of."""
     head = re.compile(rf"\s*(?:(?:{WORDS})\s+)*{re.escape(name)}\s*[:({{]")
     lines = lines_of(path)
-    for number, line in enumerate(lines):
-        if head.match(line) and ":" in " ".join(lines[number:number + 9]):
-            # (what stands in a module is indented too, and is no member)
-            indent = re.match(r"\s*", line)[0]
-            owner = next((it for it in reversed(lines[:number]) if it.strip() and not it.startswith(indent)), "")
-            is_member = bool(indent) and not re.match(r"\s*(pub\s+)?module\b", owner)
-            own = "" if is_member else indent
-            tops = [it for it in range(number)
-                    if re.match(rf"{own}(?:{WORDS})\b", lines[it])]
-            if tops and is_member and not comment_above(lines, number):
-                return number + 1, f"(a member) {comment_above(lines, tops[-1])}"
-            said = [comment_above(lines, number)]
-            while tops and len(said) < 4 and LEANS.match(said[-1]):
-                said.append(comment_above(lines, tops.pop()))
-            return number + 1, " / above it: ".join(it for it in said if it)
-    return None
+    numbers = [it for it, line in enumerate(lines) if head.match(line) and ":" in " ".join(lines[it:it + 9])]
+    if not numbers:
+        return None
+    # (a field or a parameter of another definition may have its name too)
+    number = min(numbers, key=lambda it: lines[it].startswith(" "))
+    # (what stands in a module is indented too, and is no member)
+    indent = re.match(r"\s*", lines[number])[0]
+    owner = next((it for it in reversed(lines[:number]) if it.strip() and not it.startswith(indent)), "")
+    is_member = bool(indent) and not re.match(r"\s*(pub\s+)?module\b", owner)
+    tops = [it for it in range(number) if re.match(rf"{'' if is_member else indent}(?:{WORDS})\b", lines[it])]
+    if tops and is_member and not comment_above(lines, number):
+        return number + 1, f"(a member) {comment_above(lines, tops[-1])}"
+    said = [comment_above(lines, number)]
+    while tops and len(said) < 4 and LEANS.match(said[-1]):
+        said.append(comment_above(lines, tops.pop()))
+    return number + 1, " / above it: ".join(it for it in said if it)
 
 
 def imported(text):
@@ -87,7 +88,11 @@ def words_in(text):
 
 def brought(file, text):
     """What a text names of what its file brings in."""
-    known = imports(file)
+    return among(imports(file), text)
+
+
+def among(known, text):
+    """What a text names of what is known."""
     for word in words_in(text):
         first, *rest = word.split(".")
         yield from (known[it] for it in [first, *rest] if it in known and known[it].name)
@@ -140,6 +145,42 @@ def found_as(named):
 def stated_by(file, text):
     """The definitions of the repository that a text of a file names."""
     return list(found_as(brought(file, text)))
+
+
+# What definitions unfold to.
+
+@functools.lru_cache(maxsize=None)
+def known_in(path):
+    """What the definitions of a file of specs may name: what it brings in, and its own."""
+    crate, _, module = os.path.relpath(path, CRATES)[:-len(".antt")].split(os.sep, 2)
+    heads = re.findall(rf"(?m)^(?:(?:{WORDS})\s+)+([^\s:({{]+)", sources.read(path))
+    return {**{it: Name(crate, module.replace(os.sep, "."), it, it) for it in heads}, **imported(sources.read(path))}
+
+
+@functools.lru_cache(maxsize=None)
+def unfolds_to(path, line):
+    """The definitions of the repository that the one at this line of a file of specs names."""
+    lines = lines_of(path)
+    last = next((it for it in range(line, len(lines)) if not lines[it].strip()), len(lines))
+    text = "\n".join(it.partition("--")[0] for it in lines[line - 1:last])
+    return [it for it in found_as(among(known_in(path), text)) if (it.path, it.line) != (path, line)]
+
+
+def unfolded(definitions, most=3):
+    """The definitions that these unfold to in so many steps at most, themselves first: each by its file and its name,
+    with the steps."""
+    found, level = {}, list(definitions)
+    for steps in range(most + 1):
+        level = [it for it in level if (it.path, it.name) not in found]
+        found.update({(it.path, it.name): (it, steps) for it in reversed(level)})
+        level = [one for it in level if it.path.endswith(".antt") for one in unfolds_to(it.path, it.line)]
+    return found
+
+
+@functools.lru_cache(maxsize=None)
+def spread(name):
+    """How many files of code have a name."""
+    return sum(name in file.code for _, file in calls.every())
 
 
 def of_others(named):

@@ -184,9 +184,9 @@ def comes_to(function):
     found, left, seen = {}, [(function,)], {function}
     while left:
         way = left.pop(0)
-        for callee, line in calls.callees(way[-1]).items():
-            case = case_at(calls.Call(calls.homes()[way[-1]], way[-1], way[-1].file, line, calls.SURE))
-            if case and not any(line_with(it, case) for it in way):
+        for callee, lines in calls.callees(way[-1]).items():
+            cases = [case_at(calls.Call(calls.homes()[way[-1]], way[-1], way[-1].file, it, calls.SURE)) for it in lines]
+            if not any(it is None or any(line_with(one, it) for one in way) for it in cases):
                 continue
             for it in [callee, *calls.standing_for(callee)]:
                 if not is_test_file(calls.homes()[it], it.file.path):
@@ -225,18 +225,47 @@ def row_of(test, way):
     return f"; line {first}: {text_from(test.file, first, last)}"
 
 
-def told(function, near):
-    """The tests that call a function or that reach it by others, those of the nearest files first and those of the
-    whole program last: each with its way, and with what is told of its row."""
+def row_naming(test, way, cases):
+    """The row or the pattern of a test, or of a function of tests on its way, that names one of these cases."""
+    want = Want("|".join(rf"\b{it.owner.name}::{it.name}\b" for it in cases), False)
+    for it in [test, *(call.function for call in way)] if cases else []:
+        number = line_with(it, want) if is_test_file(calls.homes()[it], it.file.path) else None
+        if number:
+            return f"{ROW}, line {number} of {os.path.basename(it.file.path)}: {text_from(it.file, number, number)}"
+    return ""
+
+
+def fake_on(function, way):
+    """The impl of a trait by tests, in a file on a way, which may be what the way comes to in place of one of the
+    code."""
+    files = {it.file for it in way if is_test_file(it.crate, it.file.path)} if calls.is_member(function) else ()
+    return next((it for it in calls.standing_for(function) if it.file in files), None)
+
+
+def has_case(test, way, case):
+    """Whether a table of a test, or of a function on its way, has a case."""
+    return any(line_with(it, case) for it in (test, *(call.function for call in way)))
+
+
+@functools.lru_cache(maxsize=None)
+def told(function, near, cases=()):
+    """The tests that call a function or that reach it by others, those first whose rows name one of these cases, then
+    those of the nearest files, and those of the whole program last: each with its way, and with what is told of its
+    row."""
     ways = Ways(function)
     found = {it: way for it, way in (ways.tests or ways.others).items()
              if calls.homes()[function] in reach(calls.homes()[it])}
-    rows = {it: row_of(it, way) for it, way in found.items()}
+    naming = {it: row_naming(it, way, cases) for it, way in found.items()}
+    fakes = {it: fake_on(function, way) for it, way in found.items()}
+    rows = {it: (naming[it] or row_of(it, way)) + (f"; by its own {fakes[it].called()}" if fakes[it] else "")
+            for it, way in found.items()}
     names = [it for it in (function.subject, function.trait) if it]
 
     def order(test):
         is_named = any(re.search(rf"\b{it}\b", test.file.code) for it in names)
         is_whole = any(it.file.path == COMMANDS for it in found[test])
-        return not is_near(test, near), is_whole, not rows[test].startswith(ROW), not is_named, len(found[test])
+        is_row = rows[test].startswith(ROW)
+        return (not naming[test], bool(fakes[test]), not is_near(test, near), is_whole, not is_row, not is_named,
+                len(found[test]))
 
     return [(it, found[it], rows[it]) for it in sorted(found, key=order)]
