@@ -264,6 +264,7 @@ fn a_client_has_so_many_fids(rt: HostRuntime) -> Result<(), Fail> {
 /// couldn't.
 #[derive(Clone, Copy)]
 struct Told {
+    /// All that is asked, and its replies.
     table: &'static [Row],
     failure: Option<Failure>,
 }
@@ -306,6 +307,7 @@ fn a_failure_is_told(rt: HostRuntime) -> Result<(), Fail> {
 /// A store that says no to each call, with a text of 300 bytes.
 #[derive(Drop)]
 struct Refusing {
+    /// How often it said no.
     refusals: u64,
 }
 
@@ -313,6 +315,7 @@ impl Refusing {
     ghost use Rattle.std.specs.Prelude.{◌≡◌, Some};
     ghost use Rattle.vt_tree.specs.Calls.{with_refusal};
 
+    /// Counts a no, and says it; or that there is no memory for its text.
     fn refuse(&mut self, alloc: Global) -> BlockErr
         ensures { record { faults = 0; refusals = self.new.refusals }
             ≡ with_refusal (Some result) (record { faults = 0; refusals = self.old.refusals }) }

@@ -224,12 +224,14 @@ impl Talk {
         }
     }
 
+    /// This is asked, and this is to be replied.
     pub fn say(&mut self, asked: &[u8], replied: &[u8]) -> Result<(), AllocError> {
         self.asked.extend_from_slice(asked)?;
         self.replied.extend_from_slice(replied)?;
         Ok(())
     }
 
+    /// The same of each row.
     pub fn say_all(&mut self, rows: &[Row]) -> Result<(), AllocError> {
         for (asked, replied) in rows {
             self.say(asked, replied)?;
@@ -241,11 +243,15 @@ impl Talk {
 /// Why the archive couldn't be read.
 #[derive(Clone, Copy, PartialEq, Eq)]
 pub enum Failure {
+    /// A call of the store failed.
     Fault,
+    /// The store said no.
     Refused,
+    /// Anything else.
     Other,
 }
 
+/// The same of what a connection tells, if it tells any.
 fn failure_of(failure: &Option<VacBad>) -> Option<Failure> {
     match failure {
         None => None,

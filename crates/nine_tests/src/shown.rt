@@ -52,6 +52,7 @@ const ASKED: &[u8] =
     \0\x14\0\0\0n\x02\0\x01\0\0\0\x02\0\0\0\x01\0\x01\0f\x0c\0\0\0p\x03\0\x02\0\0\0\0\x17\0\0\
     \0t\x04\0\x02\0\0\0\0\0\0\0\0\0\0\0d\0\0\0\x0b\0\0\0x\x05\0\x02\0\0\0";
 
+/// What is replied to these.
 const REPLIED: &[u8] =
     b"\x13\0\0\0e\xff\xff\0 \0\0\x06\09P2000\x14\0\0\0i\x01\0\x80\0\0\0\0\0\0\0\0\0\0\0\0\x16\
     \0\0\0o\x02\0\x01\0\0\0\0\0\0\x01\0\0\0\0\0\0\0\x18\0\0\0q\x03\0\0\0\0\0\0\x01\0\0\0\0\0\0\
@@ -72,6 +73,7 @@ fn archive<B: Blocks>(alloc: Global, blocks: &mut B) -> Result<Score, Fail> {
     put(alloc, blocks, Kind::ROOT, &root)
 }
 
+/// Notes whether a connection was closed by its client behind all that it says, and nothing failed.
 fn see_served(served: &Served, rows: &mut Rows) {
     rows.is("how the connection ends", served.ended == Ended::Closed);
     rows.is(

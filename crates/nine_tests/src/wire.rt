@@ -19,6 +19,7 @@ fn told(message: &[u8]) -> (u16, &str) {
     }
 }
 
+/// The name of a request's kind, as the manual has it.
 fn kind_of(request: &Request<'_>) -> &'static str {
     match request {
         Request::Version { .. } => "version",
@@ -37,7 +38,7 @@ fn kind_of(request: &Request<'_>) -> &'static str {
     }
 }
 
-/// Messages, and what each is read as.
+/// Messages, the tag of each, and the kind of request as which it is read, or why it isn't (`told`).
 const MESSAGES: &[(&[u8], u16, &str)] = &[
     (
         b"\x13\0\0\0\x64\xff\xff\0\x20\0\0\x06\09P2000",

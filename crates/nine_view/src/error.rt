@@ -14,7 +14,9 @@ const ERROR_LEN: usize = 9;
 /// Why a request has an error for its reply.
 #[derive(Drop)]
 pub(crate) enum AnswerError {
+    /// It can't be done, whatever the archive has.
     Refused(RequestError),
+    /// The archive couldn't be read, or memory ran out.
     Failed(VacBad),
 }
 

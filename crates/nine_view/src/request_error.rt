@@ -19,16 +19,19 @@ pub enum RequestError {
     FidInUse,
     /// 1,024 fids are known.
     TooManyFids,
+    /// The fid isn't set.
     UnknownFid,
     /// It would change the archive.
     ReadOnly,
     /// A walk has more than 16 names.
     TooManyNames,
+    /// An open fid is opened again, or walked from.
     FidIsOpen,
     /// The first name of a walk is looked for in a file.
     NoDirectory,
     /// The first name of a walk isn't there.
     NoFile,
+    /// A fid is read that isn't open.
     FidNotOpen,
     /// A folder is read neither from its start nor from where the last read ended.
     BadOffset,

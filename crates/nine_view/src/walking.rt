@@ -23,6 +23,7 @@ use vt_tree::Blocks;
 struct Walked {
     /// The qids of the files on the way.
     qids: Vec<Qid>,
+    /// Where the last of them leads, or why one of them doesn't lead on.
     end: Result<Place, RequestError>,
 }
 

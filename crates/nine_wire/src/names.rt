@@ -13,6 +13,7 @@ use std::marker::Model;
 pub struct Names<'a> {
     /// How many names the bytes still have.
     count: u16,
+    /// The names that are left, each behind its length in two bytes.
     bytes: &'a [u8],
 }
 

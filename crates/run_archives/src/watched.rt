@@ -21,7 +21,9 @@ const BYTES: u64 = 1 << 22;
 pub struct Watched<F, K> {
     folder: F,
     terminal: Option<K>,
+    /// How many files were begun: a read counts as one that begins at the first byte.
     files: u64,
+    /// How many bytes came, of all files. At 2^64 - 1 it stays.
     bytes: u64,
 }
 

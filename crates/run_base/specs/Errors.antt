@@ -23,7 +23,8 @@ use Rattle.vt_remote.specs.declared.talk.RemoteError.TheVariants as remote
 abbrev pub CommandOutcome : Type 0
 CommandOutcome = Result (Unit {0}) CommandError
 
--- where a server is why: it wasn't reached, the link to it failed, or what it said is no answer
+-- where a server is why: it wasn't reached, the link to it failed, memory ran out, a score is another
+-- one than was wanted, it says no, or what it said is no answer
 abbrev pub server_status : RemoteError → ℕ
 server_status remote.Undialled = 6
 server_status (remote.Refused errs.ReadFault) = 6
@@ -169,7 +170,7 @@ pub record Causes : Type 1 where
   pub sink : Type 0
   pub server : RemoteError → Type 0
 
--- of a command, whose words are known, that is lent nothing: none of these is told
+-- the causes of a command that is lent nothing: none
 abbrev pub no_cause : Causes
 no_cause = record {
   words = ⊥;

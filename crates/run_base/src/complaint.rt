@@ -188,7 +188,9 @@ fn complain_of_damage<F: Sink>(sink: &mut F, want: &FieldValue, found: &FieldVal
 /// Room for the digits of a value.
 #[derive(Drop)]
 struct Digits {
+    /// For those of a number.
     decimal: Buffer,
+    /// Two for each byte: 40 for a score, and the first 8 for a magic number.
     hexadecimal: [u8; 40],
 }
 

@@ -1,4 +1,5 @@
 //! Why a command ends with a status other than 0.
+// Tests: crates/run_tests_sessions/src/read.rt, and write.rt beside it, where a server is why.
 
 ghost use Rattle.std.specs.Prelude.{◌≡◌};
 ghost use Rattle.run_base.specs.Errors.{server_status, status_of};
@@ -16,6 +17,7 @@ pub enum CommandError {
     BadWords,
     /// The configuration is refused.
     BadConf(ConfBad),
+    /// The file's partition lacks the magic number of its kind, as one does that wasn't formatted.
     NotFormatted {
         file: Text,
     },
@@ -58,11 +60,13 @@ pub enum CommandError {
     Malformed(u64),
     /// As many bytes came as may be taken.
     Spent(u64),
+    /// A read of the stream that is read failed.
     ReadFault,
     /// A file couldn't be read.
     FileFault,
     /// A folder couldn't be had, or a call of it failed.
     FolderFault,
+    /// A write failed to the stream where results go.
     WriteFault,
     /// Memory ran out.
     NoMemory,
@@ -117,7 +121,9 @@ pub fn status(outcome: &Result<(), CommandError>) -> u8
     }
 }
 
-/// The exit status where a server is why.
+/// The exit status where a server is why: 6 where it wasn't reached or a read of its link failed, 7 where a write did,
+/// 8 without memory, 9 where a score is another one than was wanted, and else 11: it says no, or nothing that is an
+/// answer.
 fn server_status(bad: &RemoteError) -> u8
     ensures { result ≡ server_status bad.now }
 {

@@ -17,6 +17,7 @@ pub struct Outside<S, K, F, I, P, N, G, C, T> {
     pub dialer: N,
     /// The folders.
     pub folders: G,
+    /// Tells the second at which a command begins, the time of the clumps that it adds.
     pub clock: C,
     /// Where a long call tells meanwhile how far it is, if there is a terminal. No clause speaks of
     /// what goes there.

@@ -7,8 +7,11 @@ use vt_out::{Progress, Sink};
 /// What the steps of a command are.
 #[derive(Clone, Copy, Debug)]
 pub enum Unit {
+    /// Those that `checkarenas` has tested.
     Arenas,
+    /// Those that `fmtindex` has cleared, or `buildindex` has filled.
     Buckets,
+    /// Those of `rehearse`.
     Rounds,
 }
 

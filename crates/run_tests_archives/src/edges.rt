@@ -30,6 +30,7 @@ fn home(alloc: Global) -> Result<MemFolders, AllocError> {
     folder_named(alloc, "home", items, usize::MAX, &[])
 }
 
+/// A name of 100 bytes.
 const OWNER: &[u8] =
     b"uuuuuuuuuuuuuuuuuuuuuuuuuuuuuuuuuuuuuuuuuuuuuuuuuuuuuuuuuuuuuuuuuuuuuuuuuuuuuuuuuuuuuuuuuuuuuuuuuuuu";
 
@@ -47,6 +48,7 @@ fn version(kind: u8, most: u32) -> [u8; 19] {
     message
 }
 
+/// The top folder gets fid 1; the reply to that; and it is opened.
 const ATTACH: &[u8] = b"\x13\0\0\0h\x01\0\x01\0\0\0\xff\xff\xff\xff\0\0\0\0";
 
 const ATTACHED: &[u8] = b"\x14\0\0\0i\x01\0\x80\0\0\0\0\0\0\0\0\0\0\0\0";
@@ -77,6 +79,7 @@ fn head(len: u32) -> [u8; 11] {
     message
 }
 
+/// What is said to a read that has no room for a file, and to one that begins where none may.
 const TOO_SMALL: &[u8] = b"\x18\0\0\0k\x01\0\x0f\0count too small";
 
 const BAD_OFFSET: &[u8] = b"\x13\0\0\0k\x01\0\x0a\0bad offset";
@@ -84,8 +87,11 @@ const BAD_OFFSET: &[u8] = b"\x13\0\0\0k\x01\0\x0a\0bad offset";
 /// What a read of the folder gives: its bytes from one place to another, or a refusal.
 #[derive(Clone, Copy, Drop)]
 enum Gives {
+    /// The bytes of `FILES` from this place to that one.
     Files(usize, usize),
+    /// It has no room for the next file.
     TooSmall,
+    /// It begins neither at the start nor where the last one ended.
     BadOffset,
 }
 
@@ -138,7 +144,8 @@ fn sizes(alloc: Global) -> Result<Talk, AllocError> {
     Ok(talk)
 }
 
-/// Offsets in the folder: but its start, only the end of the last read goes.
+/// From where the folder is read, how many bytes are asked for, and what comes: but its start, only the
+/// end of the last read goes.
 const OFFSETS: &[(u64, u32, Gives)] = &[
     (251, 8_192, Gives::BadOffset),
     (0, 250, Gives::TooSmall),
@@ -157,6 +164,7 @@ const OFFSETS: &[(u64, u32, Gives)] = &[
     (251, 8_192, Gives::BadOffset),
 ];
 
+/// What a client says that reads the folder at each of `OFFSETS`.
 fn offsets(alloc: Global) -> Result<Talk, AllocError> {
     let mut talk = Talk::new(alloc);
     begin(&mut talk, 8_192)?;
@@ -210,6 +218,7 @@ const PARTS: &[(u64, u32, usize, usize)] = &[
     (u64::MAX, 8_192, 0, 0),
 ];
 
+/// What a client says that reads each of `PARTS` of the file `n`.
 fn parts_of_file(alloc: Global) -> Result<Talk, AllocError> {
     let content = content(alloc)?;
     let mut talk = Talk::new(alloc);
@@ -224,6 +233,7 @@ fn parts_of_file(alloc: Global) -> Result<Talk, AllocError> {
     Ok(talk)
 }
 
+/// Each of `PARTS` is read, of this content.
 fn say_parts(talk: &mut Talk, content: &[u8]) -> Result<(), AllocError> {
     for &(from, count, first, last) in PARTS {
         let part = content.get(first..last).unwrap_or(&[]);

@@ -27,10 +27,12 @@ fn home(alloc: Global, name: &[u8], failing: &[u64]) -> Result<MemFolders, Alloc
     folder_named(alloc, "home", items, usize::MAX, failing)
 }
 
+/// What is printed of that folder in blocks of 8,192 bytes, and in blocks of 512.
 const LINE: &[u8] = b"vac:7cb9bdd602e2a403c8d34ad446017ae13b317aa7\n";
 
 const SMALL_LINE: &[u8] = b"vac:808ed0b4711370b9f8b7241cd07ee0206d217fa7\n";
 
+/// What is told of the link.
 const SKIPPED: &[u8] = b"venti: skipped d/l\xff\n";
 
 const VAC: &[&str] = &["vac", "small.conf", "home"];

@@ -27,8 +27,10 @@ const TOP: &[u8] =
 const ROOT: &[u8] =
     b"\xbc\x01\x34\xb3\x9e\x3f\x1c\x43\x7b\xec\x79\xb6\xdc\xbf\xc5\xa2\x4a\x26\xb7\x17";
 
+/// What is printed.
 const LINE: &[u8] = b"vac:bc0134b39e3f1c437bec79b6dcbfc5a24a26b717\n";
 
+/// What is told of an item with that name.
 const SKIPPED: &[u8] = b"venti: skipped l\xff\n";
 
 /// The words, what the server says behind its welcome, the item's name, the calls of the folder that
@@ -43,6 +45,7 @@ type Row = (
     &'static [u8],
 );
 
+/// What a server says that takes both blocks in, and the sync.
 const TAKEN: Bits = &[
     b"\x00\x16\x0f\x01",
     TOP,
@@ -51,6 +54,7 @@ const TAKEN: Bits = &[
     b"\x00\x02\x11\x03",
 ];
 
+/// Each with a server and a folder of its own.
 const ROWS: [Row; 9] = [
     (VAC, TAKEN, b"l\xff", &[], 0, LINE, SKIPPED),
     (

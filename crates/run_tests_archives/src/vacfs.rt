@@ -74,7 +74,8 @@ const FOLDER: &[Row] = &[
     ),
 ];
 
-/// The same folder, where the file's name is a slash.
+/// The same folder, where the file's name is a slash: other metadata, what names it, and the root. The entries are
+/// those of `FOLDER`, which is written before.
 const FLAWED_FOLDER: &[Row] = &[
     (
         &["write", "v.conf", "13"],
@@ -111,6 +112,7 @@ const FLAWED_FOLDER: &[Row] = &[
     ),
 ];
 
+/// The score of the flawed archive's root.
 const FLAWED_ROOT: &str = "550ff7727427716e42cfd07dd6cf2d8f34409986";
 
 /// What a client asks: a version, the top folder, a walk to `f`, to open it, its bytes, and to be done.
@@ -155,11 +157,13 @@ const NAMELESS: &[u8] =
     \x14\0\0\0k\x02\0\x0b\0bad archive\x14\0\0\0k\x03\0\x0b\0unknown fid\x14\0\0\0k\x04\0\
     \x0b\0unknown fid\x14\0\0\0k\x05\0\x0b\0unknown fid";
 
+/// What goes to the fault sink where `abd` stands in place of the file's `abc`.
 const WRONG: &str = "venti: damaged: want a9993e364706816aba3e25717850c26c9cd0d89d, found \
 cb4cc28df0fdbe0ecf9d9662e294b118092a5735\n";
 
 const VACFS: &[&str] = &["vacfs", "v.conf", ROOT];
 
+/// What a client says over the archive, and what it is told; and inputs that end it.
 const SHOWN: &[Row] = &[
     (VACFS, &[ASKED], 0, &[REPLIED], ""),
     (VACFS, &[], 0, &[], ""),

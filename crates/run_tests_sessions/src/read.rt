@@ -11,10 +11,12 @@ use vt_host_memory::{
 };
 use vt_rows::Rows;
 
+/// The score of `abc`, and that as a line.
 const A: &str = "a9993e364706816aba3e25717850c26c9cd0d89d";
 
 const A_LINE: &[u8] = b"a9993e364706816aba3e25717850c26c9cd0d89d\n";
 
+/// The score of no bytes.
 const ZERO: &str = "da39a3ee5e6b4b0d3255bfef95601890afd80709";
 
 /// Words that aren't those of a block, and a store that isn't opened.
@@ -133,6 +135,7 @@ const KEPT: &[Row] = &[
     (&["session", "small.conf"], &[], 0, &[OUR_LINE], ""),
 ];
 
+/// Blocks are written and read by commands, once there is a store.
 const BLOCK: &[Act] = &[
     Act::See(told!("what is refused"), REFUSED),
     Act::Make(ONE_ARENA),
@@ -203,7 +206,7 @@ fn see_write(
 /// A block of so many bytes is written, and ends so.
 type Length = (usize, End);
 
-/// What a store takes, and what it refuses before.
+/// What makes a store, and the blocks that are written to it: what it takes, and what it refuses before.
 const LENGTHS: [(Commands, &[Length]); 2] = [
     (
         SMALL_ARENA,

@@ -12,16 +12,19 @@ use vt_host_memory::{
 };
 use vt_rows::Rows;
 
+/// The scores of `abc` and of no bytes.
 const SCORE_ABC: &[u8] =
     b"\xa9\x99\x3e\x36\x47\x06\x81\x6a\xba\x3e\x25\x71\x78\x50\xc2\x6c\x9c\xd0\xd8\x9d";
 
 const ZERO_SCORE: &[u8] =
     b"\xda\x39\xa3\xee\x5e\x6b\x4b\x0d\x32\x55\xbf\xef\x95\x60\x18\x90\xaf\xd8\x07\x09";
 
+/// How the reply to a write under tag 1 begins, and a read under tag 2: a score comes behind it.
 const WROTE: &[u8] = b"\x00\x16\x0f\x01";
 
 const READ: &[u8] = b"\x00\x1a\x0c\x02";
 
+/// A ping, and its reply.
 const PING: &[u8] = b"\x00\x02\x02\x05";
 
 const PONG: &[u8] = b"\x00\x02\x03\x05";
@@ -33,6 +36,7 @@ const NOT_AGREED: &[u8] = b"\x00\x16\x01\x00\x00\x12version not agreed";
 
 const EXPECTED: &[u8] = b"\x00\x12\x01\x05\x00\x0ehello expected";
 
+/// What is said to a write under tag 1 whose score another block has.
 const COLLISION: &[u8] = b"\x00\x13\x01\x01\x00\x0fscore collision";
 
 /// What comes in, what goes out, the status, and the line on the fault sink.
@@ -225,6 +229,7 @@ fn see_session<C: Scorer + Sync>(
     Ok(())
 }
 
+/// Notes whether sessions go as `TALKS` says.
 fn see_talks(rt: &impl Runtime, rows: &mut Rows, parts: &mut Partitions) -> Result<(), AllocError> {
     for (number, talk) in TALKS.iter().enumerate() {
         see_session(rt, rows, parts, number, talk, &Sha1Scorer)?;
@@ -416,8 +421,10 @@ const BAD_WORDS: &[Row] = &[
     (&["session", ":memory:", "more"], SAMPLE, 1, &[], BAD),
 ];
 
+/// What goes to the fault sink for each of these.
 const BAD: &str = "venti: bad command line\n";
 
+/// Runs without any partition.
 const UNKNOWN: &[Act] = &[Act::See(told!("words that are no command"), BAD_WORDS)];
 
 #[test]

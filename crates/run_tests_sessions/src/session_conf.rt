@@ -17,6 +17,7 @@ use vt_rows::Rows;
 /// A write of `abd`, and a read of it.
 const WRITE_ABD: &[u8] = b"\x00\x09\x0e\x01\x0d\x00\x00\x00abd";
 
+/// The reply to that write, and a read by its score.
 const WROTE_ABD: &[u8] = b"\x00\x16\x0f\x01\
 \xcb\x4c\xc2\x8d\xf0\xfd\xbe\x0e\xcf\x9d\x96\x62\xe2\x94\xb1\x18\x09\x2a\x57\x35";
 
@@ -126,6 +127,7 @@ fn a_store_is_opened_used_and_damaged(rt: HostRuntime) -> Result<(), Fail> {
 
 // ---- a full store
 
+/// What a full store says to a write under tag 1.
 const ARENAS_FULL: &[u8] = b"\x00\x0f\x01\x01\x00\x0barenas full";
 
 const INDEX_FULL: &[u8] = b"\x00\x0e\x01\x01\x00\x0aindex full";
@@ -163,7 +165,7 @@ fn see_new(
     see_talk(rt, rows, &mut parts, &IN_USE, number, SMALL, talk)
 }
 
-/// What a full store takes, and how it refuses one block more.
+/// What makes a store, how many blocks it takes, and how it refuses one more.
 const FULL: [(Commands, u16, &[u8]); 3] = [
     (SMALL_ARENA, 124, ARENAS_FULL),
     (TWO_ARENAS, 248, ARENAS_FULL),
@@ -338,6 +340,7 @@ fn fails(
 /// a failed row tells.
 type Failing = (usize, u64, &'static [u8], &'static str);
 
+/// One of each partition of `FILTERED`. What a letter says stands at `letter`.
 const FAILING: [Failing; 3] = [
     (
         0,

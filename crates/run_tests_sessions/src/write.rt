@@ -18,6 +18,7 @@ type Row = (
     &'static str,
 );
 
+/// The score of `abc`, and that as a line.
 const A: &str = "a9993e364706816aba3e25717850c26c9cd0d89d";
 
 const LINE: &[u8] = b"a9993e364706816aba3e25717850c26c9cd0d89d\n";
@@ -26,6 +27,7 @@ const READ: &[&str] = &["read", "tcp!localhost!17034", A, "13"];
 
 const WRITE: &[&str] = &["write", "tcp!localhost!venti", "13"];
 
+/// Each with a server of its own.
 const ROWS: [Row; 14] = [
     (READ, b"", b"\x00\x05\x0d\x01abc", 0, b"abc", ""),
     (

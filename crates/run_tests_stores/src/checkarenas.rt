@@ -57,6 +57,7 @@ const SOUND: &[Row] = &[
     ),
 ];
 
+/// The first arena is damaged; the other one has no blocks.
 const DAMAGED: &[Row] = &[(
     CHECK,
     &[],
@@ -69,6 +70,7 @@ const DAMAGED: &[Row] = &[(
     cb4cc28df0fdbe0ecf9d9662e294b118092a5735\n",
 )];
 
+/// A new store is checked before and behind a change of a byte on its disk.
 const CHECKED: &[Act] = &[
     Act::Make(TWO_ARENAS),
     Act::See(told!("arenas that are sound"), SOUND),
@@ -237,8 +239,10 @@ fn an_index_may_have_no_room(rt: HostRuntime) -> Result<(), Fail> {
 /// which its head says that it is being built.
 const FAILING: u64 = 39;
 
+/// What is told of a section that is being built.
 const STATE: &str = "venti: i.part: state is 2, want 1\n";
 
+/// The score of `abc`, by SHA-1.
 const SCORE: &str = "a9993e364706816aba3e25717850c26c9cd0d89d";
 
 /// Then nothing else is done before the index is rebuilt or made anew.
@@ -258,6 +262,7 @@ const STOPPED: &[Row] = &[
     (&["checkarenas", "v.conf"], &[], 3, &[], STATE),
 ];
 
+/// The two commands by which it is in use again.
 const BEHIND: [Row; 2] = [
     (
         &["buildindex", "v.conf"],
@@ -275,6 +280,7 @@ const BEHIND: [Row; 2] = [
     ),
 ];
 
+/// It is in use, and has no blocks.
 const USED: &[Row] = &[
     (
         &["checkarenas", "v.conf"],

@@ -435,6 +435,7 @@ fn letter(
 
 const STOPPED: Told = told!("a command of which a call fails");
 
+/// How a command ends of which a call fails.
 const FAULT: Wanted<'static> = Wanted {
     status: 4,
     output: &[],
@@ -454,8 +455,9 @@ fn at_stop(rt: &impl Runtime, parts: &mut Partitions) -> Result<u8, AllocError> 
     })
 }
 
-/// The command stops at each of its calls. Behind its last write a file is formatted, also where
-/// the sync fails that follows, or a read.
+/// For each call at which the command stops its letter (see `letter`), `w` where it makes no such call;
+/// and what a wrong one is told by. Behind its last write a file is formatted, also where the sync
+/// fails that follows, or a read.
 const LETTERS: [(&[u8], &str); 3] = [
     (b"nnnnffw", "what is said of a file of arenas"),
     (b"nffw", "what is said of a section"),

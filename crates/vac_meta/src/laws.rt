@@ -1,4 +1,5 @@
-//! Laws of a folder's metadata, each the contract of a function that does nothing.
+//! Laws of a folder's metadata, each the contract of a function that does nothing: bytes are read in
+//! one way, or refused in one.
 
 ghost use Rattle.std.specs.Prelude.{◌≡◌, ℕ, List};
 ghost use Rattle.vac_meta.specs.declared.error.MetaErr.{MetaErr};

@@ -13,6 +13,7 @@ pub enum RecordKind {
 /// What an archive keeps of a file or a folder beside its bytes (vac(1)).
 #[derive(Drop)]
 pub struct Record {
+    /// Its name in its folder.
     pub name: Text,
     pub kind: RecordKind,
     /// The number of its first entry in the entry stream of its folder.
@@ -23,7 +24,9 @@ pub struct Record {
     pub mtime: u32,
     /// Its number in the archive.
     pub qid: u64,
+    /// The name of its owner.
     pub uid: Text,
+    /// The name of its group.
     pub gid: Text,
 }
 

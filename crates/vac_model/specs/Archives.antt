@@ -57,10 +57,11 @@ metadata items = all_spelled (records_of 0 items)
 -- ---- a folder's entries
 
 module _ (score_of : List ℕ → List ℕ) (bsize : ℕ) where
-  -- the entry of a folder's metadata, and that of its entries
+  -- the entry of the metadata of a folder with these items
   abbrev pub metadata_entry : Items Numbered → Entry
   metadata_entry items = entry_of_stream score_of (file_shape bsize) (metadata items)
 
+  -- the entry of a folder's directory, which has these entries
   abbrev pub directory_entry : List Entry → Entry
   directory_entry entries =
       entry_of_stream score_of (directory_shape bsize) (flat_map tree_entry_bytes entries)
@@ -98,6 +99,7 @@ module _ (score_of : List ℕ → List ℕ) (bsize : ℕ) where
       tree_entry_bytes (directory_entry (item_entries items))
       ++ tree_entry_bytes (metadata_entry items)
 
+  -- the root of an archive, whose block of the top folder's two entries has these bytes
   abbrev pub root_of : (top : List ℕ) → Root
   root_of top = record {
     name = filled 128 (codes "vac");

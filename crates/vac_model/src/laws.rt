@@ -1,4 +1,5 @@
-//! Laws of archives, each the contract of a function that does nothing.
+//! Laws of archives, each the contract of a function that does nothing: that a score stands for one
+//! folder, and the blocks of an archive for the folder that was archived.
 
 ghost use Rattle.std.specs.Prelude.{◌≡◌, ◌^◌};
 ghost use Rattle.vac_model.specs.declared.TheConstants.{MAX_FILE, MAX_METADATA, MAX_NESTING};

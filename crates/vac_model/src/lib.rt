@@ -5,16 +5,16 @@
 
 pub mod laws;
 
-/// The least and the greatest block size of an archive.
+/// The least block size of an archive.
 pub const MIN_BLOCK_SIZE: u16 = 512;
 
-/// 52 KiB.
+/// The greatest block size of an archive, 52 KiB.
 pub const MAX_BLOCK_SIZE: u16 = 53_248;
 
 /// The most bytes of a file, 1 TiB.
 pub const MAX_FILE: u64 = 1 << 40;
 
-/// The most bytes of a folder's metadata.
+/// The most bytes of a folder's metadata, 16 MiB.
 pub const MAX_METADATA: usize = 16_777_216;
 
 /// How deep folders are nested at most; the top folder isn't counted.

@@ -16,9 +16,11 @@ use vt_tree::{Blocks, ENTRY_LEN, Entry, read_range};
 /// A folder's stream of entries, with the leaf of it that was read last.
 #[derive(Drop)]
 pub(crate) struct Directory {
+    /// What leaves take their memory from.
     alloc: Global,
+    /// The entry of that stream.
     stream: Entry,
-    /// Where the leaf begins, and what of it is there.
+    /// Where the leaf begins in the stream, in bytes.
     start: u64,
     /// The leaf that was read last; none of it, where none was read yet.
     leaf: Bytes,

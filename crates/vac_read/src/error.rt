@@ -20,9 +20,13 @@ pub enum VacBad {
 /// type, and the block size.
 #[derive(Clone, Copy, Debug, PartialEq, Eq)]
 pub enum RootField {
+    /// 300 bytes.
     Length,
+    /// Version 2.
     Version,
+    /// `rvac`, filled up with zeros.
     Type,
+    /// 512 to 53,248 bytes.
     BlockSize,
 }
 

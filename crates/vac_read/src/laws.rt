@@ -1,4 +1,5 @@
-//! Laws of reading archives, each the contract of a function that does nothing.
+//! Laws of reading archives, each the contract of a function that does nothing: what the nodes of an
+//! archive are where its score stands for a folder, which a reader can't see from one node alone.
 
 ghost use Rattle.vac_read.specs.Laws.{TopsStand, ListsAreItems, ReadsAreBytes};
 ghost use Rattle.vac_read.specs.Laws.{NoneIsRefused, NoneIsBroken, NoneIsUnfound};

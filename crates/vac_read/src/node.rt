@@ -10,7 +10,9 @@ use vt_tree::Entry;
 /// Where an item's bytes or items stand.
 #[derive(Clone, Copy, Debug, PartialEq, Eq)]
 pub enum Stored {
+    /// The entry of its bytes.
     File(Entry),
+    /// The entries of its two streams.
     Folder { entries: Entry, metadata: Entry },
 }
 
@@ -32,6 +34,7 @@ impl Stored {
 /// An item of an archive.
 #[derive(Drop)]
 pub struct Node {
+    /// Its name, kind, permissions, time and owners.
     pub item: Item,
     /// Its number in the archive.
     pub qid: u64,

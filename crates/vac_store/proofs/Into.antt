@@ -8,7 +8,7 @@ use Rattle.vt_out.specs.declared.folder_item.Facts.{Facts}
 use Rattle.vt_out.specs.FolderItems.{Items}
 use Rattle.vt_core.specs.Core.{CoreState, history_len}
 use Rattle.vt_requests.specs.Driven.{DrivenState}
-use Rattle.vt_local.specs.Local.{DoesLocal, HoldsLocal, LocalState}
+use Rattle.vt_blocks.specs.Local.{DoesLocal, HoldsLocal, LocalState}
 use Rattle.vt_tree.specs.declared.error.TreeErr.TheVariants as trees
 use Rattle.vt_tree.specs.Calls.{Call}
 use Rattle.vt_tree.specs.Making.{Makes}

@@ -23,7 +23,7 @@ use Rattle.vt_requests.specs.Ending.{EndsFor}
 use Rattle.vt_use.specs.LocalJobs.{new_local}
 use Rattle.vt_use.specs.Stores.{at_time, store_on}
 use Rattle.vt_use.specs.Uses.{LeftByUse}
-use Rattle.vt_local.specs.Local.{DoesLocal, HoldsLocal, LocalState}
+use Rattle.vt_blocks.specs.Local.{DoesLocal, HoldsLocal, LocalState}
 use Rattle.vac_model.specs.Archives.{archive_of}
 use Rattle.vac_model.specs.Kept.{archived}
 use Rattle.vac_model.specs.Trees.{IsTreeOf}

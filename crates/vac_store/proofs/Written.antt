@@ -23,7 +23,7 @@ use Rattle.vt_use.specs.Stores.{store_on}
 use Rattle.vt_use.specs.Blocks.{written_to}
 use Rattle.vt_use.proofs.Answered.{Goes, request_goes}
 use Rattle.vt_use.proofs.OneBlocks.{refused_first, unrefused}
-use Rattle.vt_local.specs.Local.{DoesLocal, LocalState}
+use Rattle.vt_blocks.specs.Local.{DoesLocal, LocalState}
 use Rattle.vac_store.specs.Storing.{IsRefusedFor, all_written}
 use Rattle.vac_store.proofs.Last.{IsLastOr, ends_so, not_ended}
 use Rattle.vac_store.proofs.Maps.{taken_map}

@@ -22,7 +22,7 @@ use Rattle.vt_use.specs.declared.used_at.StoreError.{StoreError}
 use Rattle.vt_use.specs.declared.used_at.StoreError.TheVariants.{Unopened, Refused, Server}
 use Rattle.vt_use.specs.declared.used_at.UsedAt.{UsedAt}
 use Rattle.vt_use.specs.Blocks.{written_to}
-use Rattle.vt_local.specs.Local.{DoesLocal, HoldsLocal}
+use Rattle.vt_blocks.specs.Local.{DoesLocal, HoldsLocal}
 use Rattle.vac_model.specs.Archives.{archive_of}
 use Rattle.vac_model.specs.Kept.{archived, skipped}
 use Rattle.vac_model.specs.Limits.{Unfit, first_unfit}

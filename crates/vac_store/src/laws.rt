@@ -1,4 +1,7 @@
-//! What holds of a store into which a folder was archived: one of this process, and a server's.
+//! What holds of a store into which a folder was archived: one of this process, and a server's. Each law is the
+//! contract of a function that does nothing. In each, `held` are the folder's items, where it tells them (`tells`),
+//! `score` or `score_of` is any function of a block's bytes, `said` what the store said no for first, `added` how many
+//! blocks are new, and `closed` how the store's use ended.
 
 ghost use Rattle.std.specs.Prelude.{◌≡◌, ◌≤◌, ℕ, Bool, IsTrue, List, Ok, Err, Option, Result, length};
 ghost use Rattle.vt_base.specs.declared.why.Why.{Why};

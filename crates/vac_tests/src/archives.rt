@@ -36,6 +36,7 @@ struct Left {
     block_faults: u64,
 }
 
+/// What an archiving of this folder left, and of these blocks.
 fn left_of(folder: &MemFolder, blocks: &MemBlocks<Sha1Scorer>) -> Left {
     let mut bytes = 0usize;
     for block in blocks.blocks() {
@@ -403,6 +404,7 @@ fn archiving_is_given_up_where_a_call_fails(rt: HostRuntime) -> Result<(), Fail>
 /// A folder of one file, of which each read gives one byte, up to the fourth, which gives none.
 #[derive(Drop)]
 struct Growing {
+    /// How often the file was read.
     reads: u8,
 }
 
@@ -441,6 +443,7 @@ impl Folder for Growing {
     }
 }
 
+/// The file that such a folder lists, as `f`.
 fn growing_file(alloc: Global) -> Result<Item, AllocError> {
     facts(alloc, b"f", 0o644, 0, b"u", b"g")?.listed(alloc, ItemKind::File)
 }

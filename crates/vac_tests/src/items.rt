@@ -22,15 +22,18 @@ pub fn facts(
     })
 }
 
+/// A file of the owner `u` and the group `g`, of time 0.
 pub fn file(alloc: Global, name: &[u8], mode: u32, bytes: &[u8]) -> Result<MemItem, Fail> {
     let content = MemContent::from_vec(Vec::from_slice(alloc, bytes)?);
     Ok(MemItem::File(facts(alloc, name, mode, 0, b"u", b"g")?, content))
 }
 
+/// A folder of the same, with mode 0o40755.
 pub fn folder(alloc: Global, name: &[u8], items: Vec<MemItem>) -> Result<MemItem, Fail> {
     Ok(MemItem::Folder(facts(alloc, name, 0o40755, 0, b"u", b"g")?, items))
 }
 
+/// What is no file and no folder, with mode 0o777.
 pub fn link(alloc: Global, name: &[u8]) -> Result<MemItem, Fail> {
     Ok(MemItem::Other(facts(alloc, name, 0o777, 0, b"u", b"g")?))
 }
@@ -54,6 +57,7 @@ fn with_holes(alloc: Global) -> Result<Vec<u8>, Fail> {
 /// Folders whose archives are known.
 #[derive(Clone, Copy)]
 pub enum Sample {
+    /// No items.
     Empty,
     /// The empty file `a`, and the folder `d` with the file `f` of `abc`.
     Small,
@@ -65,6 +69,7 @@ pub enum Sample {
     Many,
 }
 
+/// The items of a sample.
 pub fn items_of(alloc: Global, which: Sample) -> Result<Vec<MemItem>, Fail> {
     match which {
         Sample::Empty => Ok(Vec::new(alloc)),
@@ -80,6 +85,7 @@ pub fn one(alloc: Global, item: MemItem) -> Result<Vec<MemItem>, Fail> {
     Ok(vec![in alloc; item]?)
 }
 
+/// The items of a folder of two.
 pub fn two(alloc: Global, first: MemItem, second: MemItem) -> Result<Vec<MemItem>, Fail> {
     Ok(vec![in alloc; first, second]?)
 }
@@ -89,6 +95,7 @@ fn folder_of(alloc: Global, name: &[u8], item: MemItem) -> Result<MemItem, Fail>
     folder(alloc, name, one(alloc, item)?)
 }
 
+/// The items of `Sample::Small`.
 fn small(alloc: Global) -> Result<Vec<MemItem>, Fail> {
     let f = file(alloc, b"f", 0o644, b"abc")?;
     let d = folder_of(alloc, b"d", f)?;
@@ -99,6 +106,7 @@ fn small(alloc: Global) -> Result<Vec<MemItem>, Fail> {
 /// A file or a link: its name, mode and time, whether it has an owner, and the file's bytes.
 type Row = (&'static [u8], u32, u32, bool, Option<&'static [u8]>);
 
+/// The items of `Sample::Mixed` beside its folder `a`, and those in it.
 const ABOVE: [Row; 4] = [
     (b"b", 0o100644, 5, true, Some(b"b")),
     (b"link", 0o777, 0, true, None),
@@ -112,6 +120,7 @@ const INSIDE: [Row; 3] = [
     (b"a", 0o600, 0, true, Some(b"xyz")),
 ];
 
+/// The item of a row: it has the owner `u` and the group `g`, or neither.
 fn item_of(alloc: Global, row: Row) -> Result<MemItem, Fail> {
     let (name, mode, mtime, is_owned, bytes) = row;
     let owner: (&[u8], &[u8]) = if is_owned { (b"u", b"g") } else { (b"", b"") };
@@ -123,6 +132,7 @@ fn item_of(alloc: Global, row: Row) -> Result<MemItem, Fail> {
     Ok(MemItem::File(about, MemContent::from_vec(content)))
 }
 
+/// The items of `Sample::Mixed`.
 fn mixed(alloc: Global) -> Result<Vec<MemItem>, Fail> {
     let mut inside = Vec::new(alloc);
     for row in INSIDE {
@@ -136,16 +146,19 @@ fn mixed(alloc: Global) -> Result<Vec<MemItem>, Fail> {
     Ok(items)
 }
 
+/// The file `big` of 20,000 bytes.
 fn big_file(alloc: Global) -> Result<MemItem, Fail> {
     let bytes = some_bytes(alloc, 20_000)?;
     file(alloc, b"big", 0o644, &bytes)
 }
 
+/// The file `z` of 2,100 bytes, most of them zeros.
 fn file_with_holes(alloc: Global) -> Result<MemItem, Fail> {
     let bytes = with_holes(alloc)?;
     file(alloc, b"z", 0o644, &bytes)
 }
 
+/// The items of `Sample::Large`.
 fn large(alloc: Global) -> Result<Vec<MemItem>, Fail> {
     let hole = file_with_holes(alloc)?;
     let folder = folder_of(alloc, b"hole", hole)?;
@@ -153,6 +166,7 @@ fn large(alloc: Global) -> Result<Vec<MemItem>, Fail> {
     two(alloc, big, folder)
 }
 
+/// The items of `Sample::Many`: `000` to `039`, each with its number in digits as its content.
 fn many(alloc: Global) -> Result<Vec<MemItem>, Fail> {
     let mut items = Vec::new(alloc);
     for i in 0..40u32 {

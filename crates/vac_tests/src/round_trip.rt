@@ -13,6 +13,7 @@ use vt_out::{Facts, Folder, Item, ItemKind, MemContent, MemFolder, MemItem};
 use vt_rows::Rows;
 use vt_tree::{Blocks, MemBlocks};
 
+/// Facts of this name and mode, of time 7, with an owner of no bytes.
 fn facts(alloc: Global, name: &[u8], mode: u32) -> Result<Facts, Fail> {
     Ok(Facts {
         name: Text::copy_of(alloc, name)?,
@@ -118,6 +119,7 @@ fn is_same(node: &Node, item: &Item) -> bool {
         && node.item.gid.as_slice() == item.gid.as_slice()
 }
 
+/// Whether these are the same, in their order.
 fn are_same(nodes: &[Node], items: &[Item]) -> bool {
     nodes.len() == items.len()
         && nodes
@@ -126,6 +128,7 @@ fn are_same(nodes: &[Node], items: &[Item]) -> bool {
             .all(|(node, item)| is_same(node, item))
 }
 
+/// The path of these names, the folder above first.
 fn path_of(alloc: Global, names: &[&[u8]]) -> Result<Vec<Text>, Fail> {
     let mut path = Vec::new(alloc);
     for name in names {

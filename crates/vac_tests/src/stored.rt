@@ -11,10 +11,10 @@ use vac_read::{Archive, Node, read, walk};
 use vac_store::{ArchiveError, ArchiveFolder, ArchivedAt, archived_at};
 use vac_write::VacErr;
 use vt_base::{Score, Sha1Scorer, Text, Why, parse_score};
+use vt_blocks::Local;
 use vt_conf::parse_conf;
 use vt_format::laws::configurations_number_their_files;
 use vt_format::{format_arenas, format_index, format_section, parse_arena_size, parse_name};
-use vt_local::Local;
 use vt_memdisk::{Listed, MemDisk};
 use vt_open::{configurations_can_be_opened, open_store};
 use vt_out::{Folder, MemFolder, Silent};
@@ -42,6 +42,7 @@ impl<P: Parts> Stores<P> {
         Ok(())
     }
 
+    /// Makes a section of one bucket, which has its file's name.
     fn section(&mut self, file: &[u8]) -> Result<(), Fail> {
         let file = Text::copy_of(self.alloc, file)?;
         parse_name(file.as_slice()).ok().ok_or("name")?;
@@ -145,11 +146,15 @@ fn has_file<B: Blocks>(alloc: Global, blocks: &mut B, score: &Score, wanted: &[u
 enum Wanted {
     /// The archive's score, and how many blocks are new.
     Stored(&'static str, u64),
+    /// The store isn't opened.
     Unopened,
+    /// A call of the folder failed.
     FolderFault,
+    /// The store said no first for this reason.
     Refused(Why),
 }
 
+/// Whether the answer tells this.
 fn is_wanted(answer: &Result<ArchivedAt, ArchiveError>, wanted: Wanted) -> bool {
     match (answer, wanted) {
         (Ok(stored), Wanted::Stored(score, added)) => {
@@ -163,8 +168,10 @@ fn is_wanted(answer: &Result<ArchivedAt, ArchiveError>, wanted: Wanted) -> bool 
     }
 }
 
+/// The configuration of the store that is there.
 const CONF: &[u8] = b"arenas a\nisect i\n";
 
+/// The scores of the archives of two samples.
 const EMPTY: &str = "bc0134b39e3f1c437bec79b6dcbfc5a24a26b717";
 
 const SMALL: &str = "cfd1270f57bb4fddde84a62de63149f0b829e079";
@@ -175,6 +182,7 @@ type Row = (&'static [u8], Sample, u16, u64, Wanted);
 /// A call that is never made.
 const NEVER: u64 = u64::MAX;
 
+/// Each over the store that those before it left.
 const ROWS: &[Row] = &[
     (CONF, Sample::Empty, 8192, NEVER, Wanted::Stored(EMPTY, 2)),
     (CONF, Sample::Empty, 8192, NEVER, Wanted::Stored(EMPTY, 0)),
@@ -212,6 +220,7 @@ fn goes_as<P: Parts>(to: &mut Stores<P>, row: Row) -> Result<bool, Fail> {
     to.archive(text, &mut folder, bsize, wanted)
 }
 
+/// Makes a store, does what the rows say, and looks at what is kept.
 fn archives_each<P: Parts>(to: &mut Stores<P>) -> Result<(), Fail> {
     let small = parse_score(SMALL.as_bytes()).ok().ok_or("score")?;
     to.arenas(b"a")?;

@@ -6,7 +6,7 @@ use Rattle.vt_model.specs.History.{History, held}
 use Rattle.vt_tree.specs.Maps.{Maps}
 use Rattle.vt_core.specs.Core.{CoreState}
 use Rattle.vt_core.specs.Sound.{IsSound}
-use Rattle.vt_local.specs.Local.{DoesLocal, HoldsLocal}
+use Rattle.vt_blocks.specs.Local.{DoesLocal, HoldsLocal}
 use Rattle.vt_use.specs.LocalJobs.{new_local}
 use Rattle.vt_use.specs.Stores.{at_time, store_on}
 use Rattle.vac_read.specs.declared.error.VacBad.{VacBad}

@@ -17,7 +17,7 @@ use Rattle.vt_requests.specs.Answers.{KeepsAll}
 use Rattle.vt_use.specs.LocalJobs.{DoesOnStore, new_local}
 use Rattle.vt_use.specs.Stores.{at_time, store_on}
 use Rattle.vt_use.specs.Uses.{LeftInStore, Uses, UsesCore}
-use Rattle.vt_local.specs.Local.{DoesLocal, HoldsLocal}
+use Rattle.vt_blocks.specs.Local.{DoesLocal, HoldsLocal}
 use Rattle.vt_use.specs.PlaceCalls.{FailsAs}
 use Rattle.vt_tree.specs.declared.error.TreeErr.TheVariants as trees
 use Rattle.vt_tree.specs.Maps.{BlockMap}

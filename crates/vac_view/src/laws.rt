@@ -1,4 +1,6 @@
-//! What follows of an archive that was served.
+//! What follows of an archive that was served, each law the contract of a function that does nothing. In each,
+//! `score` is that of the archive, `p` what passed over the link, `result` how serving ended, `said` what the store
+//! said no for first, and `closed` how its use ended; `score_of` is any function of a block's bytes.
 
 ghost use Rattle.std.specs.Prelude.{◌≡◌, ℕ, Bool, None, Option, Result, List, IfSome, IsTrue};
 ghost use Rattle.std.specs.List.{All};

@@ -15,6 +15,7 @@ pub struct Archived {
 /// Paths in memory, which contracts see as a list.
 #[derive(Drop)]
 pub struct Paths {
+    /// Each with slashes between its names.
     paths: Vec<Text>,
 }
 

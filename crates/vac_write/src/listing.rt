@@ -28,7 +28,7 @@ use vt_tree::TreeErr;
 const RECORD_LEN: usize = 27;
 
 /// The items of the folder at this path, in the order of their names' bytes; or the first that
-/// can't stand in an archive, or that there are too many.
+/// can't stand in an archive, or that their metadata is too long.
 pub(crate) fn items_at<F: Folder>(
     alloc: Global,
     folder: &mut F,

@@ -10,6 +10,7 @@ use vt_out::{Folder, Source};
 #[derive(Drop)]
 pub(crate) struct FileSource<'a, 'b, F: Folder> {
     pub(crate) folder: &'a mut F,
+    /// The names on the way to the file.
     pub(crate) path: &'b [Text],
     /// How many bytes were read.
     pub(crate) at: u64,

@@ -28,7 +28,9 @@ pub(crate) struct Streams {
 /// The entries of a folder's two streams.
 #[derive(Clone, Copy)]
 pub(crate) struct FolderEntries {
+    /// The one of its entries, a directory.
     pub(crate) entries: Entry,
+    /// The one of its metadata, a file.
     pub(crate) metadata: Entry,
 }
 

@@ -5,8 +5,11 @@ use vt_base::FieldValue;
 /// A field of a head that is tested.
 #[derive(Clone, Copy, Debug, PartialEq, Eq)]
 pub enum Field {
+    /// The version of the format, which is 1.
     Version,
+    /// The arena's number in its partition.
     Number,
+    /// The byte that says whether the arena is closed for more: 0 or 1.
     Sealed,
     /// What clumps and directory take by the head's counts, in bytes.
     Used,
@@ -35,6 +38,7 @@ pub enum ArenaBad {
 pub enum ReadBad {
     /// A call of the disk failed, and its count of faults rose.
     Fault,
+    /// What stands there differs by this value from a clump.
     Damaged { want: FieldValue, found: FieldValue },
     /// Memory ran out.
     NoMemory,
@@ -45,5 +49,6 @@ pub enum ReadBad {
 pub enum BackBad {
     /// A call of the disk failed, and its count of faults rose.
     Fault,
+    /// A number of the entry can't stand there.
     Damaged { want: FieldValue, found: FieldValue },
 }

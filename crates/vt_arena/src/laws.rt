@@ -1,4 +1,7 @@
-//! What the layers above lean on between the calls of an arena.
+//! What the layers above lean on between the calls of an arena, each law the contract of a function that does
+//! nothing. In each, `score_of` is any function of a block's bytes, `a` an arena as contracts see it or what one
+//! holds, `old` what it holds on the disk, `region` its place there, and `c` a file that a crash may leave of
+//! that or, in what is said of the model, what a store was opened with.
 
 ghost use Rattle.std.specs.Prelude.{◌≡◌, ◌<◌, ◌≤◌, ◌+◌, ◌^◌, ℕ, List, [], ◌∷◌, ◌++◌, Bool, IsTrue, IsFalse, length};
 ghost use Rattle.vt_disk.specs.declared.region.Region.{Region};

@@ -33,9 +33,10 @@ pub enum MountField {
     K,
     /// How many blocks of the log one bucket has.
     Crowd,
-    /// How many arenas all partitions have.
+    /// How many arenas all partitions have (no test: the disks would be too large).
     Arenas,
-    /// How many buckets all sections have, where there are too many.
+    /// How many buckets all sections have, where there are too many (no test: the disks would be too
+    /// large).
     Buckets,
 }
 

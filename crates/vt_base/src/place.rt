@@ -5,7 +5,9 @@ use crate::Key;
 /// Where a block stands: its arena's number over all partitions, and its offset in the arena's region.
 #[derive(Clone, Copy, Debug, PartialEq, Eq)]
 pub struct Place {
+    /// Counted from 0; where vt_arena gives it, within the partition alone.
     pub arena: u32,
+    /// In bytes; the arena's head is counted.
     pub offset: u32,
 }
 
@@ -23,5 +25,6 @@ pub struct Info {
     pub key: Key,
     pub size: u16,
     pub place: Place,
+    /// Where vt_arena gives it, within the arena alone.
     pub number: u64,
 }

@@ -28,6 +28,7 @@ pub trait Scorer {
     /// A score has 20 bytes.
     ghost score_len: { (block : List ℕ) → length (score_of block) ≡ 20 };
 
+    /// Each of them is below 256, where those of the block are.
     ghost score_bytes: { (block : List ℕ) → AreBytes block → AreBytes (score_of block) };
 }
 

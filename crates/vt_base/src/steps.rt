@@ -8,7 +8,9 @@ use std::sync::ledger::{Blank, Book, Ledger, Share};
 /// How many steps were taken. It takes no bytes, and only `tick` changes it.
 #[derive(Drop)]
 pub struct Steps<L: Ledger> {
+    /// Its total is the count.
     book: Book<L>,
+    /// What it takes to add to the book.
     share: Share<L>,
 }
 

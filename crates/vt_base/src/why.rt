@@ -13,7 +13,9 @@ pub struct Failed;
 /// can pass 64.
 #[derive(Clone, Copy, Debug, PartialEq, Eq)]
 pub enum FieldValue {
+    /// A count, a length, an offset or what single bytes say.
     Number(u128),
+    /// A score, or the chain of an arena's entries.
     Score(Score),
     /// The four letters of a magic number.
     Magic([u8; 4]),

@@ -76,6 +76,7 @@ fn kinds() -> Result<(), Fail> {
     rows.passes()
 }
 
+/// A clump is damaged. Its text doesn't tell where, nor the values.
 const DAMAGE: Why = Why::Damaged {
     site: Site::Clump(Place {
         arena: 0,

@@ -47,6 +47,7 @@ fn short_rows(conf: &Conf) -> Rows {
     rows
 }
 
+/// Four lines; all else is by default.
 const SHORT: &[u8] = b"index main\narenas a.part\nisect i.part\nmem 1m\n";
 
 /// The stated configuration, with defaults.
@@ -88,6 +89,7 @@ fn long_rows(conf: &Conf) -> Rows {
     rows
 }
 
+/// With comments, blanks and a tab, two sections, and no newline at its end.
 const LONG: &[u8] = b"# all\n\n\tisect  i1 # one\nisect i0\narenas a0\nbloom b#b\nqueuewrites\n\
     webroot /w\nhttpaddr x\nbcmem 2K\nicmem 3k\nmem 4G\naddr tcp!h!80";
 
@@ -223,6 +225,7 @@ fn read_number(text: &[u8]) -> Result<u64, usize> {
     }
 }
 
+/// A word, and the number that it says, from 32,768 to 2^30; or the place of its first wrong byte.
 const NUMBERS: [(&[u8], Result<u64, usize>); 12] = [
     (b"32768", Ok(32_768)),
     (b"40000", Ok(40_000)),
@@ -247,6 +250,7 @@ fn numbers_are_read() -> Result<(), Fail> {
     rows.passes()
 }
 
+/// A word, and how many bytes it says; None where it is no size.
 const SIZES: [(&[u8], Option<u64>); 10] = [
     (b"0", Some(0)),
     (b"512", Some(512)),
@@ -277,6 +281,7 @@ fn port(alloc: Global, text: &[u8]) -> Result<Option<u16>, AllocError> {
     }
 }
 
+/// A word, and the port of the address that it is; None where it is none.
 const ADDRESSES: [(&[u8], Option<u16>); 9] = [
     (b"tcp!*!venti", Some(17_034)),
     (b"tcp!localhost!17034", Some(17_034)),
@@ -307,6 +312,7 @@ fn room_for_blocks(mem: u64, sections: u32) -> Option<u32> {
     Some(cached_blocks(mem, sections))
 }
 
+/// How many bytes `mem` gives, over how many sections, and for how many blocks that is room in a shard.
 const BLOCKS: [(u64, u32, u32); 7] = [
     (0, 1, 4),
     (4 * 57_344, 1, 4),
@@ -336,6 +342,7 @@ fn room_for_entries(icmem: u64, sections: u32) -> Option<u32> {
     Some(entry_room(icmem, sections))
 }
 
+/// How many bytes `icmem` gives, over how many sections, and for how many entries that is room in a shard.
 const ENTRIES: [(u64, u32, u32); 6] = [
     (0, 1, 64),
     (64 * 65, 1, 65),

@@ -33,6 +33,7 @@ fn is_refused(alloc: Global, dialer: &mut MemDialer, text: &[u8]) -> bool {
     }
 }
 
+/// The address of the server that is there, by the name of Venti's port.
 const SERVER: &[u8] = b"tcp!localhost!venti";
 
 /// Addresses of no server.

@@ -6,6 +6,7 @@ use vt_base::{Failed, Text};
 use vt_out::{Facts, Folder, Item, ItemKind, MemContent, MemFolder, MemItem, OutErr};
 use vt_rows::Rows;
 
+/// The facts of an item of this name and mode: what else they say is the same of each.
 fn facts(alloc: Global, name: &[u8], mode: u32) -> Result<Facts, AllocError> {
     let name = Text::copy_of(alloc, name)?;
     let uid = Text::copy_of(alloc, b"u")?;
@@ -146,6 +147,7 @@ const TOP: &[Row] = &[
 /// What stands in its folder.
 const INSIDE: &[Row] = &[(b"f", ItemKind::File, 0o644)];
 
+/// Calls of a folder that reads three bytes a call at most.
 const READING: [Step; 9] = [
     ("the items on top", &[], Act::List(Ok(TOP))),
     ("the items inside", &[b"d"], Act::List(Ok(INSIDE))),
@@ -188,6 +190,7 @@ fn a_folder_is_listed_and_read(rt: HostRuntime) -> Result<(), Fail> {
     see(rt.alloc(), folder, &READING, 9, 2).passes()
 }
 
+/// Calls of a folder of which the second and the fourth call fail.
 const FAILING: [Step; 5] = [
     ("the first call lists", &[], Act::List(Ok(TOP))),
     ("the second call fails", &[], Act::List(Err(OutErr::Failed))),

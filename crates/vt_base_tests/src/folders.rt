@@ -48,6 +48,7 @@ fn see(alloc: Global, folders: MemFolders, steps: &[Step], faults: u64) -> Rows 
     rows
 }
 
+/// Calls for a folder that is there as `home`.
 const ONCE: [Step; 3] = [
     ("another name", b"homes", None),
     ("the first time", b"home", Some(0)),
@@ -61,6 +62,7 @@ fn a_folder_is_handed_out_once(rt: HostRuntime) -> Result<(), Fail> {
     see(rt.alloc(), MemFolders::new(name, folder), &ONCE, 2).passes()
 }
 
+/// A call for a folder whose first call fails.
 const FAILING: [Step; 1] = [("a call that fails", b"home", None)];
 
 #[test]

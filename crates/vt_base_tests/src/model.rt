@@ -6,8 +6,10 @@ use vt_base::{Score, Scorer, Sha1Scorer, ShortScorer, Why};
 use vt_model::PlainStore;
 use vt_rows::Rows;
 
+/// The number of the block type of data.
 const DATA: u8 = 13;
 
+/// That of directories.
 const DIRECTORY: u8 = 2;
 
 // SHA-1 of `abc` and of no bytes (FIPS 180-4).
@@ -178,7 +180,7 @@ fn see_most(alloc: Global, block: &[u8]) -> Rows {
     see("the most bytes", alloc, Sha1Scorer, &LARGE, 1_000, &calls)
 }
 
-/// Numbers that are no block type's.
+/// Numbers that are no block type's, and what a wrong answer is told by.
 const NO_TYPES: [(u8, &str); 5] = [
     (0, "type 0"),
     (10, "type 10"),
@@ -206,7 +208,8 @@ fn a_block_has_a_type(rt: HostRuntime) -> Result<(), Fail> {
     Ok(())
 }
 
-/// The regions of arenas, and how many blocks of three bytes they take.
+/// What a wrong answer is told by, the bytes of each arena, and how many blocks of three bytes they
+/// take, one behind another.
 const ARENAS: [(&str, &[u32], u16); 5] = [
     ("no arena", &[], 0),
     ("an arena without room", &[24_576], 0),

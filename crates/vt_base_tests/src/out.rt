@@ -37,6 +37,7 @@ fn failing_source(alloc: Global, bytes: &[u8], calls: &[u64]) -> Result<MemSourc
     Ok(MemSource::new(alloc, bytes).failing(calls))
 }
 
+/// What a source is to give, however it is cut.
 const CONTENT: &[u8] = b"the bytes of an input";
 
 /// Whether a caller whose buffer has so many bytes takes the content that comes in pieces of this
@@ -47,6 +48,7 @@ fn takes_pieces(alloc: Global, piece: usize, room: usize) -> Option<bool> {
     Some((all.as_slice() == CONTENT) & (source.faults() == 0))
 }
 
+/// The length of a source's pieces, in bytes, and what is told where a row doesn't hold.
 const PIECES: [(usize, &str); 6] = [
     (0, "pieces of 0 bytes"),
     (1, "pieces of 1 byte"),
@@ -99,6 +101,7 @@ fn see_takes(source: MemSource, calls: &[Take]) -> Rows {
     rows
 }
 
+/// Calls of a source of `abcdefgh` that comes in pieces of one byte and of three, in turn.
 const IN_TURN: [Take; 6] = [
     (4, Ok(1), *b"a...", b"bcdefgh", 0),
     (4, Ok(3), *b"bcd.", b"efgh", 0),
@@ -114,6 +117,7 @@ fn pieces_come_in_turn(rt: HostRuntime) -> Result<(), Fail> {
     see_takes(source, &IN_TURN).passes()
 }
 
+/// Calls of a source of `abc` of which the second and the fourth fail.
 const FAILING_TAKES: [Take; 5] = [
     (2, Ok(2), *b"ab..", b"c", 0),
     (2, Err(Failed), *b"ab..", b"c", 1),
@@ -159,6 +163,7 @@ fn see_puts(sink: MemSink, calls: &[Put]) -> Rows {
     rows
 }
 
+/// Calls of a sink with room for 12 bytes, of which the second fails.
 const FAILING_PUTS: [Put; 6] = [
     (b"abc", Ok(()), b"abc", 0),
     (b"defgh", Err(Failed), b"abcde", 1),
@@ -224,6 +229,7 @@ fn see_turns(link: MemLink, calls: &[Turn]) -> Rows {
     rows
 }
 
+/// Turns of a link whose second take and first put fail.
 const TURNS: [Turn; 3] = [
     (Ok(2), *b"ab", b"defg", Err(Failed), b"de", (0, 1)),
     (Err(Failed), *b"ab", b"hi", Ok(()), b"dehi", (1, 1)),
@@ -286,12 +292,14 @@ fn see_reads(
     rows
 }
 
+/// What a row tells, and a call of `read`; the files are `a`, `b`, and another `a`.
 const READS: [(&str, Read); 3] = [
     ("the first of two files of a name", (b"a", 3, Ok(b"abc"))),
     ("a byte more than the limit", (b"b", 1, Ok(b"de"))),
     ("no file", (b"c", 3, Err(OutErr::Failed))),
 ];
 
+/// The same, where the next call fails.
 const LATER_READS: [(&str, Read); 2] = [
     ("a call that fails", (b"a", 3, Err(OutErr::Failed))),
     ("a limit of no bytes", (b"a", 0, Ok(b"a"))),

@@ -52,6 +52,7 @@ fn asked_by(alloc: Global, words: &[&str], teaching: &[&str]) -> Option<(char, u
     }
 }
 
+/// The words of a command line, and the letter of what they ask for (`letter`).
 const CASES: [(&[&str], char); 32] = [
     (&["session", ":memory:"], 's'),
     (&["fmtarenas", "a.part", "a0", "40960", "32768"], 'a'),

@@ -8,11 +8,11 @@ use Rattle.vt_base.specs.declared.score.Score.{Score}
 use Rattle.vt_base.specs.declared.why.Why.{Why}
 use Rattle.vt_model.specs.History.{History}
 use Rattle.vt_handler.specs.Condition.{ConditionGoesOn}
-use Rattle.vt_local.specs.Members.{StoreOf}
+use Rattle.vt_blocks.specs.Members.{StoreOf}
 use Rattle.vt_handler.specs.Serving.{ServesOperation, TellsCause}
 use Rattle.vt_tree.specs.declared.error.BlockErr.{BlockErr}
 use Rattle.vt_tree.specs.Calls.{get, put, sync, with_refusal}
-use Rattle.vt_local.specs.Local.{LocalState, DoesLocal, IsToldAs}
+use Rattle.vt_blocks.specs.Local.{LocalState, DoesLocal, IsToldAs}
 
 module _ {S : Type 0} (T : StoreOf S) (l l' : LocalState S)
     (goes : ConditionGoesOn (T.condition l.store) (T.condition l'.store)) where

@@ -8,7 +8,7 @@ use Rattle.vt_base.specs.declared.why.Why.TheVariants as whys
 use Rattle.vt_model.specs.History.{History, held as held_by}
 use Rattle.vt_model.specs.Legal.{IsLegal}
 use Rattle.vt_handler.specs.Condition.{ConditionGoesOn}
-use Rattle.vt_local.specs.Members.{StoreOf}
+use Rattle.vt_blocks.specs.Members.{StoreOf}
 use Rattle.vt_handler.specs.Serving.{ServesOperation, TellsCause}
 use Rattle.vt_tree.specs.declared.error.BlockErr.{BlockErr}
 use Rattle.vt_tree.specs.declared.error.BlockErr.TheVariants.{Fault, Refused, WrongScore, Damaged, NoMemory}

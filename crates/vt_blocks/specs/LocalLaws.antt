@@ -25,13 +25,13 @@ use Rattle.vt_model.proofs.Keys.{equal_bytes}
 use Rattle.vt_model.proofs.Numbers.{held-zero, held-by, held-first, collides-free}
 use Rattle.vt_model.specs.Causes.{IsCauseFor, Cause, disk_fault, stopped, damaged, no_memory, why_of}
 use Rattle.vt_handler.specs.Condition.{Condition, ConditionGoesOn, IsNoDamage}
-use Rattle.vt_local.specs.Members.{StoreOf}
+use Rattle.vt_blocks.specs.Members.{StoreOf}
 use Rattle.vt_handler.specs.Serving.{AnswersAsModel, ServesOperation, IsOfDurable}
 use Rattle.vt_tree.specs.declared.error.BlockErr.{BlockErr}
 use Rattle.vt_tree.specs.Calls.{Call, get, put, sync, asked_of, after, TellsOfMap, IsBlockRefusal}
 use Rattle.vt_tree.specs.MapLaws.{block_again, block_same}
 use Rattle.vt_tree.specs.Maps.{Maps, with_block, HasNoOther, IsWithin, IsWriteOnce}
-use Rattle.vt_local.specs.Local.{LocalState, DoesLocal, HoldsLocal, StandsFor, HasKind, IsToldAs, err_of}
+use Rattle.vt_blocks.specs.Local.{LocalState, DoesLocal, HoldsLocal, StandsFor, HasKind, IsToldAs, err_of}
 
 -- ---- what a history holds with a block more
 

@@ -1,9 +1,10 @@
-//! What a store is as a store of blocks.
+//! What a store is as a store of blocks: what its impl of `Blocks` gives for that trait's ghost members, which the
+//! layers above can't see otherwise.
 
 ghost use Rattle.std.specs.Prelude.{◌≡◌, ◌↔◌};
 ghost use Rattle.vt_tree.specs.Calls.{Call};
 ghost use Rattle.vt_tree.specs.Maps.{Maps};
-ghost use Rattle.vt_local.specs.Local.{LocalState, DoesLocal, HoldsLocal};
+ghost use Rattle.vt_blocks.specs.Local.{LocalState, DoesLocal, HoldsLocal};
 
 use crate::Local;
 use vt_base::Scorer;

@@ -1,7 +1,7 @@
 //! Any store as a store of blocks.
 
 ghost use Rattle.std.specs.Prelude.{◌≡◌, ℕ, List, None};
-ghost use Rattle.vt_local.specs.Local.{IsToldAs};
+ghost use Rattle.vt_blocks.specs.Local.{IsToldAs};
 
 use std::alloc::{AllocError, Global};
 use std::marker::Model;
@@ -14,6 +14,7 @@ use vt_tree::{BlockErr, Blocks};
 #[derive(Drop)]
 pub struct Local<T: Store, S: Scorer> {
     store: T,
+    /// What gives the scores, which are the store's.
     scorer: S,
     /// How many calls failed by a disk's fault.
     faults: u64,
@@ -25,7 +26,7 @@ pub struct Local<T: Store, S: Scorer> {
 }
 
 impl<T: Store, S: Scorer> Model for Local<T, S> {
-    ghost use Rattle.vt_local.specs.Local.{LocalState};
+    ghost use Rattle.vt_blocks.specs.Local.{LocalState};
 
     ghost Value = { LocalState T };
 
@@ -131,8 +132,8 @@ impl<T: Store, S: Scorer> Scorer for Local<T, S> {
 }
 
 impl<T: Store, S: Scorer> Blocks for Local<T, S> {
-    ghost use Rattle.vt_local.specs.Local.{DoesLocal, HoldsLocal};
-    ghost use Rattle.vt_local.specs.LocalLaws as laws;
+    ghost use Rattle.vt_blocks.specs.Local.{DoesLocal, HoldsLocal};
+    ghost use Rattle.vt_blocks.specs.LocalLaws as laws;
 
     ghost does = { DoesLocal T.Store };
 

@@ -46,6 +46,7 @@ pub fn positions(score: &Score, m: u8, k: u8) -> ArrayVec<u32, 32>
 pub struct Bits {
     pub(crate) m: u8,
     pub(crate) k: u8,
+    /// The bits, 64 in each word, the lowest first.
     pub(crate) words: Vec<u64>,
 }
 

@@ -6,6 +6,7 @@ use vt_base::Failed;
 /// A field of a frame that is tested.
 #[derive(Clone, Copy, Debug, PartialEq, Eq)]
 pub enum Field {
+    /// The version of the format, which is 1.
     Version,
     /// How many bits there are, as a power of two.
     M,
@@ -18,6 +19,7 @@ pub enum Field {
 pub enum BloomError {
     /// A call of the device failed, and its count of faults rose.
     Fault,
+    /// The device has no room for the smallest filter.
     TooSmall { len: u64, need: u64 },
     /// The first four bytes of the current frame aren't `VBLM`.
     NotFormatted,

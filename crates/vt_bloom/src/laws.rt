@@ -1,4 +1,6 @@
-//! Laws of saved filters.
+//! Laws of saved filters, each the contract of a function that does nothing: what the store leans on between the
+//! calls of a save. In each, `b` is a filter in memory with its device, `saved` the one that is saved, `coming` the
+//! one of the save under way, and `c` a file that a crash may leave of the device.
 
 ghost use Rattle.std.specs.Prelude.{◌≡◌, ℕ, List, IsSome, None};
 ghost use Rattle.vt_twin.specs.Sound.{TwinHasBegunSelector};

@@ -93,6 +93,7 @@ pub fn mount<D: Disk>(alloc: Global, disk: D) -> Result<(Bloom<D>, Bits), (Bloom
 struct Found {
     twin: Twin,
     frame: Vec<u8>,
+    /// For how many of the log's first blocks these bits are set.
     mark: u64,
     bits: Bits,
 }

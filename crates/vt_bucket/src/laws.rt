@@ -1,4 +1,5 @@
-//! Laws of frames.
+//! Laws of a bucket's frames, each the contract of a function that does nothing: bytes are read in one
+//! way, or refused for one fault.
 
 ghost use Rattle.vt_bucket.specs.Laws.{IsUnambiguous, AcceptsFrames, HasOneFault};
 

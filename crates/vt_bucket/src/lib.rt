@@ -41,6 +41,7 @@ const _: () = prove!(BUCKET_ROOM == (FRAME_LEN - FIELDS_LEN) / CELL_LEN);
 #[derive(Drop)]
 pub struct Bucket {
     number: u32,
+    /// How many entries it has.
     len: usize,
     /// The entries, and behind them what isn't read.
     table: [Entry; BUCKET_ROOM],

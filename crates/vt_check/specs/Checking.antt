@@ -61,7 +61,7 @@ abbrev pub scores : (want found : List ℕ) → Damage
 scores want found =
     record { want = ScoreValue (record { 0 = want }); found = ScoreValue (record { 0 = found }) }
 
--- a clump: its first test that fails, as when it is read
+-- the damage of a clump whose first failing test, in the order of reading it, is this one
 abbrev pub damage_by : ClumpBad → Damage
 damage_by bad = record { want = (damage_of_clump bad).0; found = (damage_of_clump bad).1 }
 

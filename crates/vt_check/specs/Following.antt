@@ -24,21 +24,21 @@ pub record IsEntryRead (entry : List ℕ) : Type 0 where
   pub len : length entry ≡ DIRECTORY_ENTRY_LEN
   pub bytes : AreBytes entry
 
--- a cut that a clump may be, and that lies among these bytes
+-- a cut that a clump may be: it doesn't end before it begins, and its entry is one as it is read
 pub record IsCut (cut : Cut) : Type 0 where
   pub order : cut.start ≤ cut.end
   pub entry : IsEntryRead cut.entry
 
--- a cut of the bytes that were read together
+-- a cut that lies among the bytes that were read together, the window
 pub record IsWithinWindow (window : List ℕ) (cut : Cut) : Type 0 where
   pub is_cut : IsCut cut
   pub end : cut.end ≤ length window
 
--- how many bytes all of them have
+-- how many bytes these cuts have together
 abbrev pub bytes_of_cuts : List Cut → ℕ
 bytes_of_cuts cuts = sum_by (λ cut. cut.end - cut.start) cuts
 
--- so many entries, of which the last stands first
+-- the entries that these bytes are, so many, of which the last stands first
 abbrev pub entries_in : (n : ℕ) → (bytes : List ℕ) → List (List ℕ)
 entries_in zero bytes = []
 entries_in (suc n) bytes = part (DIRECTORY_ENTRY_LEN * n) DIRECTORY_ENTRY_LEN bytes ∷ entries_in n bytes

@@ -85,7 +85,9 @@ pub struct ArenaReport {
     pub clumps: u32,
     /// How many bytes their clumps are.
     pub used: u64,
+    /// Whether it is closed for more.
     pub sealed: bool,
+    /// The first, in the order of the tests.
     pub damage: Option<Damage>,
 }
 

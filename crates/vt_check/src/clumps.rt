@@ -39,10 +39,13 @@ pub(crate) struct Cut {
 /// What testing a clump and its entry found.
 #[derive(Clone, Copy)]
 pub(crate) enum Tested {
+    /// The clump is sound, and the entry is its own.
     Sound,
     /// The clump is sound, and its entry isn't its own.
     BadEntry(Damage),
+    /// The bytes are no clump, or have another score; the entry isn't tested.
     BadClump(Damage),
+    /// Memory ran out.
     NoMemory,
 }
 

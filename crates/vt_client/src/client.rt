@@ -15,7 +15,7 @@ use vt_base::{Bytes, Kind, MAX_BLOCK, Score, Scorer};
 use vt_out::Link;
 use vt_wire::{Reply, Request, encode_request};
 
-/// The types of replies (venti(6)).
+/// Rread, as a type of a reply's frame (venti(6)).
 const READ: u8 = 13;
 
 /// Rwrite.
@@ -28,6 +28,7 @@ const SYNC: u8 = 17;
 #[derive(Drop)]
 pub struct Client<L: Link, S: Scorer> {
     pub(crate) link: L,
+    /// It tests the score of each block that comes, and the one that is told of a block that goes.
     pub(crate) scorer: S,
     /// Room for the longest frame.
     buf: Vec<u8>,

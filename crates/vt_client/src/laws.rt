@@ -1,4 +1,5 @@
-//! What a client is as a store of blocks.
+//! What a client is as a store of blocks: what its impl of `Blocks` gives for that trait's ghost members, which the
+//! layers above can't see otherwise.
 
 ghost use Rattle.std.specs.Prelude.{◌≡◌, ◌↔◌};
 ghost use Rattle.vt_tree.specs.Calls.{Call};

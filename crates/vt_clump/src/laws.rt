@@ -1,4 +1,5 @@
-//! Laws of clumps.
+//! Laws of clumps, each the contract of a function that does nothing: bytes are read in one way, or
+//! refused by one test.
 
 ghost use Rattle.vt_clump.specs.Laws.{IsUnambiguous, PassesClumps, PassesClumpsOnly, HasClumpLen};
 

@@ -25,6 +25,7 @@ pub struct Clump {
 pub enum Encoding {
     /// Encoding 2, which isn't read.
     Compressed,
+    /// Another number than 1, which is that of a block as it is, and 2.
     Unknown(u8),
 }
 
@@ -38,6 +39,7 @@ pub enum ClumpBad {
     Magic([u8; 4]),
     /// No block type.
     Kind(u8),
+    /// The block isn't stored as it is.
     Encoding(Encoding),
     /// Size and uncsize differ, or are 0, above 57,344 or more than the bytes behind the header.
     Size { want: u16, found: u16 },

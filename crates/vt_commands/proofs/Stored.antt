@@ -6,7 +6,7 @@ use Rattle.vt_base.specs.declared.why.Why.{Why}
 use Rattle.vt_conf.specs.declared.conf.Conf.{Conf as Configuration}
 use Rattle.vt_core.specs.Core.{CoreState}
 use Rattle.vt_disk.specs.Members.{DiskOf}
-use Rattle.vt_local.specs.Local.{DoesLocal, HoldsLocal, LocalState}
+use Rattle.vt_blocks.specs.Local.{DoesLocal, HoldsLocal, LocalState}
 use Rattle.vt_open.specs.declared.error.OpenError.{OpenError}
 use Rattle.vt_open.specs.Opening.{RefusesStore}
 use Rattle.vt_requests.specs.Driven.{DrivenState}

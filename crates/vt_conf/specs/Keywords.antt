@@ -33,7 +33,7 @@ takes_size Icmem = true
 takes_size Bcmem = true
 takes_size keyword = false
 
--- Whether the value of the keyword is an address.
+-- Whether the value of the keyword is an address that is read; that of httpaddr is not.
 abbrev pub takes_address : Keyword → Bool
 takes_address Addr = true
 takes_address keyword = false
@@ -48,7 +48,7 @@ is_file keyword = false
 abbrev pub most_lines : Keyword → ℕ
 most_lines keyword = if is_file keyword then MAX_FILES else 1
 
--- two keywords are one
+-- a number of its own for each keyword, by which two are compared
 abbrev pub keyword_number : Keyword → ℕ
 keyword_number Index = 0
 keyword_number Arenas = 1

@@ -9,7 +9,7 @@ use crate::number::parse_number;
 use std::alloc::{AllocError, Global};
 use vt_base::Text;
 
-/// The port of a Venti server.
+/// The port of a Venti server, where an address says `venti` and where a configuration has no `addr`.
 pub const VENTI_PORT: u16 = 17_034;
 
 /// Where a server listens or is dialled.

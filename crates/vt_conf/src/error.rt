@@ -43,6 +43,7 @@ pub struct ConfBad {
 /// Why a configuration wasn't read.
 #[derive(Clone, Copy, Debug, PartialEq, Eq)]
 pub enum ConfErr {
+    /// A line of it is refused, or the whole text.
     Bad(ConfBad),
     /// Memory ran out.
     NoMemory,

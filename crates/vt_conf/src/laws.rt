@@ -1,4 +1,5 @@
-//! What a configuration's text can say.
+//! What a configuration's text can say, each law the contract of a function that does nothing: no text is read in
+//! two ways, and the files that one names can be numbered.
 
 ghost use Rattle.std.specs.Prelude.{◌≡◌, ◌≤◌, ℕ, List, length};
 ghost use Rattle.vt_conf.specs.declared.conf.Conf.{Conf};

@@ -192,7 +192,9 @@ struct Beside<D: Disk> {
     sections: Vec<Section<D>>,
     // (the list that the devices came in, emptied: handing them back takes no memory)
     room: Vec<D>,
+    /// The filter as it is saved, where the store has a device for it.
     bloom: Option<Bloom<D>>,
+    /// The bits that were saved; without a device 2^16 of them, none set.
     bits: Bits,
 }
 
@@ -260,6 +262,7 @@ fn test_parts<D: Disk>(
 /// they did.
 #[derive(Drop)]
 struct Tally {
+    /// How many all parts so far have, also where that is above the limit.
     sum: u64,
     /// The part with which the limit was passed.
     past: Option<u32>,

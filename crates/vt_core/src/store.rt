@@ -28,7 +28,9 @@ use vt_shard::Shard;
 /// most, but for an operation, which may read.
 #[derive(Drop)]
 pub struct Core<D: Disk, S: Scorer> {
+    /// The arenas, and the queue of the blocks that aren't on them yet.
     pub(crate) log: Log<D, S>,
+    /// A shard for each index section, in order: the section, and those of its entries that are in memory.
     pub(crate) shards: Vec<Shard<D>>,
     /// The filter as it is saved, where the store has a device for it.
     pub(crate) bloom: Option<Bloom<D>>,

@@ -21,7 +21,9 @@ const BLOCKS: [&[u8]; 3] = [b"abc", b"def", b"a third block"];
 /// store's own work.
 #[derive(Clone, Copy)]
 enum Deed {
+    /// The block of this number in `BLOCKS` is written.
     Write(usize),
+    /// Session 0 asks for a sync.
     Sync,
     Own(Event<'static>),
 }
@@ -251,6 +253,7 @@ fn plays<T: TestStore>(alloc: Global, rows: &mut Rows) {
     }
 }
 
+/// The script is played through, and stopped at each call of each disk.
 pub fn script<T: TestStore>(alloc: Global, rows: &mut Rows) {
     plays::<T>(alloc, rows);
     for (device, calls) in &CALLS {
@@ -312,6 +315,7 @@ fn is_torn<T: TestStore>(alloc: Global, byte: u16, rows: &mut Rows) {
     }
 }
 
+/// A crash leaves each of these bytes as a selector; from 256 on these are the old one, and the new one.
 pub fn tear<T: TestStore>(alloc: Global, rows: &mut Rows) {
     for byte in [0, 1, 2, 3, 126, 127, 128, 129, 254, 255, 256, 257] {
         is_torn::<T>(alloc, byte, rows);

@@ -83,6 +83,7 @@ pub type Mem = MemDisk<Listed>;
 /// The bytes of a small arena.
 pub const ARENA_LEN: u32 = 32_768;
 
+/// The bytes of the disk of a filter of 8 KiB.
 const FILTER_LEN: u64 = 40_960;
 
 /// Writes bytes at a place. None says that the call failed, or that the disk ends before.
@@ -100,6 +101,7 @@ fn put_arena<D: Disk>(disk: &mut D, start: u64, number: u32) -> Option<()> {
     put(disk, start, &head)
 }
 
+/// Writes the heads of so many arenas of so many bytes.
 fn put_arenas<D: Disk>(disk: &mut D, arenas: u32, arena_len: u32) -> Option<()> {
     let mut start = 8_192u64;
     for number in 0..arenas {
@@ -138,6 +140,7 @@ fn put_bucket<D: Disk>(disk: &mut D, i: u32, number: Option<u32>) -> Option<()> 
     put(disk, 24_576 + 16_896 * u64::from(i), &frame)
 }
 
+/// Writes the frames of so many empty buckets, of which the first has this number, and syncs.
 fn put_buckets<D: Disk>(disk: &mut D, first: u32, count: u32) -> Option<()> {
     for i in 0..count {
         put_bucket(disk, i, first.checked_add(i))?;
@@ -170,6 +173,7 @@ pub fn section<D: TestDisk>(
     Some(disk)
 }
 
+/// Writes the frame of a filter without bits, and syncs.
 fn put_filter<D: Disk>(disk: &mut D) -> Option<()> {
     put(disk, 0, b"VBLM\0\x01\x10\x04")?;
     disk.sync().ok()

@@ -16,10 +16,12 @@ use vt_rows::Rows;
 /// Numbers that follow from the first one.
 #[derive(Drop)]
 struct Draws {
+    /// The last number, all of its 64 bits.
     x: u64,
 }
 
 impl Draws {
+    /// The next number, below this one.
     fn draw(&mut self, below: u32) -> u32
         requires { 0 < below }
         ensures { result < below }
@@ -39,7 +41,9 @@ const WORDS: u32 = 64;
 #[derive(Clone, Copy)]
 struct Word {
     bytes: [u8; 64],
+    /// How many of these bytes are the block's.
     len: usize,
+    /// The type: 13, or 2 for the numbers from 64 on.
     kind: u8,
 }
 
@@ -60,6 +64,7 @@ fn word_of(number: u32) -> Word {
 #[derive(Drop)]
 struct Pair<T: TestStore> {
     store: T,
+    /// The numbers of the words, in the order in which they were accepted.
     accepted: Vec<u32>,
     plain: PlainStore<ShortScorer>,
 }
@@ -88,6 +93,7 @@ fn paired<T: TestStore>(alloc: Global, store: T, accepted: Vec<u32>) -> Option<P
     }
 }
 
+/// A new store of three arenas, and an empty list.
 fn new_pair<T: TestStore>(alloc: Global, rows: &mut Rows) -> Option<Pair<T>> {
     let store = there(rows, 0, fresh(alloc, 3, 0, Fails::Never))?;
     paired(alloc, store, Vec::new(alloc))

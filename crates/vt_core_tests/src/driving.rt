@@ -19,8 +19,11 @@ use vt_rows::Rows;
 /// that or by a request.
 #[derive(Clone, Copy)]
 pub enum Last {
+    /// Its use is ended: all is written back, too.
     End,
+    /// The call for a sync.
     Sync,
+    /// A request for a sync.
     Ask,
 }
 
@@ -46,6 +49,7 @@ pub trait DrivenStore: Drop {
     /// Reads a block of data of four bytes.
     fn get(&mut self, alloc: Global, score: &Score) -> Result<Bytes, Why>;
 
+    /// Asks that all be durable.
     fn sync(&mut self, alloc: Global) -> Result<(), Why>;
 
     /// Its session is over.
@@ -262,6 +266,7 @@ fn fails_sync<T: DrivenStore>(alloc: Global, rows: &mut Rows) {
 /// The log has stopped at this call of a commit, counted from 0.
 const STOPPED: Why = Why::Stopped(2);
 
+/// A sync fails, and what comes behind it is refused, but for a read of what is queued.
 fn see_stopped<T: DrivenStore>(alloc: Global, store: &mut T, rows: &mut Rows) {
     let written = writes(alloc, store, 1);
     rows.is("a block is written", written);
@@ -343,14 +348,15 @@ fn fails_each<T: DrivenStore>(
     None
 }
 
-/// Each section has a block, whose writeback makes five calls for its bucket and four for the head;
-/// the filter is saved by four.
+/// What a row tells, a disk, and how many calls of it an end makes: each section has a block, whose
+/// writeback makes five calls for its bucket and four for the head; the filter is saved by four.
 const CALLS: [(&str, u32, u32); 3] = [
     ("the calls of the first section", 1, 9),
     ("the calls of the second section", 2, 9),
     ("the calls of the filter", 3, 4),
 ];
 
+/// Each call of each part but the log fails at the end of a store's use: it alone, or all from it on.
 fn fails_parts<T: DrivenStore>(alloc: Global, alone: bool, rows: &mut Rows) {
     for (what, device, calls) in &CALLS {
         let failed = fails_each::<T>(alloc, *device, alone, rows);
@@ -376,15 +382,19 @@ fn syncs<T: DrivenStore>(alloc: Global, last: Last, rows: &mut Rows) {
 /// What a test sees.
 #[derive(Clone, Copy)]
 enum Case {
+    /// Writes find a queue or a shard that is full.
     Room,
+    /// Calls fail in a sync, and at the end of a store's use.
     Failures,
 }
 
+/// More blocks are written than the queue takes, and than a shard has room for.
 fn get_room<T: DrivenStore>(alloc: Global, rows: &mut Rows) {
     fills::<T>(alloc, new_disks::<T>(alloc, SMALL), 65, rows);
     fills::<T>(alloc, new_disks::<T>(alloc, LARGE), 1_100, rows);
 }
 
+/// Calls fail: of the log, of one part at the end, and of all.
 fn fail<T: DrivenStore>(alloc: Global, rows: &mut Rows) {
     fails_sync::<T>(alloc, rows);
     fails_parts::<T>(alloc, true, rows);

@@ -176,6 +176,7 @@ fn calls_of_mounting<T: TestStore>(alloc: Global, settled: bool, rows: &mut Rows
     faults
 }
 
+/// How many calls may fail by which a store is mounted, with three entries to be read back, and with none.
 pub fn read_directory<T: TestStore>(alloc: Global, rows: &mut Rows) {
     let entries = calls_of_mounting::<T>(alloc, false, rows);
     rows.is("the calls that read three entries", entries == 6);
@@ -188,8 +189,10 @@ pub fn read_directory<T: TestStore>(alloc: Global, rows: &mut Rows) {
 /// Bytes that are written over those of a disk: disk 0 is the arena's, and disk 1 the section's.
 struct Damage {
     disk: u32,
+    /// From this place of the disk on.
     at: u64,
     bytes: &'static [u8],
+    /// What mounting then tells: where the damage is, and the value that is wanted and found there.
     site: Site,
     want: FieldValue,
     found: FieldValue,
@@ -273,6 +276,7 @@ fn see_damage<T: TestStore>(alloc: Global, damage: &Damage, rows: &mut Rows, row
     }
 }
 
+/// Each of these damages refuses a store. A row is one of `DAMAGES`.
 pub fn tell_damages<T: TestStore>(alloc: Global, rows: &mut Rows) {
     for (row, damage) in DAMAGES.iter().enumerate() {
         see_damage::<T>(alloc, damage, rows, row);

@@ -13,14 +13,23 @@ use vt_rows::Rows;
 /// What a test of a store sees.
 #[derive(Clone, Copy)]
 pub enum Case {
+    /// Requests are answered, also to a sync that waits.
     Answers,
+    /// A script is stopped at each device call.
     Script,
+    /// A crash tears a bucket's selector.
     TornSelector,
+    /// A store and a list do what is drawn, with crashes.
     Draws,
+    /// Calls fail while a log is read back.
     DirectoryReads,
+    /// What is damaged is told when a store is mounted.
     Damages,
+    /// Mounting is stopped by a second crash.
     SecondCrashes,
+    /// The index is replaced by a smaller one.
     SmallerIndex,
+    /// Each test of mounting fails once.
     Refusals,
 }
 

@@ -81,6 +81,7 @@ impl<D: TestDisk> TestParts for Parts<D> {
     }
 }
 
+/// Tests a block for room and what is held, and adds it if it is new.
 fn write_on<D: Disk, L: Ledger>(
     alloc: Global,
     log: &mut Log<D, ShortScorer>,
@@ -106,6 +107,7 @@ fn write_on<D: Disk, L: Ledger>(
     Ok(verdict)
 }
 
+/// Looks a block up, where its key is one of the shard's.
 fn find_on<D: Disk, L: Ledger>(
     alloc: Global,
     log: &mut Log<D, ShortScorer>,
@@ -128,6 +130,7 @@ fn find_on<D: Disk, L: Ledger>(
     }
 }
 
+/// The log of a new partition of one arena.
 fn log<D: TestDisk>(alloc: Global) -> Option<Log<D, ShortScorer>> {
     let part = mounted_part(partition(alloc, 1, ARENA_LEN, Fails::Never)?)?;
     match vt_log::mount(alloc, only(alloc, part)?, ShortScorer) {
@@ -149,6 +152,7 @@ fn resting<D: TestDisk>(alloc: Global) -> Option<Section<D>>
     Some(section)
 }
 
+/// The shard of that section.
 fn shard<D: TestDisk>(alloc: Global) -> Option<Shard<D>> {
     match vt_shard::mount(alloc, resting(alloc)?, SIZES) {
         Ok(shard) => Some(shard),
@@ -246,6 +250,7 @@ fn see<T: TestParts>(alloc: Global, parts: &mut T, act: &Act<'_>, rows: &mut Row
     }
 }
 
+/// Does what these rows say, one behind another.
 fn do_all<T: TestParts>(alloc: Global, rows: &mut Rows) {
     let Some(mut parts) = there(rows, 0, T::made(alloc).ok_or("the parts")) else {
         return;

@@ -13,6 +13,7 @@ use vt_recover::Devices;
 use vt_rows::Rows;
 use vt_shard::Sizes;
 
+/// What a shard keeps in memory: four blocks, and 64 clean entries.
 pub const SIZES: Sizes = Sizes {
     lumps: 4,
     clean: 64,
@@ -50,6 +51,7 @@ pub trait TestStore: Drop {
     /// How many blocks are accepted, how many of them durable, and how many synced.
     fn counts(&self) -> [u64; 3];
 
+    /// The score that the store gives a block of these bytes.
     fn score(&self, bytes: &[u8]) -> Score;
 }
 
@@ -113,6 +115,7 @@ impl<D: TestDisk, S: TestScorer> TestStore for Core<D, S> {
     }
 }
 
+/// Whether an event's session and its shard are those of the store.
 fn is_for<D: Disk, S: Scorer>(core: &Core<D, S>, event: &Event<'_>) -> bool
     ensures { IsTrue result
         → IsFor (length core.now.waiting) (length core.now.shards) event.now }
@@ -202,11 +205,17 @@ pub fn settle<T: TestStore>(alloc: Global, store: &mut T) -> bool {
 /// What an event gives, but for answers to reads and writes.
 #[derive(Clone, Copy)]
 pub enum Given {
+    /// A sync was asked for, and waits.
     Waits,
+    /// It is too early, as the queue is full, or what it waits for is still to be done.
     NotYet,
+    /// A device call was made, a writeback begun, or something dropped.
     Moved,
+    /// There was nothing to be done.
     Nothing,
+    /// A device call failed.
     Failed,
+    /// A sync is answered, for so many blocks.
     Synced(u64),
     Refused(Why),
 }

@@ -37,5 +37,6 @@ pub trait Dialer {
         ensures back { IsTrue tells → dialled self.new ≡ with_back link (dialled self.old) }
         ensures faults { faults self.new ≡ faults self.old };
 
+    /// A count of failed calls is a u64.
     ghost faults_fit: { (dialer : Self) → faults dialer < 2 ^ 64 };
 }

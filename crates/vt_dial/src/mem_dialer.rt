@@ -16,7 +16,9 @@ use vt_out::{Link, MemLink};
 pub struct MemDialer {
     host: Text,
     port: u16,
+    /// Where that link is: it waits, is in use or is back; or more than one came back.
     place: Place,
+    /// How many calls of `dial` have failed.
     faults: u64,
     ghost fresh: { ForSome (waiting_in place) (IsFreshLink ⟦<MemLink as Link>⟧) },
     ghost faults_fit: { faults < 2 ^ 64 },

@@ -1,4 +1,4 @@
-//! Where the link of a dialer in memory is: not handed out yet, in use, or back.
+//! Where the link of a dialer in memory is: not handed out yet, in use, back, or lost.
 
 use std::mem;
 use vt_out::MemLink;

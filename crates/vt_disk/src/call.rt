@@ -32,6 +32,7 @@ pub enum CallError {
 /// that failed, counted from 0. Behind that one none is to be made.
 #[derive(Clone, Copy, Debug, PartialEq, Eq)]
 pub struct CallCount {
+    /// A call counts before it is made, so that one that failed is among them.
     pub made: u64,
     /// The number of the call that failed, the last one that was made.
     pub stopped: Option<u64>,

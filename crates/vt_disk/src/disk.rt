@@ -78,9 +78,10 @@ pub trait Disk {
         ensures calls { IsTrue tells → IsOneMore (calls self.old) (calls self.new) }
         ensures cause { HasCause result (faults self.old) (faults self.new) };
 
-    /// A length is a u64, and so is a count of faults.
+    /// A length is a u64.
     ghost size_fits: { (disk : Self) → size disk < 2 ^ 64 };
 
+    /// A count of failed calls is a u64.
     ghost faults_fit: { (disk : Self) → faults disk < 2 ^ 64 };
 
     /// A crash may leave what a read gives.

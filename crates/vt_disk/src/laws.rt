@@ -1,4 +1,5 @@
-//! Laws of disks.
+//! Laws of disks, each the contract of a function that does nothing: what a crash leaves at a moment
+//! within a call, by what it may leave of the disk before the call (`old`) and after it (`new`).
 
 ghost use Rattle.vt_disk.specs.Disk.{AreAmong, WithinCall};
 

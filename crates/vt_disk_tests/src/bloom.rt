@@ -298,6 +298,7 @@ const ENDS: [(u64, bool, [bool; 4]); 8] = [
     (3, false, [true, true, true, true]),
 ];
 
+/// A save ends in each of these ways, and there is a crash. A row is one of `ENDS`.
 fn stop_anywhere<D: FailingDisk>(alloc: Global) -> Rows {
     let mut rows = Rows::new();
     for (row, (call, fails, is_new)) in ENDS.iter().enumerate() {
@@ -324,6 +325,7 @@ fn mounts<D: FailingDisk>(
     write(&mut disk, 0, start) == Some(Ok(())) && mounted(alloc, disk) == wanted
 }
 
+/// Why a disk that is a byte too short is refused.
 const TOO_SMALL: BloomError = BloomError::TooSmall {
     len: 40_959,
     need: LEN,

@@ -15,6 +15,7 @@ const SPELLED: [u8; 103] = *b"VBKT\x00\x00\x00\x07\x00\x03\
     \xb0\x00\x00\x00\x00\x00\x00\x00\x00\x00\x00\x00\x00\x00\x00\x00\x00\x00\x00\x00\
     \x02\x00\x03\x00\x00\x00\x01\x00\x00\x60\x00";
 
+/// The entry of a block of three bytes, whose score begins with these two.
 fn entry(first: u8, second: u8, kind: Kind, offset: u32) -> Entry {
     let mut score = [0; 20];
     score[0] = first;

@@ -9,6 +9,7 @@ use vt_rows::Rows;
 /// The first byte of a block's score, and the block's number.
 type Block = (u8, u64);
 
+/// The blocks that are put in.
 const A: Block = (0xa0, 0);
 
 const B: Block = (0xb0, 1);
@@ -37,6 +38,7 @@ fn info(block: Block, kind: Kind) -> Info {
     }
 }
 
+/// Its entry as one of data.
 fn data(block: Block) -> Info {
     info(block, Kind::DATA)
 }
@@ -109,6 +111,7 @@ fn does(index: &mut IndexCache, act: Act) -> bool {
     }
 }
 
+/// Puts an entry in, and says whether its key wasn't there and it had room.
 fn puts(index: &mut IndexCache, one: Info) -> bool {
     let None = index.find(&one.key) else {
         return false;
@@ -120,6 +123,7 @@ fn puts(index: &mut IndexCache, one: Info) -> bool {
     true
 }
 
+/// Whether it is found by its score, and by its key.
 fn finds(index: &mut IndexCache, one: &Info) -> bool {
     let entry = Some(entry_of(one));
     index.find_score(&one.key.score) == entry && index.find(&one.key) == entry
@@ -190,6 +194,7 @@ const ACTS: [Act; 26] = [
     Act::Lacks(B),
 ];
 
+/// Does `ACTS` with a cache of three dirty entries and two clean ones.
 fn settle(alloc: Global) -> Rows {
     let mut rows = Rows::new();
     match IndexCache::new(alloc, 3, 2) {
@@ -211,6 +216,7 @@ fn fills_on(rows: &mut Rows, index: &mut IndexCache) {
     }
 }
 
+/// The same, with a new cache of eight dirty entries and four clean ones.
 fn fill_again(alloc: Global) -> Rows {
     let mut rows = Rows::new();
     match IndexCache::new(alloc, 8, 4) {

@@ -77,6 +77,7 @@ fn drop_all(rows: &mut Rows, lumps: &mut Lumps, alloc: Global) {
     rows.is("none is left to be dropped", !lumps.drop_last());
 }
 
+/// Three blocks go into a cache for two, and then all are dropped.
 fn keep_three(alloc: Global, mut lumps: Lumps) -> Rows {
     let mut rows = Rows::new();
     rows.is("none is dropped of none", !lumps.drop_last());
@@ -86,6 +87,7 @@ fn keep_three(alloc: Global, mut lumps: Lumps) -> Rows {
     rows
 }
 
+/// The same, with a new cache.
 fn keep_some(alloc: Global) -> Rows {
     match Lumps::new(alloc, 2) {
         Ok(lumps) => keep_three(alloc, lumps),

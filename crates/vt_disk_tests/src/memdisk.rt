@@ -8,6 +8,7 @@ use vt_disk::{Disk, Region};
 use vt_memdisk::{CrashMode, MemDisk};
 use vt_rows::Rows;
 
+/// How many bytes are written by a call, and how many the disk has.
 const PIECE: usize = 8192;
 
 const LEN: u64 = 16 * 1024 * 1024;
@@ -102,6 +103,7 @@ fn is_left(alloc: Global, choice: &[u16], left: [u8; 4]) -> bool {
     }
 }
 
+/// A crash by each of these choices. A row is one of `CHOICES`.
 fn choose(alloc: Global) -> Rows {
     let mut rows = Rows::new();
     for (row, (choice, left)) in CHOICES.iter().enumerate() {
@@ -137,6 +139,7 @@ fn is_left_in(alloc: Global, mode: CrashMode, left: [u8; 4]) -> bool {
     }
 }
 
+/// A crash in each mode. A row is one of `MODES`.
 fn crash_in_each(alloc: Global) -> Rows {
     let mut rows = Rows::new();
     for (row, (mode, left)) in MODES.iter().enumerate() {

@@ -222,6 +222,7 @@ fn is_refused<D: FailingDisk>(alloc: Global, disks: &[(u64, u8)], bad: PartBad) 
     }
 }
 
+/// The arena of 32,768 bytes with this number, which begins there on the disk of this part.
 fn arena(part: u32, number: u32, start: u64) -> ArenaRegion {
     let region = Region { start, len: 32_768 };
     ArenaRegion {

@@ -13,6 +13,7 @@ use vt_memdisk::CrashMode;
 use vt_rows::Rows;
 use vt_twin::{Step, Twin, TwinErr, format, mount};
 
+/// The bytes of a disk.
 const LEN: u64 = 2560;
 
 /// Two frames of 512 bytes and a selector of 512, with 512 bytes before them and 512 behind.
@@ -23,6 +24,7 @@ const REGION: Region = Region {
 
 type Frame = [u8; 512];
 
+/// The frame that is there at first, the one that a change writes, and the next one.
 const OLD: Frame = [1; 512];
 
 const NEW: Frame = [2; 512];
@@ -281,6 +283,7 @@ const ENDS: [(u64, bool, [bool; 4]); 8] = [
     (3, false, [true, true, true, true]),
 ];
 
+/// A change ends in each of these ways, and there is a crash. A row is one of `ENDS`.
 fn stop_anywhere<D: FailingDisk>(alloc: Global) -> Rows {
     let mut rows = Rows::new();
     for (row, (call, fails, is_new)) in ENDS.iter().enumerate() {

@@ -26,6 +26,7 @@ const MAX_REPLY: usize = 4 + MAX_BLOCK;
 /// Bytes that wait to be written, which contracts see as a list.
 #[derive(Drop)]
 pub struct Output {
+    /// It is as long as `ROOM` says, whatever waits.
     buffer: Vec<u8>,
     /// How many of the buffer's first bytes wait.
     used: usize,

@@ -16,7 +16,9 @@ use vt_out::Link;
 /// tried in order.
 #[derive(Drop)]
 pub struct StdDialer<N> {
+    /// What makes the connections.
     net: N,
+    /// Failed calls of `dial`.
     faults: Faults,
 }
 

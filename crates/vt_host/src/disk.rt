@@ -19,6 +19,7 @@ use vt_disk::Disk;
 #[derive(Drop)]
 pub struct FileDisk<F> {
     file: F,
+    /// In bytes.
     len: u64,
     faults: Faults,
     ghost len_fits: { len < 2 ^ 64 },

@@ -4,9 +4,11 @@ ghost use Rattle.std.specs.Prelude.{◌<◌, ◌^◌};
 
 use vt_base::Failed;
 
-/// How many calls of the system have failed.
+/// How many calls of an adapter have failed.
 #[derive(Drop)]
 pub struct Faults {
+    /// Of the adapter's calls, each of which may make several of the system. It stays at the
+    /// greatest u64.
     pub count: u64,
     ghost fits: { count < 2 ^ 64 },
 }

@@ -14,6 +14,7 @@ use vt_out::{Files, OutErr};
 /// Files of the system, which are read whole. Names are taken as they are, from the working folder.
 #[derive(Drop)]
 pub struct StdFiles<O> {
+    /// What opens them.
     files: O,
     faults: Faults,
 }

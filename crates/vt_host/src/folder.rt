@@ -15,6 +15,7 @@ use vt_out::{Folder, Item, ItemKind, Listing, OutErr};
 /// The file that was opened last.
 #[derive(Drop)]
 struct Opened<F> {
+    /// The folder's path, and the names below it, as it was opened by.
     path: String,
     file: F,
 }
@@ -24,7 +25,9 @@ struct Opened<F> {
 /// only a regular file is.
 #[derive(Drop)]
 pub struct StdFolder<C, F> {
+    /// What paths take their memory from.
     alloc: Global,
+    /// What looks at the system.
     calls: C,
     // Its name, with `/.` behind it: a link to a folder is followed there.
     base: String,
@@ -33,6 +36,7 @@ pub struct StdFolder<C, F> {
     groups: Owners,
     /// Kept open, so that a file is opened once for all of its pieces.
     opened: Option<Opened<F>>,
+    /// Failed calls of `list` and `read`.
     pub(crate) faults: Faults,
 }
 

@@ -10,10 +10,10 @@ use std::alloc::Global;
 use vt_base::{Bytes, Text};
 use vt_out::{Files, Folders, OutErr};
 
-/// The files that name the users and the groups (passwd(5), group(5)).
+/// The file that names the users (passwd(5)).
 const USERS: &[u8] = b"/etc/passwd";
 
-/// The file that names the groups.
+/// The file that names the groups (group(5)).
 const GROUPS: &[u8] = b"/etc/group";
 
 /// The most bytes that are read of one of them.
@@ -22,8 +22,11 @@ const MOST_NAMES: u32 = 1 << 24;
 /// Folders of the system. Names are taken as they are, from the working folder.
 #[derive(Drop)]
 pub struct StdFolders<C, O> {
+    /// What each folder looks at the system by.
     calls: C,
+    /// What reads the names of users and groups. Where it can't, that is no fault.
     files: StdFiles<O>,
+    /// Failed calls of `folder`, and those of folders that are back.
     faults: Faults,
 }
 

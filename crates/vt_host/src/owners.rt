@@ -9,6 +9,7 @@ use vt_conf::parse_number;
 /// The name of a number.
 #[derive(Drop)]
 struct Owner {
+    /// A user's number, or a group's.
     id: u32,
     name: Text,
 }
@@ -17,6 +18,7 @@ struct Owner {
 /// what isn't looked at, a number, and more (passwd(5), group(5)).
 #[derive(Drop)]
 pub struct Owners {
+    /// In the order of the lines; of two of one number, the first is meant.
     owners: Vec<Owner>,
 }
 

@@ -14,7 +14,9 @@ use vt_partitions::Parts;
 /// from the working folder.
 #[derive(Drop)]
 pub struct FileParts<O> {
+    /// What opens them.
     files: O,
+    /// Failed calls of `part`.
     faults: Faults,
 }
 

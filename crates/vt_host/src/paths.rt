@@ -23,7 +23,9 @@ pub struct Look {
     pub mode: u32,
     /// In seconds since 1970, or before.
     pub mtime: i64,
+    /// The number of its owner.
     pub uid: u32,
+    /// The number of its group.
     pub gid: u32,
 }
 

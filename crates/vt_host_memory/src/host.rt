@@ -20,6 +20,7 @@ impl<R: Threads + Sync + AllocGlobal> Runtime for R {}
 
 /// A sink that says what went to it.
 pub(crate) trait TestSink: Sink + Drop {
+    /// A copy of all that went to it.
     fn told(&self, alloc: Global) -> Result<Vec<u8>, AllocError>;
 }
 
@@ -32,8 +33,11 @@ impl TestSink for MemSink {
 /// What the program is lent beside partitions.
 #[derive(Drop)]
 pub(crate) struct Lent<S, K> {
+    /// The stream that is read.
     pub source: S,
+    /// Where results go.
     pub sink: K,
+    /// The configurations, and what else is read whole.
     pub files: MemFiles,
     pub dialer: MemDialer,
     pub folders: MemFolders,

@@ -18,6 +18,7 @@ pub type Part = (&'static [u8], usize);
 /// A source that gives a piece only once the replies to all that it gave came, and else fails.
 #[derive(Drop)]
 struct PatientSource<'a> {
+    /// What is still to be sent, the part that is under way among it.
     parts: &'a [Part],
     /// How many bytes each piece has at most.
     cut: usize,
@@ -25,7 +26,9 @@ struct PatientSource<'a> {
     given: usize,
     /// How many bytes are owed before more is given.
     owed: usize,
+    /// How many bytes the program has written, which `PatientSink` counts.
     said: &'a Cell<usize>,
+    /// How many calls came before the replies that were owed, and so failed.
     failed: u64,
     ghost fits: { failed < 2 ^ 64 },
 }
@@ -74,8 +77,11 @@ impl Source for PatientSource<'_> {
 /// Where all is written, and counted for the source.
 #[derive(Drop)]
 struct PatientSink<'a> {
+    /// All that the program wrote.
     written: Vec<u8>,
+    /// How many bytes that is: `PatientSource` reads it.
     said: &'a Cell<usize>,
+    /// How many calls failed, since there was no memory.
     failed: u64,
     ghost fits: { failed < 2 ^ 64 },
 }

@@ -8,7 +8,9 @@ use vt_rows::Rows;
 #[derive(Drop)]
 pub struct Ran {
     pub status: u8,
+    /// What went to the sink.
     pub output: Vec<u8>,
+    /// What went to the fault sink.
     pub complaint: Vec<u8>,
     /// What a server heard.
     pub heard: Vec<u8>,
@@ -18,6 +20,7 @@ pub struct Ran {
 #[derive(Clone, Copy)]
 pub struct Wanted<'a> {
     pub status: u8,
+    /// In parts, which have to be there one behind another.
     pub output: &'a [&'a [u8]],
     pub complaint: &'a [u8],
 }

@@ -24,12 +24,14 @@ pub struct Given<'a> {
     pub room: usize,
     /// A file beside the configurations of tests.
     pub file: Option<(&'a str, &'a [u8])>,
+    /// The server that can be dialled, if there is one.
     pub server: Option<Server<'a>>,
 }
 
 /// A server at this machine's port of Venti, which says all this whatever it hears.
 #[derive(Clone, Copy)]
 pub struct Server<'a> {
+    /// In parts.
     pub says: &'a [&'a [u8]],
     /// How many bytes come from it by a call, in turn, if it says any.
     pub pieces: &'a [usize],
@@ -87,6 +89,7 @@ pub(crate) fn no_folder(alloc: Global) -> Result<MemFolders, AllocError> {
     folder_named(alloc, "nowhere", Vec::new(alloc), usize::MAX, &[])
 }
 
+/// Runs the program with all of these, and puts the partitions back.
 fn run_all<C: Scorer + Sync>(
     rt: &impl Runtime,
     parts: &mut Partitions,

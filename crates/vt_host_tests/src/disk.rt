@@ -116,6 +116,7 @@ fn opens<R: Abort + Copy + Drop>(rt: R, alloc: Global, opening: usize, call: usi
     FileDisk::open(&mut opener(rt, alloc, opening, call), "disk", Some(9)).is_ok()
 }
 
+/// The opening that fails, the call that fails of each file, and whether a disk is there; 9 is none.
 /// Each call before a disk is there: the opening, the folder's, and then the lock, the length, the
 /// change of the length and the sync.
 const OPENINGS: [(usize, usize, bool); 7] = [

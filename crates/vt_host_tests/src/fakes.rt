@@ -19,7 +19,9 @@ use vt_out::ItemKind;
 pub struct Notes<C, R> {
     rt: R,
     alloc: Global,
+    /// In the order in which they were made.
     pub calls: Vec<C>,
+    /// The number of the call that fails. None does where so many aren't made.
     failing: usize,
 }
 
@@ -40,12 +42,14 @@ impl<C: Drop, R: Abort + Drop> Notes<C, R> {
         self.calls.len() != self.failing
     }
 
+    /// A copy of these bytes, for a note. A test that has no memory for it ends here.
     fn copy_of(&self, bytes: &[u8]) -> Bytes
         ensures { result ≡ bytes.now }
     {
         Bytes::copy_of(self.alloc, bytes).expect(&self.rt, "memory")
     }
 
+    /// Notes a call behind all others.
     fn note(&mut self, call: C)
         ensures { self.new.calls.items ≡ self.old.calls.items ++ call ∷ [] }
     {
@@ -67,11 +71,17 @@ fn answer(ok: bool) -> io::Result<()>
 /// A call of a file.
 #[derive(Drop)]
 pub enum FileNote {
+    /// The length that was answered, if the call succeeded.
     Measured(Option<u64>),
+    /// The new length, and whether the call succeeded.
     Resized(u64, bool),
+    /// From where on, what then stood in the buffer, and whether the call succeeded.
     Read(u64, Bytes, bool),
+    /// From where on, what was written, and whether the call succeeded.
     Written(u64, Bytes, bool),
+    /// Whether the call succeeded.
     Locked(bool),
+    /// Whether the call succeeded.
     Synced(bool),
 }
 
@@ -79,6 +89,7 @@ pub enum FileNote {
 #[derive(Drop)]
 pub struct FakeFile<R> {
     pub notes: Notes<FileNote, R>,
+    /// What it answers when it is measured, whatever is done to it.
     pub len: u64,
 }
 
@@ -147,6 +158,7 @@ impl<R: Abort + Drop> FileCalls for FakeFile<R> {
 pub struct OpenNote {
     pub how: OpenOptions,
     pub name: Text,
+    /// Whether it succeeded.
     pub ok: bool,
 }
 
@@ -154,7 +166,9 @@ pub struct OpenNote {
 #[derive(Drop)]
 pub struct FakeOpener<R> {
     pub notes: Notes<OpenNote, R>,
+    /// The length of each file that is opened.
     pub len: u64,
+    /// The number of the call that fails of each of these files.
     pub file_failing: usize,
 }
 
@@ -182,7 +196,9 @@ impl<R: Abort + Copy + Drop> Opener for FakeOpener<R> {
 /// A call of a stream that is written.
 #[derive(Drop)]
 pub enum WriteNote {
+    /// What was written, and whether the call succeeded.
     Put(Bytes, bool),
+    /// Whether the call succeeded.
     Flushed(bool),
 }
 
@@ -275,6 +291,7 @@ impl<R: Abort + Drop> ReadCalls for FakeInput<R> {
 pub struct ConnectNote {
     pub host: Text,
     pub port: u16,
+    /// Whether it was made.
     pub ok: bool,
 }
 
@@ -369,7 +386,9 @@ impl FileCalls for Lines {
 /// A folder with one file, which has this owner, this group and this time.
 #[derive(Clone, Copy)]
 pub struct FakeFolder {
+    /// The number of both the owner and the group.
     pub id: u32,
+    /// In seconds since 1970.
     pub mtime: i64,
 }
 

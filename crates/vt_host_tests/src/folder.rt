@@ -22,6 +22,7 @@ fn list<F: Folder>(
     Ok((items.len(), named.map(|place| items[place].kind)))
 }
 
+/// How many bytes a read at this place answers, and a buffer of four that had dots.
 fn read<F: Folder>(folder: &mut F, path: &[Text], at: u64) -> (Result<usize, Failed>, [u8; 4]) {
     let mut buf = [b'.'; 4];
     (folder.read(path, at, &mut buf), buf)

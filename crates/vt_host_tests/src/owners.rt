@@ -33,6 +33,7 @@ const NAMES: [(u32, &[u8]); 6] = [
     (u32::MAX, b"4294967295"),
 ];
 
+/// Notes at this row whether a file of this owner and group is listed with this name for both.
 fn see_name(rows: &mut Rows, alloc: Global, row: usize, id: u32, name: &[u8]) {
     match listed(alloc, id, 0) {
         Some(item) => {

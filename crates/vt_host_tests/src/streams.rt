@@ -12,8 +12,11 @@ use vt_rows::Rows;
 /// Is interrupted once, gives and takes three bytes at once, and breaks at its call number 3.
 #[derive(Drop)]
 struct Broken {
+    /// How many reads and writes were made.
     calls: u8,
+    /// The first eight bytes that were written.
     taken: [u8; 8],
+    /// How many of these there are.
     len: usize,
 }
 
@@ -26,6 +29,7 @@ impl Broken {
         }
     }
 
+    /// Counts a call: the first is interrupted, and the fourth breaks.
     fn next(&mut self) -> io::Result<()> {
         self.calls = self.calls.saturating_add(1);
         match self.calls {

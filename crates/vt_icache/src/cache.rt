@@ -30,6 +30,7 @@ pub struct IndexCache {
     dirty: u32,
     /// No entries, but room for as many. The dirty ones move here where the settled ones go.
     blank: IndexMap<Key, Info>,
+    /// The clean entries, of which the least recently used one makes room.
     clean: LruCache<Key, Entry>,
 }
 

@@ -50,6 +50,7 @@ pub type Made = MemDisk<Listed>;
 /// What happens to a disk between two mounts.
 #[derive(Clone, Copy)]
 pub enum Change<'a> {
+    /// It is mounted again as it is.
     Nothing,
     /// A crash in a mode.
     Crash(CrashMode),

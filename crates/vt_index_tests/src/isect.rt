@@ -1,7 +1,7 @@
 //! Sections on disks in memory: spelled by hand, stopped, crashed, damaged and refused.
 //!
-//! What is done with a section is data. It is done to any `TestSection`, and the test functions alone
-//! name the real one.
+//! What is done with a section is data. It is done to any `TestSection`, and `see_in_memory` alone names
+//! the real one.
 
 use crate::disks::{Change, Made, TestDisk, changed};
 use crate::sections::{MadeSection, TestSection, count, make};
@@ -486,6 +486,7 @@ fn in_mode(mode: CrashMode, wanted: [u8; 4]) -> (usize, u8) {
     }
 }
 
+/// A writeback ends with each of its calls, which is made or fails, and there is a crash in each mode.
 fn stop_anywhere<T: TestSection>(alloc: Global) -> Rows {
     let mut rows = Rows::new();
     for (call, [done, failed]) in WRITEBACK.iter().enumerate() {
@@ -531,6 +532,7 @@ fn select_second<T: TestSection>(alloc: Global, first: u8, tens: usize, rows: &m
     }
 }
 
+/// The first selector begins with each of these bytes, and the second one too.
 fn select_each<T: TestSection>(alloc: Global) -> Rows {
     let mut rows = Rows::new();
     for (number, first) in SELECTORS.iter().enumerate() {
@@ -572,7 +574,7 @@ const SPELLS: [Act<'static>; 19] = [
     Act::ChangeHead(2, 0x0102_0304_0506_0708),
 ];
 
-/// The bytes of a section, by hand.
+/// The bytes of a section, by hand: from this place on these stand there.
 const SPELLED: [(u64, [u8; 31]); 6] = [
     // The head, in frame 0: what begins it, and its numbers.
     (
@@ -649,6 +651,7 @@ fn a_section_is_spelled(rt: HostRuntime) -> Result<(), Fail> {
 /// The length of a disk, a call of it that fails, bytes at a place, and what mounting answers.
 type Refusal = (u64, u64, u64, [u8; 2], Result<u32, SectBad>);
 
+/// Why a disk that is a byte too short is refused, and one of another version.
 const SMALL: SectBad = SectBad::TooSmall {
     len: 41_471,
     need: 41_472,
@@ -704,6 +707,7 @@ fn is_refused<D: TestDisk>(alloc: Global, case: &Refusal) -> bool {
     found == Some(case.4) && (made.is_ok() || found == Some(made))
 }
 
+/// Each of these disks is mounted or refused. A row is one of `REFUSALS`.
 fn refuse<D: TestDisk>(alloc: Global) -> Rows {
     let mut rows = Rows::new();
     for (row, case) in REFUSALS.iter().enumerate() {
@@ -728,6 +732,7 @@ fn fill_fresh<T: TestSection>(alloc: Global, call: u8, answer: Result<(), ShardE
     rows
 }
 
+/// A new bucket is filled, looked up and cleared, where one call of that fails, and where none does.
 fn fill_each<T: TestSection>(alloc: Global) -> Rows {
     let mut rows = Rows::new();
     for call in 6..12u8 {
@@ -755,6 +760,7 @@ const LOOK_UPS: [(u8, [bool; 3]); 5] = [
     (26, [true, true, true]),
 ];
 
+/// A bucket is looked up three times, where one call of that fails, and where none does.
 fn look_up_thrice<T: TestSection>(alloc: Global) -> Rows {
     let mut rows = Rows::new();
     for (call, [first, second, third]) in &LOOK_UPS {
@@ -806,6 +812,7 @@ fn damage<T: TestSection>(alloc: Global, (at, byte, want, found): &Damage) -> Ro
     run::<T>(alloc, NEVER, change, &acts)
 }
 
+/// Each of these damages is told by a look-up. A row is one of `DAMAGES`.
 fn tell_damage<T: TestSection>(alloc: Global) -> Rows {
     let mut rows = Rows::new();
     for (row, case) in DAMAGES.iter().enumerate() {
@@ -841,6 +848,7 @@ const BESIDE: [Act<'static>; 10] = [
     Act::Has(0, &[9, 7]),
 ];
 
+/// The frame of the second bucket is damaged, and entries are written to both.
 fn write_beside<T: TestSection>(alloc: Global) -> Rows {
     let change = Change::Spoil(&[(41_472, b"W")]);
     run::<T>(alloc, NEVER, change, &BESIDE)
@@ -869,6 +877,7 @@ const FULL: [Act<'static>; 9] = [
     Act::Has(65, &[]),
 ];
 
+/// Entries are written to a section of 66 buckets, twice.
 fn fill_group<T: TestSection>(alloc: Global) -> Rows {
     let mut rows = Rows::new();
     let section: Option<T> = live(alloc, MANY_LEN, &[NEVER], MANY);
@@ -887,13 +896,21 @@ fn a_group_is_full(rt: HostRuntime) -> Result<(), Fail> {
 /// What a test sees.
 #[derive(Clone, Copy)]
 enum Case {
+    /// A writeback is stopped at each of its calls.
     Writeback,
+    /// Selectors begin with any bytes.
     Selectors,
+    /// What stands on the disk, byte for byte.
     Spelled,
+    /// Buckets are filled and cleared, and calls fail.
     Fills,
+    /// Calls of look-ups fail.
     LookUps,
+    /// Damaged buckets are looked up.
     Damages,
+    /// A writeback meets a damaged bucket.
     DamagedBucket,
+    /// A writeback fills a group of selectors, and goes on behind it.
     FullGroup,
 }
 
@@ -933,6 +950,7 @@ const NUMBERS: [(u32, Score, u32); 5] = [
     (1000, ABC, 662),
 ];
 
+/// Each score has its bucket. A row is one of `NUMBERS`.
 fn number_scores() -> Rows {
     let mut rows = Rows::new();
     for (row, (total, score, wanted)) in NUMBERS.iter().enumerate() {

@@ -19,6 +19,7 @@ pub struct Told {
     /// How its name begins.
     pub name: [u8; 8],
     pub buckets: u32,
+    /// The entries of so many blocks, the first of the log, are on the disk.
     pub mark: u64,
     /// Whether something is under way, and how many calls that makes at most.
     pub is_changing: bool,

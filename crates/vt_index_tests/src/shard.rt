@@ -1,6 +1,6 @@
 //! Shards on disks in memory, beside plain lists of their blocks.
 //!
-//! What a test does is done to any `TestShard`, and the test functions alone name the real one.
+//! What a test does is done to any `TestShard`, and `see_in_memory` alone names the real one.
 
 ghost use Rattle.std.specs.Prelude.{◌<◌};
 
@@ -56,6 +56,7 @@ fn block(first: u8, second: u8, kind: Kind, number: u64) -> Info {
     }
 }
 
+/// The same, of type 13.
 fn data(first: u8, second: u8, number: u64) -> Info {
     block(first, second, Kind::DATA, number)
 }
@@ -331,6 +332,7 @@ fn crash_in_each<T: TestShard>(
     }
 }
 
+/// A writeback ends with each of its calls, which is made or fails, and there is a crash in each mode.
 fn stop_anywhere<T: TestShard>(alloc: Global) -> Rows {
     let mut rows = Rows::new();
     for call in 0..WRITEBACK {
@@ -398,6 +400,7 @@ fn fills_a_bucket<T: TestShard>(shard: &mut T, blocks: &[Info]) -> Rows {
     rows
 }
 
+/// One bucket is filled, and takes no more.
 fn fill_one<T: TestShard>(alloc: Global) -> Rows {
     let Some(mut shard) = new_shard::<T>(alloc, ONE, 1, &[], AMPLE) else {
         return Rows::wrong("a shard is mounted");
@@ -430,7 +433,9 @@ fn draw(state: &mut u64, most: u64) -> u64
 /// The blocks of a shard of two buckets, and the number that the next drawn one comes from.
 #[derive(Drop)]
 struct Blocks {
+    /// Each has the number at which it stands here.
     list: Vec<Info>,
+    /// See `draw`.
     state: u64,
 }
 
@@ -556,6 +561,7 @@ fn agrees_with_a_list<T: TestShard>(shard: &mut T, alloc: Global) -> Rows {
     rows
 }
 
+/// A new shard with caches of the least size does what is drawn.
 fn draw_calls<T: TestShard>(alloc: Global) -> Rows {
     match new_shard::<T>(alloc, TWO, 2, &[], LEAST) {
         Some(mut shard) => agrees_with_a_list(&mut shard, alloc),
@@ -625,6 +631,7 @@ fn spoiled_shard<T: TestShard>(alloc: Global) -> Option<T> {
     T::open(alloc, section.again(alloc, change)?, AMPLE)
 }
 
+/// Blocks of all buckets are written back beside the spoiled one.
 fn write_beside<T: TestShard>(alloc: Global) -> Rows {
     let Some(mut shard) = spoiled_shard::<T>(alloc) else {
         return Rows::wrong("a shard is mounted");
@@ -676,9 +683,10 @@ fn finds_in_memory<T: TestShard>(shard: &mut T, alloc: Global) -> Rows {
     rows
 }
 
-/// The calls behind the writeback of the three blocks.
+/// The first call behind the writeback of the three blocks.
 const BEHIND: u64 = FIRST_STEP + WRITEBACK as u64;
 
+/// Eight calls from that one on, which fail: more than are made there.
 const ALL_BEHIND: [u64; 8] = [
     BEHIND,
     BEHIND + 1,
@@ -690,6 +698,7 @@ const ALL_BEHIND: [u64; 8] = [
     BEHIND + 7,
 ];
 
+/// Blocks are found whose disk fails behind their writeback.
 fn find_in_memory<T: TestShard>(alloc: Global) -> Rows {
     match new_shard::<T>(alloc, TWO, 2, &ALL_BEHIND, AMPLE) {
         Some(mut shard) => finds_in_memory(&mut shard, alloc),
@@ -707,11 +716,17 @@ fn what_is_in_memory_needs_no_disk(rt: HostRuntime) -> Result<(), Fail> {
 /// What a test sees.
 #[derive(Clone, Copy)]
 enum Case {
+    /// A writeback is stopped at each of its calls, with a crash behind it.
     Crashes,
+    /// A crash tears a selector.
     Selectors,
+    /// A bucket is filled.
     FullBucket,
+    /// A shard and a list of blocks do what is drawn.
     DrawnCalls,
+    /// Entries are written back beside a damaged bucket.
     DamagedBucket,
+    /// Entries and blocks are found in memory while the disk fails.
     Memory,
 }
 

@@ -18,11 +18,13 @@ use vt_twin::Step;
 /// What a shard tells of itself.
 #[derive(Clone, Copy)]
 pub struct Told {
+    /// The entries of so many blocks, the first of the log, are on the disk.
     pub mark: u64,
     /// How many dirty entries there is room for.
     pub spare: u32,
     /// How many calls the writeback under way takes at most.
     pub owed: u64,
+    /// Whether a call failed by which it writes.
     pub is_stopped: bool,
 }
 

@@ -6,6 +6,7 @@ use vt_base::{Failed, FieldValue};
 /// A field of a section's head that is tested.
 #[derive(Clone, Copy, Debug, PartialEq, Eq)]
 pub enum Field {
+    /// The version of the format, which is 1.
     Version,
 }
 
@@ -14,6 +15,7 @@ pub enum Field {
 pub enum SectBad {
     /// A call of the disk failed, and its count of faults rose.
     Fault,
+    /// The disk has no room for a head and one bucket.
     TooSmall { len: u64, need: u64 },
     /// The first four bytes of the current head aren't `VSEC`.
     NotFormatted,

@@ -1,4 +1,6 @@
-//! What the layers above lean on between the calls of a section.
+//! What the layers above lean on between the calls of a section, each law the contract of a function that does
+//! nothing. In each, `t` is a section as contracts see it, `known` what is known of its buckets' entries, `h` a
+//! history, `score` any function of a block's bytes, and `c` the setup by which scores have their buckets.
 
 ghost use Rattle.std.specs.Prelude.{◌≡◌, ◌≢◌, ◌⊎◌, ◌<◌, ◌≤◌, ℕ, List, [], ◌++◌, length, IsTrue, None, Some};
 ghost use Rattle.std.specs.List.{AllPairs, Contains};

@@ -104,8 +104,11 @@ pub fn mount<D: Disk>(alloc: Global, mut disk: D) -> Result<Section<D>, (SectBad
 /// What mounting makes and finds.
 #[derive(Drop)]
 pub struct Opened {
+    /// The two frames of the head on the disk.
     pub twin: Twin,
+    /// The section's name, as the head has it.
     pub name: [u8; NAME_LEN],
+    /// What the current one of these frames says.
     pub head: Head,
     /// The frame of the head.
     pub head_frame: Vec<u8>,

@@ -1,6 +1,7 @@
 //! What a section's next device call does: the phases of a writeback.
 
-/// What the next device call of `advance` does.
+/// What the next device call of `advance` does. `NextPhase` (specs/Writeback.antt) says what comes
+/// behind each; `IsWell` (specs/Section.antt) what holds in each.
 #[derive(Clone, Copy, Debug, PartialEq, Eq)]
 pub enum Phase {
     /// Nothing is under way.

@@ -46,6 +46,7 @@ pub struct Section<D: Disk> {
     pub(crate) disk: D,
     /// How many buckets its disk has room for.
     pub(crate) buckets: u32,
+    /// The section's name, as the head has it: filled up with zeros.
     pub(crate) name: [u8; NAME_LEN],
     /// The head as it stands on the disk.
     pub(crate) head: Head,

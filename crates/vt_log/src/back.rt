@@ -25,11 +25,13 @@ use vt_model::ARENA_HEAD_LEN;
 /// Where a walk of a log stands, from its last block to the first.
 #[derive(Drop)]
 pub struct Tail {
+    /// How many blocks weren't given yet.
     left: u64,
     /// How many of those that are left are queued.
     queued: usize,
     /// The arena of the others that come next, if it has one left.
     arena: u32,
+    /// Where the walk stands in that arena's directory.
     at: At,
 }
 

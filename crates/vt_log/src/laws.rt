@@ -1,4 +1,6 @@
-//! What the layers above lean on between the calls of a log.
+//! What the layers above lean on between the calls of a log, each law the contract of a function that does nothing.
+//! In each, `score_of` is any function of a block's bytes, `g` and `h` are histories, and `files` has one file for
+//! each disk, as a crash may leave it.
 
 ghost use Rattle.std.specs.Prelude.{◌≡◌, ◌≤◌, ℕ, List, All};
 ghost use Rattle.vt_model.specs.History.{History};

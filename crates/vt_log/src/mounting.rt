@@ -141,8 +141,11 @@ pub fn mount<D: Disk, S: Scorer + Drop>(
 #[derive(Drop)]
 struct Opened {
     layout: Layout,
+    /// Each arena's current head.
     heads: Vec<Found>,
+    /// The first arena that isn't sealed, or the count of arenas.
     base: u32,
+    /// That one. Where every arena is sealed, it is one of no partition.
     arena: Arena,
     /// Empty, with all the room that it will want.
     queue: Queue,

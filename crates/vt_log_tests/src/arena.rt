@@ -414,7 +414,8 @@ fn run_on<T: TestArena>(
 
 // ---- room
 
-/// What an arena of 32,768 bytes has, a block, and whether that has room.
+/// How many bytes of clumps an arena of 32,768 bytes has, how many clumps these are, how long a block is, and whether
+/// that has room.
 const ROOMS: [(u64, u32, u32, bool); 5] = [
     (0, 0, 8129, true),
     (0, 0, 8130, false),
@@ -552,7 +553,7 @@ fn in_mode(mode: CrashMode, wanted: [u32; 4]) -> (usize, u32) {
     }
 }
 
-/// The same in each mode. The rows' numbers are this one and the mode's.
+/// The same in each mode, whose rows are told by that of the call (`row_of`), and a hundred for each mode before.
 fn crash_in_each<T: TestArena>(
     alloc: Global,
     call: u64,
@@ -574,6 +575,7 @@ fn row_of(call: u64, fails: bool) -> usize {
         .saturating_add(usize::from(fails))
 }
 
+/// A commit is stopped in each of these ways, and there is a crash in each mode.
 fn stop_anywhere<T: TestArena>(alloc: Global) -> Rows {
     let mut rows = Rows::new();
     for (call, fails, wanted) in &STOPS {
@@ -636,6 +638,7 @@ fn tear_at<T: TestArena>(alloc: Global, blocks: u8, fails: bool) -> Rows {
     }
 }
 
+/// A crash leaves each of the 16 choices of the directory's four blocks. Where the write fails a row is 100 more.
 fn tear_each<T: TestArena>(alloc: Global) -> Rows {
     let mut rows = Rows::new();
     for blocks in 0..16u8 {
@@ -721,6 +724,7 @@ fn is_faulty<T: TestArena>(alloc: Global, failing: u64) -> bool {
     }
 }
 
+/// The arena isn't mounted where one of the calls fails by which that is done. A row is the call.
 fn fail_each<T: TestArena>(alloc: Global) -> Rows {
     let mut rows = Rows::new();
     for call in 3..6u8 {
@@ -981,16 +985,27 @@ fn an_arena_moves_to_another(rt: HostRuntime) -> Result<(), Fail> {
 /// What a test sees.
 #[derive(Clone, Copy)]
 enum Case {
+    /// Blocks are staged and committed up to the arena's end.
     Filled,
+    /// What stands on the disk, byte for byte.
     Spelled,
+    /// A commit is stopped at each of its calls, with a crash behind it.
     Stops,
+    /// A crash tears the write of the directory.
     TornDirectory,
+    /// Each head that can't stand is refused.
     Heads,
+    /// Calls of mounting fail.
     Faults,
+    /// Damaged clumps are refused.
     Clumps,
+    /// The directory is walked back.
     Walk,
+    /// Calls of reading fail.
     Reads,
+    /// A walk refuses damaged entries.
     Entries,
+    /// An arena's room is given to itself.
     Moved,
 }
 

@@ -63,6 +63,7 @@ const NEXT_LAST: Place = Place {
     offset: 24_576 + 123 * 41,
 };
 
+/// The key of a block of this type.
 fn key_of(kind: Kind, block: &[u8]) -> Key {
     Key {
         score: Sha1Scorer.score(block),
@@ -70,6 +71,7 @@ fn key_of(kind: Kind, block: &[u8]) -> Key {
     }
 }
 
+/// The clump of a block of this type, at time 0; None where the block is too long or has no bytes.
 fn packed(alloc: Global, kind: Kind, block: &[u8]) -> Option<Packed> {
     if block.is_empty() || block.len() > 57_344 {
         return None;
@@ -363,6 +365,7 @@ fn an_arena_is_filled(rt: HostRuntime) -> Result<(), Fail> {
 /// Two arenas have room for 248, which are there when they are mounted again.
 const FILLS: [Act<'static>; 2] = [Act::Fill(248, NEXT_LAST), Act::Commit];
 
+/// What is there then.
 const FILLED: [Act<'static>; 8] = [
     Act::Counts(248, 248),
     Act::Head(0, true, 124),
@@ -382,7 +385,8 @@ fn two_arenas_are_filled(rt: HostRuntime) -> Result<(), Fail> {
 
 // ---- crashes and calls that fail
 
-/// What fills an arena up behind `abc`, but for less than a block.
+/// What fills an arena up behind `abc`, to its last byte: each of both takes 63 bytes besides its own, for the clump's
+/// header and the entry in the directory.
 const REST: [u8; 8_063] = [7; 8_192 - 66 - 63];
 
 /// A crash behind so many calls of two commits of one block each, behind `abc`. The first of them
@@ -412,6 +416,7 @@ fn crash_in<T: TestLog>(alloc: Global, mode: CrashMode, first: usize, rows: &mut
     }
 }
 
+/// There is a crash in each mode behind each count of calls. A row is a hundred for each mode, and the count.
 fn crash_in_each<T: TestLog>(alloc: Global) -> Rows {
     let mut rows = Rows::new();
     for (number, mode) in CrashMode::ALL.iter().enumerate() {
@@ -439,6 +444,7 @@ fn fail_at<T: TestLog>(alloc: Global, call: u64) -> Rows {
     run::<T>(alloc, ONE, &[FIRST_CALL.saturating_add(call)], &acts)
 }
 
+/// Each of a commit's six calls fails.
 fn fail_at_each<T: TestLog>(alloc: Global) -> Rows {
     let mut rows = Rows::new();
     for row in 0..6u8 {
@@ -482,6 +488,7 @@ fn refusal<T: TestLog>(alloc: Global, name: &[u8], failing: u64) -> Option<LogBa
     }
 }
 
+/// Why two partitions of one name are refused.
 const NAMESAKES: LogBad = LogBad::Part(PartBad::DuplicateName {
     first: 0,
     second: 1,
@@ -522,6 +529,7 @@ fn drawn(state: &mut u64) -> u64 {
 /// What is drawn before a block is written and one is read.
 #[derive(Drop)]
 struct Turn {
+    /// Of the block that is written.
     kind: Kind,
     block: Vec<u8>,
     /// How many calls of commits are made between both.
@@ -562,6 +570,7 @@ fn all_drawn(alloc: Global) -> Option<Vec<Turn>> {
 struct Sides<T: TestLog> {
     log: T,
     plain: PlainStore<Sha1Scorer>,
+    /// In the order in which they were taken, which is that of the log.
     taken: Vec<(Info, usize)>,
     refused: u64,
 }
@@ -696,6 +705,7 @@ fn new_sides<T: TestLog>(alloc: Global) -> Option<Sides<T>> {
     }
 }
 
+/// Both do what is drawn, and then have the same blocks.
 fn side_by_side<T: TestLog>(alloc: Global) -> Rows {
     let Some(mut sides) = new_sides::<T>(alloc) else {
         return Rows::wrong("a log and a plain store are there");
@@ -717,13 +727,21 @@ fn the_log_and_the_plain_store_agree(rt: HostRuntime) -> Result<(), Fail> {
 /// What a test sees.
 #[derive(Clone, Copy)]
 enum Case {
+    /// A block is queued, committed and read.
     Committed,
+    /// An arena is filled to its end.
     Arena,
+    /// Two arenas are filled, and mounted again.
     TwoArenas,
+    /// There are crashes behind each call of two commits.
     Crashes,
+    /// Calls of a commit fail.
     Faults,
+    /// Calls of reading fail once.
     ReadAgain,
+    /// What is no log is refused.
     Refusals,
+    /// A log and a plain store do the same.
     Sides,
 }
 

@@ -27,6 +27,7 @@ pub struct Told {
     pub durable: u64,
     /// How many calls of commits are left at most.
     pub owed: u64,
+    /// Whether the queue takes no block before a commit.
     pub is_full: bool,
 }
 
@@ -245,6 +246,7 @@ fn opened_pair<D: Disk + Drop, S: TestScorer>(
 
 // ---- calls that count their steps
 
+/// Reads a block, and counts the steps on a ledger of its own.
 fn read<D: Disk, S: Scorer, L: Ledger>(
     alloc: Global,
     log: &mut Log<D, S>,
@@ -261,6 +263,7 @@ fn read<D: Disk, S: Scorer, L: Ledger>(
     log.read(alloc, place, size, key, &mut steps)
 }
 
+/// Whether a walk ends in as many steps as the log has blocks; their infos come behind these.
 fn walk_back<D: Disk, S: Scorer, L: Ledger>(
     log: &mut Log<D, S>,
     infos: &mut Vec<Info>,
@@ -297,6 +300,7 @@ fn gives_one<D: Disk, S: Scorer, L: Ledger>(
     }
 }
 
+/// Whether the first step back fails, and leaves as many blocks as there are.
 fn fails_back<D: Disk, S: Scorer, L: Ledger>(log: &mut Log<D, S>, blank: Blank) -> bool
     requires name { blank.name ≡ L.name }
     requires parts { blank.parts ≡ L.parts }

@@ -30,6 +30,7 @@ pub(crate) struct Opened<D: Disk, S: Scorer> {
     /// Memory to hand the sections' devices back in.
     /// (the list that they came in, emptied, so that it takes none)
     pub(crate) room: Vec<D>,
+    /// The filter's device, if there is one, which is only handed back.
     pub(crate) filter: Option<D>,
 }
 

@@ -13,7 +13,9 @@ use vt_disk::Disk;
 // what is generic over disks promises of its disk no more than the trait does.
 #[derive(Drop)]
 pub struct MemDisk<P = Never> {
+    /// Its bytes, and what a crash may leave of them.
     cells: Cells,
+    /// Which of its calls fail, and how many were made.
     plan: P,
 }
 

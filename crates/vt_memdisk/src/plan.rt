@@ -28,12 +28,14 @@ pub trait Plan: Drop {
         ensures calls { calls self.new ≡ 0 }
         ensures faults { faults self.new ≡ faults self.old };
 
+    /// A count of failed calls is a u64.
     ghost faults_fit: { (plan : Self) → faults plan < 2 ^ 64 };
 }
 
 /// No call fails.
 #[derive(Drop)]
 pub struct Never {
+    /// How many were made since the start or the last restart.
     calls: u64,
 }
 
@@ -73,8 +75,11 @@ impl Plan for Never {
 /// The calls of a list fail.
 #[derive(Drop)]
 pub struct Listed {
+    /// Their numbers, counted from 0; none behind a restart.
     failing: Vec<u64>,
+    /// How many were made since the start or the last restart.
     calls: u64,
+    /// How many have failed, also before a restart.
     faults: u64,
     ghost in_range: { faults < 2 ^ 64 },
 }

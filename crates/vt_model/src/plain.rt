@@ -20,6 +20,7 @@ use vt_base::{Bytes, Key, Kind, MAX_BLOCK, Score, Scorer, Why};
 #[derive(Clone, Copy)]
 struct Verdict {
     score: Score,
+    /// The arena's number; None where the block is held already, or has no bytes.
     arena: Option<usize>,
 }
 
@@ -29,7 +30,9 @@ struct Verdict {
 #[derive(Drop)]
 pub struct PlainStore<S: Scorer> {
     scorer: S,
+    /// The arenas and the sections, which say for what there is room.
     layout: Layout,
+    /// What was accepted, in that order.
     blocks: Vec<Stored>,
 }
 

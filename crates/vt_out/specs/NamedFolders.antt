@@ -9,7 +9,7 @@ use Rattle.vt_out.specs.FolderStanding.{Standing, nothing}
 abbrev pub name_of : MemFolders → List ℕ
 name_of folders = folders.name
 
--- the folder that wasn't handed out yet, and the one that is back
+-- the folder in memory until it is handed out, which it is once
 abbrev pub waiting_of : MemFolders → Option MemFolder
 waiting_of folders = waiting_in folders.place
 

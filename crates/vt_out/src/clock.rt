@@ -20,6 +20,7 @@ pub trait Clock {
 /// A clock that stands still, which contracts see as its time.
 #[derive(Clone, Copy, Debug)]
 pub struct MemClock {
+    /// In seconds since 1970.
     time: u32,
 }
 

@@ -37,5 +37,6 @@ pub trait Files {
         ensures files { (name : List ℕ) → content self.new name ≡ content self.old name }
         ensures cause { CountsFault is_fault result (faults self.old) (faults self.new) };
 
+    /// A count of failed calls is a u64.
     ghost faults_fit: { (files : Self) → faults files < 2 ^ 64 };
 }

@@ -45,7 +45,9 @@ pub trait Folder {
         ensures stays { IsTrue tells → holds self.new ≡ holds self.old }
         ensures cause { HasCause result (faults self.old) (faults self.new) };
 
+    /// Each file that it holds, at all depths, is bytes, and fewer than 2^64.
     ghost holds_bytes: { (folder : Self) → HaveBytes (holds folder) };
 
+    /// A count of failed calls is a u64.
     ghost faults_fit: { (folder : Self) → faults folder < 2 ^ 64 };
 }

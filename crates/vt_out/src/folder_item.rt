@@ -7,6 +7,7 @@ use vt_base::Text;
 /// What an item of a folder is.
 #[derive(Clone, Copy, Debug, PartialEq, Eq)]
 pub enum ItemKind {
+    /// A regular file.
     File,
     Folder,
     /// Neither, as a link or a device.
@@ -22,7 +23,9 @@ pub struct Item {
     pub mode: u32,
     /// When it was changed last, in seconds since 1970.
     pub mtime: u32,
+    /// The name of its owner or, where none is known, the digits of its number.
     pub uid: Text,
+    /// The name of its group, or such digits.
     pub gid: Text,
 }
 
@@ -34,7 +37,9 @@ pub struct Facts {
     pub mode: u32,
     /// When it was changed last, in seconds since 1970.
     pub mtime: u32,
+    /// The name of its owner.
     pub uid: Text,
+    /// The name of its group.
     pub gid: Text,
 }
 
@@ -60,6 +65,7 @@ impl Facts {
 /// The items of a folder, which contracts see as a list.
 #[derive(Drop)]
 pub struct Listing {
+    /// In the host's order.
     items: Vec<Item>,
 }
 

@@ -46,5 +46,6 @@ pub trait Folders {
         ensures faults { faults self.new
             ≡ min (faults self.old + Self.Folder.faults folder) (2 ^ 64 - 1) };
 
+    /// A count of failed calls is a u64.
     ghost faults_fit: { (folders : Self) → faults folders < 2 ^ 64 };
 }

@@ -63,9 +63,12 @@ pub trait Link {
         ensures left { IsTrue tells → left self.new ≡ left self.old }
         ensures read_faults { read_faults self.new ≡ read_faults self.old };
 
+    /// What is left to come in is bytes: numbers below 256.
     ghost left_bytes: { (link : Self) → AreBytes (left link) };
 
+    /// Each of the two counts of failed calls is a u64.
     ghost read_faults_fit: { (link : Self) → read_faults link < 2 ^ 64 };
 
+    /// So is the other one.
     ghost write_faults_fit: { (link : Self) → write_faults link < 2 ^ 64 };
 }

@@ -18,7 +18,9 @@ pub struct MemFile {
 /// Gives the content of stated files. Its calls are counted from 0.
 #[derive(Drop)]
 pub struct MemFiles {
+    /// Of two of one name, the first is read.
     files: Vec<MemFile>,
+    /// Which calls fail.
     plan: Plan,
 }
 

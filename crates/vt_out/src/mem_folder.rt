@@ -38,7 +38,9 @@ impl MemContent {
 /// An item of a folder in memory.
 #[derive(Drop)]
 pub enum MemItem {
+    /// A file with its bytes.
     File(Facts, MemContent),
+    /// A folder with what is in it.
     Folder(Facts, Vec<MemItem>),
     /// Neither, as a link or a device.
     Other(Facts),
@@ -52,7 +54,9 @@ pub struct MemFolder {
     most: usize,
     /// The numbers of the calls that fail.
     failing: Vec<u64>,
+    /// How many calls were made, of `list` and `read` together.
     calls: u64,
+    /// How many of them have failed.
     faults: u64,
     ghost faults_fit: { faults < 2 ^ 64 },
 }

@@ -13,8 +13,11 @@ use vt_base::Text;
 /// One folder in memory, which is handed out once.
 #[derive(Drop)]
 pub struct MemFolders {
+    /// The one name under which it is handed out.
     name: Text,
+    /// Whether it waits to be handed out, is in use or is back.
     place: Place,
+    /// How many calls have failed, those of the folder among them once it is back.
     faults: u64,
     ghost fresh: { ForSome (waiting_in place) (λ folder. (state_of folder).faults ≡ 0) },
     ghost faults_fit: { faults < 2 ^ 64 },

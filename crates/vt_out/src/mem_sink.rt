@@ -10,9 +10,11 @@ use vt_base::Failed;
 /// Keeps what is written, up to a stated number of bytes. Its calls are counted from 0.
 #[derive(Drop)]
 pub struct MemSink {
+    /// What was written so far.
     content: Vec<u8>,
     /// The most bytes that it takes in all.
     room: usize,
+    /// Which calls fail.
     plan: Plan,
     ghost content_fits: { length content.items ≤ room },
     ghost room_made: { room ≤ vec_capacity content },

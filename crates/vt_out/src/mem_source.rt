@@ -12,11 +12,13 @@ use vt_base::Failed;
 /// Gives stated bytes, in pieces of stated lengths. Its calls are counted from 0.
 #[derive(Drop)]
 pub struct MemSource {
+    /// All of its bytes, those that were given among them.
     content: Vec<u8>,
     /// How many bytes were given.
     given: usize,
     /// The most bytes that each call gives, in turn; no bound where there are none.
     pieces: Vec<usize>,
+    /// Which calls fail.
     plan: Plan,
     ghost given_fits: { given ≤ length content.items },
     ghost content_fits: { AreBytes content.items },

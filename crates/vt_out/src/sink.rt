@@ -25,5 +25,6 @@ pub trait Sink {
             AppendsPrefix (written self.old) (written self.new) piece.now) }
         ensures cause { HasCause result (faults self.old) (faults self.new) };
 
+    /// A count of failed calls is a u64.
     ghost faults_fit: { (sink : Self) → faults sink < 2 ^ 64 };
 }

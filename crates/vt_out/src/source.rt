@@ -24,6 +24,7 @@ pub trait Source {
     /// What each call leaves as it was.
     ghost Kept: { Type 0 };
 
+    /// That of this source.
     ghost kept: { Self → Kept };
 
     /// Moves bytes to the front of the buffer, and says how many. 0 is the end of input, where the
@@ -45,7 +46,9 @@ pub trait Source {
         ensures cause { HasCause result (faults self.old) (faults self.new) }
         ensures keeps { kept self.new ≡ kept self.old };
 
+    /// What is left is bytes: numbers below 256.
     ghost left_bytes: { (source : Self) → AreBytes (left source) };
 
+    /// A count of failed calls is a u64.
     ghost faults_fit: { (source : Self) → faults source < 2 ^ 64 };
 }

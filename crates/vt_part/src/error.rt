@@ -6,8 +6,11 @@ use vt_base::Failed;
 /// A field of block 0 that is tested.
 #[derive(Clone, Copy, Debug, PartialEq, Eq)]
 pub enum Field {
+    /// The version of the format, which is 1.
     Version,
+    /// How many bytes each arena has.
     ArenaSize,
+    /// How many arenas there are: 1 at least.
     Count,
 }
 
@@ -16,6 +19,7 @@ pub enum Field {
 pub enum PartBad {
     /// A call of the disk failed, and its count of faults rose.
     Fault,
+    /// The disk ends before block 0 or its arenas; where it is formatted, before one arena would.
     TooSmall { len: u64, need: u64 },
     /// The first four bytes aren't `VPRT`.
     NotFormatted,

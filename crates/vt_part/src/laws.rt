@@ -1,4 +1,6 @@
-//! Laws of partitions.
+//! Laws of partitions, each the contract of a function that does nothing: what the layers above lean on
+//! where they work on the arenas, behind the block of the table. `t` is a table, `c` a file that a crash
+//! may leave of the disk.
 
 ghost use Rattle.std.specs.Prelude.{◌≤◌, ℕ, List};
 ghost use Rattle.vt_disk.specs.Disk.{ChangesAt};

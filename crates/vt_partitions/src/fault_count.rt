@@ -5,6 +5,7 @@ ghost use Rattle.std.specs.Prelude.{◌<◌, ◌^◌};
 /// How many calls have failed.
 #[derive(Drop)]
 pub struct Faults {
+    /// It stays at the greatest u64.
     pub count: u64,
     ghost fits: { count < 2 ^ 64 },
 }

@@ -1,4 +1,6 @@
-//! Laws of partitions that are handed out by name.
+//! Laws of partitions that are handed out by name, each the contract of a function that does nothing. In each,
+//! `found` is what is handed out, `grow_to` or `least` the length that it is to have at least, and `old` what stood
+//! under the name.
 
 ghost use Rattle.std.specs.Prelude.{◌≡◌, ◌≤◌, ℕ, Option, Some, None, length, take, replicate, unwrap_or};
 ghost use Rattle.vt_disk.specs.Disk.{Only};

@@ -17,6 +17,7 @@ pub trait MakesDisks<D: Disk> {
 /// Makes disks in memory, of each of which the calls with these numbers fail.
 #[derive(Drop)]
 pub struct Failing<A: Allocator> {
+    /// Their numbers on each disk, on which reads, writes and syncs are numbered together, from 0.
     calls: Vec<u64, A>,
 }
 

@@ -11,8 +11,11 @@ use vt_disk::Disk;
 /// Hands out partitions in memory, and keeps them from one run to the next.
 #[derive(Drop)]
 pub struct MemParts<D, M> {
+    /// In the order in which they came; of two of one name, the first is handed out.
     parts: Vec<MemPart<D>>,
+    /// What makes the disk of a partition that isn't there, or has to be longer.
     maker: M,
+    /// Failed calls of `part`.
     faults: Faults,
 }
 

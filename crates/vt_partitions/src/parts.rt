@@ -53,5 +53,6 @@ pub trait Parts {
             → standing self.new other ≡ standing self.old other }
         ensures faults { faults self.new ≡ faults self.old };
 
+    /// A count of failed calls is a u64.
     ghost faults_fit: { (parts : Self) → faults parts < 2 ^ 64 };
 }

@@ -18,7 +18,7 @@ use Rattle.vt_model.specs.Legal.{HasOtherKey}
 use Rattle.vt_model.specs.Places.{Setup, bucket_count, crowd, first_bucket}
 use Rattle.vt_rebuild.specs.Heads.{IsSameSection, StopsAtHead, head_in}
 
--- how many buckets each section has, and the store of a log and these sections
+-- how many buckets each section has
 abbrev pub counts_of : {D : Type 0} → List (SectionState D) → List ℕ
 counts_of sections = map (λ section. section.buckets) sections
 

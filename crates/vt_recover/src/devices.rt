@@ -12,8 +12,11 @@ use vt_shard::Shard;
 /// that of the Bloom filter, if there is one.
 #[derive(Drop)]
 pub struct Devices<D> {
+    /// The parts of the store from 0 on, in the order of the configuration.
     pub parts: Vec<Part<D>>,
+    /// The parts behind these, in the same order.
     pub sections: Vec<D>,
+    /// The last part.
     pub filter: Option<D>,
 }
 

@@ -9,6 +9,7 @@ use std::marker::Model;
 /// Knuth's multiplier of MMIX).
 #[derive(Drop)]
 pub struct Draws {
+    /// The last number of the sequence, all of its 64 bits; at first the seed.
     x: u64,
 }
 

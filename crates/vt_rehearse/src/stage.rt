@@ -30,6 +30,7 @@ pub(crate) struct Stage<D: Disk, S: Scorer> {
     pub(crate) core: Core<D, S>,
     /// The numbers of the words that were accepted, in order.
     pub(crate) listed: Vec<u32>,
+    /// What was counted so far. `step` counts its event, `step_apart` doesn't.
     pub(crate) summary: Summary,
 }
 

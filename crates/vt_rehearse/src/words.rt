@@ -15,6 +15,7 @@ pub const DATA: u8 = 13;
 #[derive(Drop)]
 pub struct Word {
     bytes: [u8; 200],
+    /// How many of these bytes are the block's, from 1 to 200.
     len: usize,
 }
 

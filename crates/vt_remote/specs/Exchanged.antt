@@ -32,7 +32,8 @@ pub record Exchanged (calls : List (TMessage × RMessage)) (back : Traffic) : Ty
   pub goodbye : (n : ℕ)
       × MovesBytes last back (take n (asked ((1 + length calls) % 256) t_goodbye)) []
 
--- the request of a call that was answered, and its reply: a block that is taken in has its own score
+-- Of calls of which none was refused: the request of each, and its reply, where a block that is taken
+-- in has its own score. What stands for a refused call is never said.
 abbrev pub exchange_of : (score_of : List ℕ → List ℕ) → Call → TMessage × RMessage
 exchange_of score_of (get kind s (Ok bytes)) = (t_ask (read s kind MAX_BLOCK), r_read bytes)
 exchange_of score_of (get kind s (Err err)) = (t_ask (read s kind MAX_BLOCK), r_error [])

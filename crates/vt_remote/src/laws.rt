@@ -1,4 +1,7 @@
-//! What went over the link to a server, and why it didn't answer.
+//! What went over the link to a server, and why it didn't answer: each law the contract of a function that does
+//! nothing. In each, `calls` are those of a store of blocks that were made of the client, `met` and `last` the client
+//! behind the greeting and behind these calls, `back` its link when it was taken back, and `score_of` any function of
+//! a block's bytes.
 
 ghost use Rattle.std.specs.Prelude.{◌≡◌, ℕ, IsTrue, List, [], map};
 ghost use Rattle.vt_client.specs.declared.error.ClientErr.{ClientErr};

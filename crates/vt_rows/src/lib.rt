@@ -6,6 +6,7 @@ use std::test::Fail;
 /// The rows that a test compared: the first of them that didn't hold.
 #[derive(Clone, Copy)]
 pub struct Rows {
+    /// None where each row held so far.
     wrong: Option<RowError>,
 }
 
@@ -13,10 +14,12 @@ pub struct Rows {
 #[derive(Clone, Copy, Debug)]
 pub struct RowError {
     pub what: &'static str,
+    /// 0 where the comparison isn't one of a table.
     pub row: usize,
 }
 
 impl Rows {
+    /// No row was compared yet.
     pub fn new() -> Rows {
         Rows { wrong: None }
     }

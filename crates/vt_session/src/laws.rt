@@ -1,4 +1,7 @@
-//! Laws of sessions.
+//! Laws of sessions, each the contract of a function that does nothing: what the layers above lean on where a
+//! session goes on, is cut or joined to another. `score` is any function of a block's bytes, `c` what the store was
+//! opened with, and `h` the history that answers. An operation is answered by the first n blocks of that, which is
+//! its number: those of a talk lie between `n0` and `n1`, and never fall.
 
 ghost use Rattle.std.specs.Prelude.{◌≡◌, ◌≢◌, ℕ, Some, None, List, [], ◌∷◌, ◌++◌, length, take};
 ghost use Rattle.std.specs.Prelude.{◌≤◌, ◌<◌, ◌^◌, ◌↔◌, map, slice_get, slice_index, All};

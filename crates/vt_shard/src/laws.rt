@@ -1,4 +1,7 @@
-//! What the layers above lean on between the calls of a shard.
+//! What the layers above lean on between the calls of a shard, each law the contract of a function that does
+//! nothing. In each, `t` is a shard as contracts see it, `h` the history that the store has accepted, `durable` how
+//! many of its blocks are on the log's disks, and `from` how many of the first may still lack their entries, as while
+//! a log is read back. `score` is any function of a block's bytes, `c` the setup by which scores have their buckets.
 
 ghost use Rattle.std.specs.Prelude.{◌≡◌, ◌≤◌, ◌+◌, ◌++◌, ◌∷◌, [], ℕ, List, length, take};
 ghost use Rattle.std.specs.List.{AllPairs};

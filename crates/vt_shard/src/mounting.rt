@@ -19,10 +19,12 @@ use vt_icache::IndexCache;
 use vt_isect::Section;
 use vt_lumps::Lumps;
 
-/// How much a shard keeps in memory at most: so many blocks, and so many clean index entries.
+/// How much a shard keeps in memory at most, beside its dirty index entries.
 #[derive(Clone, Copy, Debug, PartialEq, Eq)]
 pub struct Sizes {
+    /// How many blocks, which Venti calls lumps where they are in memory (`vt_lumps`).
     pub lumps: u32,
+    /// How many index entries that are in their buckets on the disk as well.
     pub clean: u32,
 }
 

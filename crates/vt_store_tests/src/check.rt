@@ -42,6 +42,7 @@ trait TestLog: Drop {
     /// Appends a block, and says whether it is taken. It isn't where the queue is full.
     fn append(&mut self, alloc: Global, block: &[u8; 3]) -> bool;
 
+    /// Whether the queue takes no block before a commit.
     fn is_full(&self) -> bool;
 
     /// Commits what is queued, and says whether no call fails.
@@ -89,6 +90,7 @@ impl<D: Disk + Drop> TestLog for Log<D, Sha1Scorer> {
     }
 }
 
+/// The partition of a disk, if it can be mounted and has 100 arenas at most.
 fn mounted_part<D: Disk + Drop>(disk: D) -> Option<Part<D>>
     ensures { IfSome result (λ part. (arenas_end (table_of part) ≤ D.size (disk_of part))
         × ((table_of part).count ≤ 100)) }
@@ -246,6 +248,7 @@ enum First {
     Scores([u8; 3], [u8; 3]),
 }
 
+/// The same, as a report tells it.
 fn damage_of(first: First) -> Option<Damage> {
     match first {
         First::Sound => None,

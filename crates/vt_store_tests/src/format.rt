@@ -15,15 +15,20 @@ use vt_rows::Rows;
 /// What a number on the command line is.
 #[derive(Clone, Copy)]
 enum Number {
+    /// The bytes of a partition.
     Len,
+    /// Those of an arena.
     ArenaSize,
+    /// Those of a filter.
     FilterSize,
+    /// How many bits of a filter a score has.
     Positions,
 }
 
 /// Words and the numbers that they are, or the places where they are bad.
 type Wanted<'a> = &'a [(&'a [u8], Result<u64, usize>)];
 
+/// Such words, of each number.
 const LENGTHS: [(&[u8], Result<u64, usize>); 5] = [
     (b"0", Ok(0)),
     (b"41471", Ok(41_471)),
@@ -57,6 +62,7 @@ const POSITIONS: [(&[u8], Result<u64, usize>); 5] = [
     (b"x", Err(0)),
 ];
 
+/// What a row says of a number, the number, and its words.
 const NUMBERS: [(&str, Number, Wanted<'static>); 4] = [
     ("a length", Number::Len, &LENGTHS),
     ("an arena's size", Number::ArenaSize, &ARENA_SIZES),
@@ -81,6 +87,7 @@ fn parsed(word: Number, text: &[u8]) -> Result<u64, usize> {
     }
 }
 
+/// Notes whether each of these words is taken for what it is.
 fn numbers(rows: &mut Rows, what: &'static str, word: Number, words: Wanted<'_>) {
     for (row, (text, wanted)) in words.iter().enumerate() {
         rows.nth(row, what, parsed(word, text) == *wanted);
@@ -114,6 +121,7 @@ fn name(text: &[u8]) -> Result<(), usize> {
     }
 }
 
+/// Notes whether each of `NAMES` is taken for what it is.
 fn names(rows: &mut Rows) {
     for (row, (text, wanted)) in NAMES.iter().enumerate() {
         rows.nth(row, "a name", name(text) == *wanted);
@@ -215,7 +223,7 @@ const MADE: [Making<'static>; 5] = [
     ("filter b", Form::Filter, b"b", b"", 0, Ok(0)),
 ];
 
-/// An index is put to use, or refused for what is found first.
+/// A configuration, and what its index then is, or what it is refused for, which is found first.
 const CASES: [(&[u8], Result<Index, IndexError>); 10] = [
     (
         b"arenas a\nisect i\nisect j\nbloom b\n",
@@ -272,6 +280,7 @@ const CASES: [(&[u8], Result<Index, IndexError>); 10] = [
     ),
 ];
 
+/// Makes all partitions, and puts the sections of each configuration to use.
 fn indexes<P: Parts>(to: &mut Made<P>, rows: &mut Rows) {
     make_all(to, &MADE, rows);
     for (row, (conf, answer)) in CASES.iter().enumerate() {

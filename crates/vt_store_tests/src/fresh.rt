@@ -11,6 +11,7 @@ use vt_empty::{Shape, fresh_store};
 use vt_rows::Rows;
 use vt_shard::Sizes;
 
+/// What a shard keeps in memory: four blocks, and 64 clean entries.
 const SIZES: Sizes = Sizes {
     lumps: 4,
     clean: 64,
@@ -68,6 +69,7 @@ fn write<D: Disk, S: Scorer>(alloc: Global, core: &mut Core<D, S>) -> Option<Sco
     }
 }
 
+/// Whether that block is read by this score.
 fn is_held<D: Disk, S: Scorer>(alloc: Global, core: &mut Core<D, S>, score: Score) -> bool {
     let operation = Operation::Read {
         score,

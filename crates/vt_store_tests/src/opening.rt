@@ -37,6 +37,7 @@ impl<P: Parts> Made<P> {
     }
 }
 
+/// What is made before a configuration is opened.
 const MADE: [Making<'static>; 6] = [
     ("arenas a", Form::Arenas, b"a", b"a", 40_960, Ok(1)),
     ("arenas c", Form::Arenas, b"c", b"c", 40_960, Ok(1)),
@@ -46,7 +47,7 @@ const MADE: [Making<'static>; 6] = [
     ("filter b", Form::Filter, b"b", b"", 0, Ok(0)),
 ];
 
-/// What is told, and what isn't there or isn't in use.
+/// A configuration, and how many blocks its store has; or what isn't there or isn't in use.
 const CASES: [(&[u8], Result<u64, OpenError>); 10] = [
     (ALL, Ok(0)),
     (b"arenas x\nisect i\n", Err(OpenError::Missing { part: 0 })),
@@ -114,6 +115,7 @@ fn stores_are_opened(rt: HostRuntime) -> Result<(), Fail> {
 
 // ---- calls that fail
 
+/// What opening answers where a call fails.
 const FAULT: Result<u64, OpenError> = Err(OpenError::Refused(MountBad::Fault));
 
 /// The section's disk has 32 calls when it is put to use, and three more open it. Behind the one
@@ -139,6 +141,7 @@ fn calls_fail_in_turn(rt: HostRuntime) -> Result<(), Fail> {
     rows.passes()
 }
 
+/// The section's disk fails in this call, and then no more. A row is the call.
 fn fail_in(alloc: Global, call: u64, rows: &mut Rows) {
     match failing(alloc, b"i", 41_472, call) {
         Some(mut to) => fails_and_opens(&mut to, call as usize, rows),
@@ -162,6 +165,7 @@ fn state_behind<P: Parts>(to: &mut Made<P>) -> Result<u128, &'static str> {
     }
 }
 
+/// Notes whether the state is this one where this call fails. A row is the call.
 fn see_state(alloc: Global, call: u64, wanted: u128, rows: &mut Rows) {
     let state = match failing(alloc, b"i", 41_472, call) {
         Some(mut to) => state_behind(&mut to),

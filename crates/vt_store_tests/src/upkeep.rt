@@ -283,6 +283,7 @@ fn does<P: TestParts>(rt: &(impl Threads + Sync), store: &mut Made<P>, act: &Act
     }
 }
 
+/// Does each of these, and notes whether it comes to what is wanted.
 fn do_all<P: TestParts>(
     rt: &(impl Threads + Sync),
     store: &mut Made<P>,
@@ -445,7 +446,9 @@ fn see_stopped<P: TestParts>(
 /// What a test sees.
 #[derive(Clone, Copy)]
 enum Case<'a> {
+    /// Sections are lost, and rebuilt.
     Lost,
+    /// A block on the arenas is damaged.
     Damaged,
     /// The calls of a partition fail in turn, and leave these letters.
     Stopped(&'a [u8], &'a str),

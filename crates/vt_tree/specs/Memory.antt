@@ -170,7 +170,8 @@ pub record RefusesInMemory (m m' : BlocksMemory) (text : List ℕ) (cause : Type
   pub just : IsBlockRefusal err → cause
   pub left : m' ≡ record m { counts = with_refusal (Some err) m.counts }
 
--- the block of a key was given, and noted
+-- The block of a key was given, and noted. Or no block is held by the key, which is told, or memory is
+-- short for telling it; either is counted, and nothing else changes.
 abbrev pub GivesInMemory : (score_of : List ℕ → List ℕ) → (m m' : BlocksMemory) → Key
     → Result (List ℕ) BlockErr → Type 0
 GivesInMemory score_of m m' k (Ok bytes) =
@@ -179,7 +180,8 @@ GivesInMemory score_of m m' k (Ok bytes) =
 GivesInMemory score_of m m' k (Err err) =
     RefusesInMemory m m' (why_words Absent) (held_in score_of m k.score.0 k.kind ≡ None) err
 
--- a block was taken in, and noted
+-- A block was taken in, and noted. Or its score is that of other bytes that are held, or of no bytes, which
+-- is told, or memory is short for telling it; either is counted, and nothing else changes.
 abbrev pub TakesInMemory : (score_of : List ℕ → List ℕ) → (m m' : BlocksMemory) → Block
     → Result Score BlockErr → Type 0
 TakesInMemory score_of m m' b (Ok score) =

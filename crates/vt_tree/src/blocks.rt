@@ -54,6 +54,7 @@ pub trait Blocks: Scorer {
     /// No more is synced than is held.
     ghost synced_is_held: { (s : Self) (m : Maps) → holds s m → IsWithin m.synced m.held };
 
+    /// Each block is under its own score, one score has one content, and the zero score none.
     ghost write_once: { (s : Self) (m : Maps) → holds s m → IsWriteOnce Self.score_of m.held };
 
     /// Each failed call counts, and each refused one, and no other.

@@ -22,6 +22,7 @@ pub struct Entry {
     pub dsize: u16,
     /// An entry that isn't active is an empty file.
     pub active: bool,
+    /// Whether it is a directory, whose leaves are entries of 40 bytes.
     pub is_dir: bool,
     /// How many pointer blocks stand above each leaf, at most 7.
     pub depth: u8,
@@ -34,8 +35,11 @@ pub struct Entry {
 /// A field of an entry that is tested.
 #[derive(Clone, Copy, Debug, PartialEq, Eq)]
 pub enum EntryField {
+    /// The size of pointer blocks: of an active entry 20 at least.
     PSize,
+    /// The size of leaves: of an active entry 1 at least, and 40 of a directory.
     DSize,
+    /// The byte of flags, in which 0x40 has to be clear.
     Flags,
 }
 

@@ -1,5 +1,6 @@
 //! Laws of entries, roots, calls and content, each the contract of a function that does nothing.
-//! Those that no code calls check the definitions.
+//! Those that no code calls check the definitions. In each, `score_of` is any function of a block's
+//! bytes, `m` which maps a store of blocks holds, and `map` one map of blocks.
 
 ghost use Rattle.std.specs.Prelude.{◌≡◌, ◌↔◌, ◌+◌, ◌*◌, ◌<◌, ◌≤◌, ◌^◌, ◌/◌, ◌%◌, ℕ, List, Some, Ok};
 ghost use Rattle.std.specs.Prelude.{[], length, map, take, drop, slice_index};

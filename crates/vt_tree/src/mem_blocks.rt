@@ -1,4 +1,5 @@
-//! A store of blocks in memory.
+//! A store of blocks in memory, in which tests keep archives; the store `:memory:` of the program is another one, a
+//! whole store on disks in memory.
 
 ghost use Rattle.std.specs.Prelude.{◌≡◌, ◌==◌, ◌&&◌, not, find};
 ghost use Rattle.std.specs.List.{list_any};
@@ -22,6 +23,7 @@ pub struct Stored {
 #[derive(Drop)]
 pub struct MemBlocks<S: Scorer> {
     scorer: S,
+    /// In the order in which they were put, each once.
     kept: Vec<Stored>,
     /// How many of the first blocks were there at the last sync.
     synced: usize,
@@ -29,8 +31,11 @@ pub struct MemBlocks<S: Scorer> {
     failing: Vec<u64>,
     /// The numbers of the calls that are refused.
     refusing: Vec<u64>,
+    /// How many calls were made.
     calls: u64,
+    /// How many of them have failed.
     faults: u64,
+    /// How many were refused for a reason other than want of memory.
     refusals: u64,
     /// The keys of the blocks that were given, in order.
     gets: Vec<Key>,
@@ -196,8 +201,11 @@ fn has_other_bytes(blocks: &[Stored], score: &Score, bytes: &[u8]) -> bool
 /// What is to become of a call.
 #[derive(Clone, Copy)]
 enum Fate {
+    /// It is answered with a fault.
     Fails,
+    /// It is refused, whatever is kept.
     IsRefused,
+    /// It is answered by what is kept.
     GoesOn,
 }
 

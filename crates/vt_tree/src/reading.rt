@@ -63,7 +63,9 @@ pub fn read_range<B: Blocks>(
 #[derive(Clone, Copy)]
 struct Walk<'a> {
     alloc: Global,
+    /// That of the file.
     entry: &'a Entry,
+    /// The zero score, below which all bytes are zeros.
     zero: Score,
 }
 

@@ -13,6 +13,7 @@ pub const ROOT_LEN: usize = 300;
 /// The root of a tree (venti(6)). Zero bytes fill up its name and its type.
 #[derive(Clone, Copy, Debug, PartialEq, Eq)]
 pub struct Root {
+    /// The tree's name, which this program doesn't look at.
     pub name: [u8; 128],
     /// What the tree is, as `vac` of an archive.
     pub kind: [u8; 128],
@@ -27,7 +28,9 @@ pub struct Root {
 /// What is tested of a root: how many bytes it has, and its version.
 #[derive(Clone, Copy, Debug, PartialEq, Eq)]
 pub enum RootError {
+    /// It hasn't 300 bytes.
     Length,
+    /// It isn't 2.
     Version,
 }
 

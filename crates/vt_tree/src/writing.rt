@@ -171,6 +171,7 @@ struct Cut {
     /// The most bytes of a pointer block, and below it of a leaf.
     psize: u16,
     dsize: u16,
+    /// Whether it is the stream of a directory.
     is_dir: bool,
     zero: Score,
 }

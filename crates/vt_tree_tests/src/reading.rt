@@ -51,6 +51,7 @@ enum Told {
     BadEntry,
     Absent,
     TooLong,
+    /// Any other refusal: no row wants it.
     Other,
 }
 
@@ -72,6 +73,7 @@ fn listed_as<B: Blocks>(alloc: Global, blocks: &mut B, folder: &Node) -> Told
     }
 }
 
+/// What this refusal is told as.
 fn broken(bad: &VacBad) -> Told {
     match bad {
         VacBad::Root { field } => Told::Root(*field),

@@ -7,6 +7,7 @@ use vt_out::{MemSource, Source};
 use vt_rows::Rows;
 use vt_tree::{BlockErr, Blocks, Entry, MemBlocks, TreeErr, read_range, write_stream};
 
+/// The score of no bytes, by SHA-1.
 const ZERO: Score = Score(
     *b"\xda\x39\xa3\xee\x5e\x6b\x4b\x0d\x32\x55\xbf\xef\x95\x60\x18\x90\xaf\xd8\x07\x09",
 );
@@ -31,10 +32,15 @@ fn some_bytes(alloc: Global, len: u32, hole: bool) -> Result<Vec<u8>, Fail> {
 /// What writing a stream came to.
 #[derive(Clone, Copy, PartialEq, Eq)]
 enum Came {
+    /// The stream is there, under this entry.
     Written(Entry),
+    /// A call of the store failed.
     Fault,
+    /// The store said no.
     Refused,
+    /// A call of the source failed.
     SourceFault,
+    /// Anything else: no row wants it.
     Other,
 }
 
@@ -56,6 +62,7 @@ fn write<B: Blocks, R: Source>(
     }
 }
 
+/// What this refusal is told as.
 fn unwritten(bad: &TreeErr) -> Came {
     match bad {
         TreeErr::Block(BlockErr::Fault) => Came::Fault,
@@ -268,6 +275,7 @@ fn streams_are_given_up_where_a_source_fails(rt: HostRuntime) -> Result<(), Fail
 /// Gives zeros.
 #[derive(Drop)]
 struct Zeros {
+    /// How many are still to come.
     left: u64,
 }
 

@@ -10,6 +10,7 @@ use vt_tree::{
     TreeErr, byte_at, content, read_range,
 };
 
+/// The score of no bytes, by SHA-1.
 const ZERO: Score = Score(
     *b"\xda\x39\xa3\xee\x5e\x6b\x4b\x0d\x32\x55\xbf\xef\x95\x60\x18\x90\xaf\xd8\x07\x09",
 );
@@ -105,11 +106,15 @@ fn roots_are_300_bytes_of_version_2(rt: HostRuntime) -> Result<(), Fail> {
 enum Came {
     /// To what was wanted.
     Well,
+    /// The call failed.
     Fault,
+    /// The store said no.
     Refused,
+    /// Anything else: no row wants it.
     Other,
 }
 
+/// What this refusal is told as.
 fn failed(bad: &BlockErr) -> Came {
     match bad {
         BlockErr::Fault => Came::Fault,
@@ -127,6 +132,7 @@ fn gets<B: Blocks>(alloc: Global, blocks: &mut B, score: &Score, wanted: &[u8]) 
     }
 }
 
+/// What a sync came to.
 fn syncs<B: Blocks>(alloc: Global, blocks: &mut B) -> Came {
     match blocks.sync(alloc) {
         Ok(()) => Came::Well,
@@ -287,9 +293,13 @@ enum Told {
     Bytes,
     /// To a block of this depth and length that can't stand there.
     BadBlock(u8, usize),
+    /// To a file of more than 2^40 bytes.
     TooLong,
+    /// To an entry that can't stand.
     BadEntry,
+    /// To a block that the store refuses.
     Refused,
+    /// To anything else, which no row wants.
     Other,
 }
 
@@ -312,6 +322,7 @@ fn reads<B: Blocks>(
     }
 }
 
+/// What this refusal is told as.
 fn unread(bad: &TreeErr) -> Told {
     match bad {
         TreeErr::BadBlock { depth, len } => Told::BadBlock(*depth, *len),

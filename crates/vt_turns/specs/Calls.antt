@@ -18,9 +18,11 @@ module _ {P B : Type 0} where
   abbrev pub part_count : Turns P B → ℕ
   part_count turns = turns.table.shared.table_id.slots
 
+  -- how many words of 64 Bloom bits are shared
   abbrev pub word_count : Turns P B → ℕ
   word_count turns = turns.table.shared.key.bit_words
 
+  -- with what the store was opened; no call changes it
   abbrev pub opening_of : Turns P B → Opening P B
   opening_of turns = turns.table.shared.key.opening.value.me.0
 

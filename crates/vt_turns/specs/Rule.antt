@@ -83,6 +83,7 @@ module _ {P B : Type 0} (M : Meaning P B) where
     -- without a share it added nothing, holds nothing and booked nothing
     pub idle : v.share ≡ 0 → (v.own ≡ []) × HoldsNone v × ((k : ℕ) → faults_of v k ≡ 0)
 
+  -- What holds of the words, the slots and all views behind each atomic step.
   pub record Rule (bit_words : ℕ) (opening : Opening P B) (s : State (Option P) (View P B))
       : Type 0 where
     -- each part as it is at home, or as its holder took, raised or booked it

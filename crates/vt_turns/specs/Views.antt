@@ -22,9 +22,11 @@ module _ {P B : Type 0} where
   abbrev pub mark_of : View P B → ℕ → ℕ
   mark_of v k = slice_index v.marks k
 
+  -- the number of the device call that stopped the part, if it knows of one
   abbrev pub stop_of : View P B → ℕ → Option ℕ
   stop_of v k = slice_index_or v.stops k None
 
+  -- by how much the counts of the part's devices rose while it held it, as far as that is booked
   abbrev pub faults_of : View P B → ℕ → ℕ
   faults_of v k = slice_index v.faults k
 
@@ -63,6 +65,7 @@ module _ {P B : Type 0} where
   abbrev pub less_one : View P B → View P B
   less_one v = record v { share = v.share - 1 }
 
+  -- The view of the pass that is split off: it knows the same, has one share, and did nothing yet.
   abbrev pub split_off : View P B → View P B
   split_off v = record v { share = 1; olds = []; own = []; faults = []; turns = []; away = 0 }
 
@@ -107,6 +110,7 @@ module _ {P B : Type 0} (M : Meaning P B) where
   front_of [] = 0
   front_of (x ∷ xs) = M.front x
 
+  -- how many blocks of it are durable
   abbrev pub durable_of : List P → ℕ
   durable_of [] = 0
   durable_of (x ∷ xs) = M.durable x
@@ -133,6 +137,7 @@ module _ {P B : Type 0} (M : Meaning P B) where
   seen_at zero history seen = history
   seen_at (suc k) history seen = seen
 
+  -- (so: of the log x as many as it says, and of another part as many as were known)
   abbrev pub stable_at : ℕ → P → ℕ → ℕ
   stable_at zero x stable = M.durable x
   stable_at (suc k) x stable = stable

@@ -53,6 +53,7 @@ fn opening_of_seat<P, B, J: Opened<P, B>>(
 
 /// What is made before a part is moved.
 struct Prepared<P, B> {
+    /// With what the store is opened, for `Fixed`.
     opening: Snapshot<Seat<(), Opening<P, B>>>,
     /// The front, a word for each part, and behind these the bits.
     words: Vec<u64>,

@@ -13,7 +13,9 @@ use std::snapshot::Snapshot;
 /// What stays as long as the store is open: how it was opened, and how many words its bits take.
 #[derive(Drop)]
 pub struct Fixed<P, B> {
+    /// With what the store was opened. Contracts read it by `opening_of`.
     pub opening: Snapshot<Seat<(), Opening<P, B>>>,
+    /// How many words of 64 Bloom bits there are.
     pub bit_words: usize,
 }
 
@@ -30,7 +32,9 @@ impl<P: Held<B>, B> TableRule<Option<P>, View<P, B>, Fixed<P, B>> for Law {
 /// the count of accepted blocks and the Bloom bits.
 #[derive(Drop)]
 pub struct Turns<P: Held<B>, B> {
+    /// Its words are the front, one for each part, and the Bloom bits; it has a slot for each part.
     pub table: Table<Option<P>, View<P, B>, Fixed<P, B>, Law, Global>,
+    /// How many parts there are, the log among them: the bits begin at the word with the number behind this.
     pub(crate) parts: usize,
     pub ghost counted: { parts ≡ table.shared.table_id.slots },
     pub ghost sized: { table.shared.table_id.words

@@ -17,6 +17,7 @@ pub struct Opening<P, B> {
 
 /// What one worker has seen, added and learnt. A list for each part is 0, or nothing, past its end.
 pub struct View<P, B> {
+    /// With what its store was opened, which is the same for each pass that has a share.
     pub opening: Opening<P, B>,
     /// How many of the 65,536 shares it has.
     pub share: u64,

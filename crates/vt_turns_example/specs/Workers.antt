@@ -44,6 +44,7 @@ module _ {L : Type 0} where
   abbrev pub own_of : End L → List ℕ
   own_of e = e.pass.value.me.0.own
 
+  -- (those of the first worker come first)
   abbrev pub owns : List (End L) → List ℕ
   owns [] = []
   owns (e ∷ es) = own_of e ++ owns es

@@ -37,6 +37,7 @@ pub enum Said {
 pub struct Line {
     pub ask: Ask,
     pub said: Said,
+    /// How many blocks there were before it: where the answer is `Added`, the number of the new one.
     pub at: u64,
 }
 

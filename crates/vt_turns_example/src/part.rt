@@ -10,6 +10,7 @@ use vt_turns::Held;
 /// A key and its value.
 #[derive(Clone, Copy)]
 pub struct Block {
+    /// Any number but the largest, 2^64 - 1, at which the second shard ends.
     pub key: u64,
     pub value: u64,
 }
@@ -24,14 +25,18 @@ pub struct Log {
 #[derive(Drop)]
 pub struct Shard {
     pub low: u64,
+    /// The end of its keys, which is none of them.
     pub high: u64,
+    /// For each of its keys that has a value, the number of its block in the log.
     pub numbers: BTreeMap<u64, u64>,
 }
 
 /// What threads take in turns.
 #[derive(Drop)]
 pub enum Part {
+    /// The first part: all blocks, whatever their keys.
     Log(Log),
+    /// Each of the other parts.
     Shard(Shard),
 }
 

@@ -9,6 +9,7 @@ use std::alloc::{AllocError, Global};
 /// A link that asks what stands in a list, and keeps the answers.
 #[derive(Drop)]
 pub struct Script {
+    /// What it asks, in order. As many of these were asked and answered as there are `lines`.
     asks: Vec<Ask>,
     pub lines: Vec<Line>,
     ghost keys: { All IsAsk asks.items },
@@ -18,6 +19,7 @@ pub struct Script {
 /// Links that wait in a list.
 #[derive(Drop)]
 pub struct Scripts {
+    /// The last of these is handed out next.
     waiting: Vec<Script>,
     ghost fresh: { All (λ s. s.lines.items ≡ []) waiting.items },
 }

@@ -13,10 +13,12 @@ struct Counts {
     held: u64,
     collisions: u64,
     absent: u64,
+    /// Those with `Unknown` or `NoMemory`.
     others: u64,
 }
 
 impl Counts {
+    /// No line was counted yet.
     fn new() -> Counts {
         Counts {
             added: 0,
@@ -27,6 +29,7 @@ impl Counts {
         }
     }
 
+    /// Counts each of these lines by its answer.
     fn count(&mut self, lines: &[Line]) {
         for line in lines {
             let number = match line.said {

@@ -22,7 +22,9 @@ use vt_turns::Pass;
 /// What a worker gives back.
 #[derive(Drop)]
 pub struct Served<L> {
+    /// The worker's pass, with what it has seen and added by then.
     pub pass: Pass<Part, Block>,
+    /// The link that it served, which asks nothing more.
     pub link: L,
 }
 

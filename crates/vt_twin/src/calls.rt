@@ -15,9 +15,13 @@ use vt_disk::{BLOCK_LEN, Call, Disk, Region};
 /// How far a change has come: its next device call.
 #[derive(Clone, Copy, Debug, PartialEq, Eq)]
 pub enum Stage {
+    /// It writes the idle frame.
     WriteFrame,
+    /// It syncs that frame, so that no selector names it before it is whole.
     SyncFrame,
+    /// It writes the selector that names that frame.
     WriteSelector,
+    /// It syncs the selector; behind it, that frame is the current one.
     SyncSelector,
 }
 

@@ -1,4 +1,6 @@
-//! What the layers above lean on between the calls of a twin.
+//! What the layers above lean on between the calls of a twin, each law the contract of a function that does nothing.
+//! In each, `t` is a twin as contracts see it, `region` its place on the disk, `old` its current frame, and `c` a
+//! file that a crash may leave of the disk.
 
 ghost use Rattle.std.specs.Prelude.{◌≡◌, ◌<◌, ◌≤◌, ◌+◌, ◌⊎◌, ℕ, List, IsTrue, None};
 ghost use Rattle.vt_disk.specs.declared.region.Region.{Region};

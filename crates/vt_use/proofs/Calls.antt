@@ -3,7 +3,7 @@ use Rattle.std.proofs.Common.{◌≡◌, Option, List, [], ◌∷◌, refl}
 use Rattle.std.specs.List.{AllByRecursion}
 use Rattle.vt_base.specs.declared.why.Why.{Why}
 use Rattle.vt_handler.specs.Taking.{DoesCalls, DoesOne}
-use Rattle.vt_local.specs.Local.{DoesLocal, LocalState}
+use Rattle.vt_blocks.specs.Local.{DoesLocal, LocalState}
 use Rattle.vt_tree.specs.Calls.{Call, get, put, sync, IsGet, asked_of}
 use Rattle.vt_tree.specs.Making.{Makes}
 use Rattle.vt_use.specs.LocalJobs.{DoesOnStore, exchanges_of, new_local}

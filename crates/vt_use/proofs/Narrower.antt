@@ -6,7 +6,7 @@ use Rattle.vt_client.specs.Stores.{DoesAsClient}
 use Rattle.vt_conf.specs.declared.address.Address.{Address}
 use Rattle.vt_conf.specs.declared.conf.Conf.{Conf}
 use Rattle.vt_disk.specs.Members.{DiskOf}
-use Rattle.vt_local.specs.Local.{DoesLocal, HoldsLocal, LocalState}
+use Rattle.vt_blocks.specs.Local.{DoesLocal, HoldsLocal, LocalState}
 use Rattle.vt_requests.specs.Driven.{DrivenState}
 use Rattle.vt_tree.specs.Calls.{Call}
 use Rattle.vt_tree.specs.Maps.{Maps}

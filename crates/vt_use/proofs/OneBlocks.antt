@@ -6,7 +6,7 @@ use Rattle.vt_base.specs.declared.score.Score.{Score}
 use Rattle.vt_base.specs.declared.why.Why.{Why}
 use Rattle.vt_model.specs.History.{Block}
 use Rattle.vt_handler.specs.Serving.{answered}
-use Rattle.vt_local.specs.Local.{DoesLocal, LocalState}
+use Rattle.vt_blocks.specs.Local.{DoesLocal, LocalState}
 use Rattle.vt_tree.specs.declared.error.BlockErr.{BlockErr}
 use Rattle.vt_tree.specs.Calls.{Call, get, put, sync}
 use Rattle.vt_tree.specs.Making.{Makes}

@@ -9,7 +9,7 @@ use Rattle.vt_base.specs.declared.why.Why.TheVariants as whys
 use Rattle.vt_core.specs.Core.{CoreState, stops_of}
 use Rattle.vt_disk.specs.Members.{DiskOf}
 use Rattle.vt_handler.specs.Serving.{tells_failure}
-use Rattle.vt_local.specs.Local.{DoesLocal, IsToldAs, LocalState, RefusedFor, StandsFor, err_of, refused_after}
+use Rattle.vt_blocks.specs.Local.{DoesLocal, IsToldAs, LocalState, RefusedFor, StandsFor, err_of, refused_after}
 use Rattle.vt_tree.specs.declared.error.BlockErr.{BlockErr}
 use Rattle.vt_tree.specs.Calls.{Call, get, put, sync, asked_of, refusal_of, refusals_of}
 use Rattle.vt_tree.specs.Making.{Makes}

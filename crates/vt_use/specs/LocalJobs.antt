@@ -1,7 +1,7 @@
 -- A job of blocks that is done with a store of this process.
 use Rattle.std.specs.Prelude.{◌≡◌, Option, None, List, [], ◌∷◌}
 use Rattle.vt_base.specs.declared.why.Why.{Why}
-use Rattle.vt_local.specs.Local.{DoesLocal, LocalState}
+use Rattle.vt_blocks.specs.Local.{DoesLocal, LocalState}
 use Rattle.vt_tree.specs.Calls.{Call, asked_of}
 use Rattle.vt_tree.specs.Making.{Makes}
 use Rattle.vt_use.specs.Stores.{Exchange, StoreOf}

@@ -7,7 +7,7 @@ use Rattle.vt_base.specs.declared.why.Why.TheVariants as whys
 use Rattle.vt_core.specs.Core.{CoreState}
 use Rattle.vt_disk.specs.Members.{DiskOf}
 use Rattle.vt_handler.specs.Serving.{tells_failure}
-use Rattle.vt_local.specs.Local.{IsToldAs}
+use Rattle.vt_blocks.specs.Local.{IsToldAs}
 use Rattle.vt_tree.specs.declared.error.BlockErr.{BlockErr}
 use Rattle.vt_tree.specs.declared.error.BlockErr.TheVariants.{Fault, Refused, WrongScore, Damaged, NoMemory}
 use Rattle.vt_tree.specs.Calls.{Call, refusals_of}

@@ -9,7 +9,7 @@ use Rattle.vt_client.specs.declared.error.ClientErr.{ClientErr}
 use Rattle.vt_conf.specs.declared.address.Address.{Address}
 use Rattle.vt_conf.specs.declared.conf.Conf.{Conf}
 use Rattle.vt_disk.specs.Members.{DiskOf}
-use Rattle.vt_local.specs.Local.{DoesLocal, HoldsLocal, LocalState}
+use Rattle.vt_blocks.specs.Local.{DoesLocal, HoldsLocal, LocalState}
 use Rattle.vt_open.specs.Opening.{NamesCause, RefusesStore}
 use Rattle.vt_remote.specs.Remote.{IsBack, MeetsNoServer, TalksFor}
 use Rattle.vt_remote.specs.declared.talk.RemoteError.TheVariants as remote

@@ -9,8 +9,8 @@ ghost use Rattle.vt_tree.specs.Maps.{Maps};
 use crate::job::Job;
 use std::alloc::Global;
 use vt_base::{Scorer, Why};
+use vt_blocks::Local;
 use vt_handler::Store;
-use vt_local::Local;
 use vt_tree::Blocks;
 
 /// What is done with a store of blocks: one of this process, or that of a server. It is lent an `X`
@@ -53,7 +53,7 @@ pub struct LocalJob<'a, J, S> {
 }
 
 impl<'a, X, J: BlockJob<X>, S: Scorer> Job<X> for LocalJob<'a, J, S> {
-    ghost use Rattle.vt_local.specs.Local.{DoesLocal, HoldsLocal};
+    ghost use Rattle.vt_blocks.specs.Local.{DoesLocal, HoldsLocal};
     ghost use Rattle.vt_use.specs.LocalJobs.{DoesOnStore};
 
     type Output = (J::Output, Option<Why>);

@@ -2,7 +2,7 @@
 
 ghost use Rattle.std.specs.Prelude.{◌≡◌, ◌+◌, ◌^◌, ◌<◌, IfErr, IfOk, IsTrue, OnErr, length};
 ghost use Rattle.vt_core.specs.Machine.{WaitsForNone};
-ghost use Rattle.vt_local.specs.Local.{DoesLocal, HoldsLocal, LocalState};
+ghost use Rattle.vt_blocks.specs.Local.{DoesLocal, HoldsLocal, LocalState};
 ghost use Rattle.vt_open.specs.Opening.{NamesCause, RefusesStore};
 ghost use Rattle.vt_requests.specs.Driven.{DrivenState};
 ghost use Rattle.vt_use.specs.Stores.{store_on};

@@ -30,6 +30,7 @@ pub enum StoreError {
 /// What came of the use of a store at a place.
 #[derive(Drop)]
 pub struct UsedAt<O> {
+    /// What the job came to, also where the end of the store's use failed.
     pub output: O,
     /// Why the store said no first, in its own words, if it did.
     pub refusal: Option<StoreError>,

@@ -21,6 +21,7 @@ use vt_requests::{Driven, end};
 /// What came of the use of a store.
 #[derive(Drop)]
 pub struct Used<O> {
+    /// What the job came to, also where the end of the store's use failed.
     pub output: O,
     /// How many blocks are new in the store.
     pub added: u64,

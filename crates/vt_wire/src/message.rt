@@ -10,11 +10,17 @@ pub const MAX_STRING: usize = 1_024;
 /// pads.
 #[derive(Clone, Copy, Debug, PartialEq, Eq)]
 pub enum Request<'a> {
+    /// Asks for nothing but an answer.
     Ping,
+    /// Begins the session in this version.
     Hello { version: &'a [u8] },
+    /// Ends the session. It has no reply.
     Goodbye,
+    /// Asks for the block of this score and kind, if it has at most `count` bytes.
     Read { score: Score, kind: u8, count: u32 },
+    /// Gives a block to be held.
     Write { kind: u8, bytes: &'a [u8] },
+    /// Asks that what was accepted be on the disk.
     Sync,
 }
 
@@ -23,10 +29,15 @@ pub enum Request<'a> {
 #[derive(Clone, Copy, Debug, PartialEq, Eq)]
 pub enum Reply<'a> {
     Ping,
+    /// The session has begun. None of its parameters is kept.
     Hello,
+    /// The bytes of the block that was asked for.
     Read(&'a [u8]),
+    /// The score of the block that was given.
     Write(Score),
+    /// What was accepted before is on the disk.
     Sync,
+    /// Why the request wasn't done.
     Error(&'a [u8]),
 }
 

@@ -14,6 +14,7 @@ use vt_rows::Rows;
 use vt_session::Ended;
 use vt_wire::Reply;
 
+/// The line that a server of ours says first.
 const OUR_LINE: &[u8] = b"venti-02-rattle\n";
 
 /// A client's line and a hello, and the welcome.
@@ -37,8 +38,10 @@ const LONGEST: &[u8] = b"\x00\x1a\x0c\x04ssssssssssssssssssss\x0d\x00\xe0\x00";
 /// A sync, a ping and a goodbye.
 const REST: &[u8] = b"\x00\x02\x10\x05\x00\x02\x02\x06\x00\x02\x06\x07";
 
+/// The score that is told for each write of type 13.
 const SCORE: Score = Score(*b"ssssssssssssssssssss");
 
+/// Why a write of type 1 is refused.
 const DAMAGE: Why = Why::Damaged {
     site: Site::Bucket(1),
     want: FieldValue::Number(2),
@@ -51,6 +54,7 @@ const DAMAGE: Why = Why::Damaged {
 struct Scripted {
     /// How many bytes a block has that is read.
     length: usize,
+    /// How many calls there were of each kind.
     writes: u64,
     reads: u64,
     syncs: u64,
@@ -100,6 +104,7 @@ impl Store for Scripted {
     }
 }
 
+/// A store whose blocks have so many bytes, of which nothing was asked yet.
 fn answering_reads(length: usize) -> Scripted
     requires { length ≤ 57344 }
 {
@@ -162,6 +167,7 @@ const LONG: [Long; 4] = [
     (&[2], Ended::WriteFault, LINE + FIRST + 57_348 / 2),
 ];
 
+/// A session in which three blocks of 57,344 bytes are read ends as this row says.
 fn long_is_replied(alloc: Global, row: usize, case: &Long) -> Result<(), Fail> {
     let (failing, ended, written) = *case;
     let mut client = asking_thrice(alloc, failing)?;
@@ -232,13 +238,17 @@ fn a_reply_waits(rt: HostRuntime) -> Result<(), Fail> {
 /// A client that sends a piece once the replies to what it sent before came, and else fails.
 #[derive(Drop)]
 struct Patient {
+    /// All that it sends.
     input: Vec<u8>,
+    /// How many bytes of it were sent.
     given: usize,
     /// How many bytes each piece has, and how many must have come before it.
     pieces: Vec<(usize, usize)>,
+    /// How many pieces were sent.
     sent: usize,
     /// The piece that doesn't come, since the link fails.
     lost: usize,
+    /// What came to it.
     output: Vec<u8>,
     /// How many bytes come to it.
     room: usize,
@@ -384,6 +394,7 @@ type End = (&'static [u8], usize, usize, (Ended, u64), usize);
 
 const GREETED: usize = OUR_LINE.len() + WELCOME.len();
 
+/// How many bytes the server says up to its replies to `WRITES`.
 const ANSWERED: usize = OUR_LINE.len() + WELCOME.len() + WROTE.len();
 
 const ENDS: [End; 4] = [
@@ -393,6 +404,7 @@ const ENDS: [End; 4] = [
     (WRITES, 9, ANSWERED - 1, (Ended::WriteFault, 54), GREETED),
 ];
 
+/// A session ends as this row says.
 fn end_is_told(alloc: Global, row: usize, case: &End) -> Result<(), Fail> {
     let (last, lost, room, (ended, taken), written) = *case;
     let mut client = client_of(alloc, &[(GREETING, WELCOME), (last, b"")], 100)?;

@@ -8,14 +8,17 @@ use vt_tree::{BlockErr, Blocks};
 /// What a store of blocks is to tell in place of an answer.
 #[derive(Clone, Copy)]
 pub(crate) enum Told {
+    /// A call failed.
     Fault,
     /// A refusal with this text.
     Says(&'static [u8]),
     /// Another score than this one.
     Not(Score),
+    /// A value is damaged: it is this one, and was to be that one.
     Damaged { want: FieldValue, found: FieldValue },
 }
 
+/// Whether this is told.
 fn is_told(bad: &BlockErr, told: Told) -> bool {
     match told {
         Told::Fault => matches!(bad, BlockErr::Fault),

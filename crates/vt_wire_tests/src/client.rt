@@ -10,15 +10,18 @@ use vt_client::Client;
 use vt_out::{Link, MemLink, MemSink, MemSource};
 use vt_rows::Rows;
 
+/// The score of `abc`, by SHA-1.
 const ABC: Score = Score(
     *b"\xa9\x99\x3e\x36\x47\x06\x81\x6a\xba\x3e\x25\x71\x78\x50\xc2\x6c\x9c\xd0\xd8\x9d",
 );
 
+/// The line that a client of ours says first.
 const LINE: &[u8] = b"venti-02-rattle\n";
 
 /// The client's line and its hello.
 const GREETING: &[u8] = b"venti-02-rattle\n\x00\x14\x04\x00\x00\x0202\x00\x09anonymous\x00\x00\x00";
 
+/// What a server says to these: its line and its welcome.
 const WELCOME: &[u8] = b"venti-02-rattle\n\x00\x0f\x05\x00\x00\x09anonymous\x00\x00";
 
 /// The reply with that score to a write under tag 1.
@@ -54,6 +57,7 @@ fn failing(alloc: Global, bytes: &[u8], reads: &[u64], writes: &[u64]) -> Result
     })
 }
 
+/// The client of a link over which it is greeted.
 fn greeted(alloc: Global, link: MemLink) -> Result<MemClient, Fail> {
     match Client::greet(alloc, link, Sha1Scorer) {
         Ok(client) => Ok(client),
@@ -69,9 +73,13 @@ fn client(alloc: Global, replies: &[u8]) -> Result<MemClient, Fail> {
 
 /// What is asked of a client, and what it answers: by its own calls, or as a store of blocks.
 enum Act {
+    /// `abc` is written, and this score is answered.
     Writes(Score),
+    /// A sync is asked for by the client's own call, and is done.
     Commits,
+    /// `abc` is read by its score: these bytes come, or this refusal.
     Reads(Result<&'static [u8], Refusal>),
+    /// `abc` is put as a block of data, by the calls of a store of blocks, as the next two are.
     Puts(Result<Score, Told>),
     Gets(Result<&'static [u8], Told>),
     Syncs(Result<(), Told>),
@@ -81,6 +89,7 @@ enum Act {
     Sent(u64),
 }
 
+/// Whether a client answers so.
 fn does<L: Link, S: Scorer + Drop>(alloc: Global, client: &mut Client<L, S>, act: &Act) -> bool {
     match act {
         Act::Writes(score) => writes(client, alloc, score),

@@ -7,10 +7,11 @@ use crate::tables::in_turn;
 use std::alloc::{AllocError, Global};
 use std::test::Fail;
 use vt_base::{Bytes, FieldValue, Kind, Operation, Said, Score, Scorer, Site, Why};
+use vt_blocks::Local;
 use vt_handler::Store;
-use vt_local::Local;
 use vt_rows::Rows;
 
+/// The score of each block.
 const SCORE: Score = Score(*b"ssssssssssssssssssss");
 
 /// Gives all blocks one score.
@@ -36,6 +37,7 @@ impl Scorer for OneScore {
 /// nothing is claimed of its answers.
 #[derive(Drop)]
 struct Scripted {
+    /// How many requests there were.
     calls: u64,
 }
 
@@ -77,6 +79,7 @@ impl Store for Scripted {
     }
 }
 
+/// Why a write of type 2 is refused.
 const DAMAGE: Why = Why::Damaged {
     site: Site::Bucket(1),
     want: FieldValue::Number(2),
@@ -95,6 +98,7 @@ enum Act {
     Puts(Kind, Result<Score, Told>),
     Gets(Score, Result<&'static [u8], Told>),
     Syncs(Result<(), Told>),
+    /// This is why the store said no first, if it did.
     Refused(Option<Why>),
 }
 
@@ -116,6 +120,7 @@ const ACTS: [Act; 9] = [
     Act::Refused(Some(Why::Collision)),
 ];
 
+/// Whether a store of blocks answers so.
 fn does<T: Store, S: Scorer>(alloc: Global, blocks: &mut Local<T, S>, act: &Act) -> bool {
     match act {
         Act::Puts(kind, wanted) => puts(blocks, alloc, *kind, *wanted),

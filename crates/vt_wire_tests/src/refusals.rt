@@ -19,6 +19,7 @@ pub(crate) enum Refusal {
     Spent,
 }
 
+/// Whether a client was told this.
 pub(crate) fn is_refusal(bad: &ClientErr, refusal: Refusal) -> bool {
     match refusal {
         Refusal::Remote(text) =>

@@ -12,14 +12,17 @@ use vt_remote::RemoteError;
 use vt_rows::Rows;
 use vt_use::{ReadBlock, StoreError, WriteBlock, answer_at, use_server};
 
+/// The score of `abc`, by SHA-1.
 const ABC: Score = Score(
     *b"\xa9\x99\x3e\x36\x47\x06\x81\x6a\xba\x3e\x25\x71\x78\x50\xc2\x6c\x9c\xd0\xd8\x9d",
 );
 
+/// What the server says first, and what it has to hear.
 const WELCOME: &[u8] = b"venti-02-rattle\n\x00\x0f\x05\x00\x00\x09anonymous\x00\x00";
 
 const HELLO: &[u8] = b"venti-02-rattle\n\x00\x14\x04\x00\x00\x0202\x00\x09anonymous\x00\x00\x00";
 
+/// The name of the server's host.
 fn host(alloc: Global) -> Result<Text, Fail> {
     match Text::copy_of(alloc, b"localhost") {
         Ok(host) => Ok(host),
@@ -27,6 +30,7 @@ fn host(alloc: Global) -> Result<Text, Fail> {
     }
 }
 
+/// The address of the server that is there.
 fn address(alloc: Global) -> Result<Address, Fail> {
     Ok(Address {
         host: Some(host(alloc)?),
@@ -170,6 +174,7 @@ const ASKED: [Asked; 5] = [
     ("another port", 1, b"", 'u'),
 ];
 
+/// A read at the address with this port comes to what the row says.
 fn is_asked(alloc: Global, row: usize, case: &Asked) -> Result<(), Fail> {
     let (what, port, reply, wanted) = *case;
     let mut there = address(alloc)?;
@@ -195,6 +200,7 @@ const GIVEN: [Given; 2] = [
     ),
 ];
 
+/// A write whose sync is replied to so comes to what the row says.
 fn is_given(alloc: Global, row: usize, case: &Given) -> Result<(), Fail> {
     let (what, reply, wanted) = *case;
     let replies = [b"\x00\x16\x0f\x01", ABC.0.as_slice(), reply].concat(alloc)?;

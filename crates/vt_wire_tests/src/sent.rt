@@ -15,6 +15,7 @@ use vt_rows::Rows;
 use vt_tree::{Blocks, MemBlocks};
 use vt_use::{StoreError, use_server};
 
+/// What the server says first, and what it has to hear.
 const WELCOME: &[u8] = b"venti-02-rattle\n\x00\x0f\x05\x00\x00\x09anonymous\x00\x00";
 
 const HELLO: &[u8] = b"venti-02-rattle\n\x00\x14\x04\x00\x00\x0202\x00\x09anonymous\x00\x00\x00";
@@ -57,6 +58,7 @@ fn small(alloc: Global) -> Result<Vec<MemItem>, Fail> {
     Ok(vec![in alloc; empty, link, folder]?)
 }
 
+/// Two bytes that tell it from other leaves, and zeros.
 fn leaf(i: u8) -> [u8; 512] {
     let mut leaf = [0; 512];
     leaf[0] = 1;
@@ -101,9 +103,13 @@ fn push_score(replies: &mut Vec<u8>, tag: u8, score: &Score) -> Result<(), Fail>
 /// What goes over a link behind a welcome, to a server that takes in all blocks.
 #[derive(Drop)]
 struct Messages {
+    /// What the client says, its line and hello first.
     requests: Vec<u8>,
+    /// What the server says, its line and welcome first.
     replies: Vec<u8>,
+    /// The tag of the next request.
     tag: u8,
+    /// How many blocks were written.
     writes: u64,
 }
 
@@ -119,6 +125,7 @@ impl Messages {
         })
     }
 
+    /// This block is written, and its score is replied.
     fn write(&mut self, key: &Key, bytes: &[u8]) -> Result<(), Fail> {
         push_write(&mut self.requests, self.tag, key.kind, bytes)?;
         push_score(&mut self.replies, self.tag, &key.score)?;
@@ -127,6 +134,7 @@ impl Messages {
         Ok(())
     }
 
+    /// All is synced, and the client leaves.
     fn sync_and_goodbye(&mut self) -> Result<(), Fail> {
         let next = self.tag.wrapping_add(1);
         self.requests
@@ -326,6 +334,7 @@ fn comes_to(alloc: Global, (front, rest, failing): Plan) -> Result<(char, bool),
 /// A call that is never made.
 const NEVER: u64 = u64::MAX;
 
+/// No call of a plan fails.
 const NO_FAULTS: [u64; 3] = [NEVER, NEVER, NEVER];
 
 /// How many bytes a welcome has, and one with the replies to all seven blocks.
@@ -379,6 +388,7 @@ const ROWS: [Row; 12] = [
     ("a write that fails", (ALL + 4, b"", [NEVER, NEVER, 4]), 'w'),
 ];
 
+/// Archiving comes to what the row says, and the link is given back.
 fn row_comes_to(alloc: Global, row: usize, case: &Row) -> Result<(), Fail> {
     let (what, plan, wanted) = *case;
     let (found, is_back) = comes_to(alloc, plan)?;

@@ -8,14 +8,17 @@ use vt_rows::Rows;
 use vt_session::{Ended, Next, Talker};
 use vt_wire::ProtocolCause;
 
+/// The line of a client that offers version 02, and of one that offers 04 alone.
 const LINE: &[u8] = b"venti-02-test\n";
 
 const LINE_04: &[u8] = b"venti-04-test\n";
 
+/// A hello of version 02, and one of 03.
 const HELLO: &[u8] = b"\x00\x0b\x04\x00\x00\x0202\x00\x00\x00\x00\x00";
 
 const HELLO_03: &[u8] = b"\x00\x0b\x04\x07\x00\x0203\x00\x00\x00\x00\x00";
 
+/// A read of `abc` by its score.
 const READ: &[u8] =
     b"\x00\x1a\x0c\x02\xa9\x99\x3e\x36\x47\x06\x81\x6a\xba\x3e\x25\x71\x78\x50\xc2\x6c\
     \x9c\xd0\xd8\x9d\x0d\x00\x00\x03";
@@ -39,8 +42,10 @@ const UNKNOWN: &[u8] = b"\x00\x02\x63\x08";
 
 const TWO_UNKNOWN: &[u8] = b"\x00\x02\x63\x08\x00\x04\x03\xff\x00\x00";
 
+/// A message of a type that only replies have.
 const SYNC_REPLY: &[u8] = b"\x00\x02\x11\x01";
 
+/// A write of `abc` as a block of type 13, one of no bytes, and the requests without a block.
 const WRITE: &[u8] = b"\x00\x09\x0e\x01\x0d\x00\x00\x00abc";
 
 const EMPTY_WRITE: &[u8] = b"\x00\x06\x0e\x03\x0d\x00\x00\x00";
@@ -122,6 +127,7 @@ fn has_ended(talker: &mut Talker, ended: Ended) -> bool {
     once && is_at_end(talker, ended)
 }
 
+/// Whether this is what is told now, as the next thing heard or as the end.
 fn is_at_end(talker: &Talker, ended: Ended) -> bool {
     match talker.next() {
         Some(next) => next == Next::End(ended),
@@ -132,6 +138,7 @@ fn is_at_end(talker: &Talker, ended: Ended) -> bool {
 /// How long the pieces of an input are.
 #[derive(Clone, Copy)]
 enum Cut {
+    /// Each has so many bytes.
     Each(usize),
     /// As long as drawn numbers tell.
     Drawn,
@@ -453,11 +460,17 @@ fn longest_pieces_are_heard_alike(rt: HostRuntime) -> Result<(), Fail> {
 
 /// What is done to a talker, and what it answers.
 enum Act {
+    /// These bytes come in, of which it takes so many.
     Feeds(&'static [u8], usize),
+    /// This is what it hears next.
     Hears(Option<Next<'static>>),
+    /// It goes on behind what it heard.
     Passes,
+    /// It would end so, if no more came.
     Ends(Ended),
+    /// It has room for so many more bytes.
     HasRoom(usize),
+    /// It took so many bytes in all.
     Took(u64),
 }
 

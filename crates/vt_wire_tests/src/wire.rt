@@ -25,10 +25,12 @@ const READ_ABC: &[u8] = b"\x00\x1a\x0c\x02\
 const WROTE_ABC: &[u8] = b"\x00\x16\x0f\x01\
     \xa9\x99\x3e\x36\x47\x06\x81\x6a\xba\x3e\x25\x71\x78\x50\xc2\x6c\x9c\xd0\xd8\x9d";
 
+/// A welcome under tag 0, and an error under tag 2.
 const WELCOME: &[u8] = b"\x00\x0f\x05\x00\x00\x09anonymous\x00\x00";
 
 const TOO_SMALL: &[u8] = b"\x00\x13\x01\x02\x00\x0fcount too small";
 
+/// Three requests, and an error, as a message says them.
 const HELLO: Request = Request::Hello { version: b"02" };
 
 const READ: Request = Request::Read {
@@ -79,6 +81,7 @@ const REQUESTS: [(&[u8], u8, Request); 7] = [
     (b"\x00\x02\x06\x04", 4, Request::Goodbye),
 ];
 
+/// This frame is read as this request under this tag.
 fn request_is_read(_: (), row: usize, case: &(&[u8], u8, Request)) -> Result<(), Fail> {
     let (frame, tag, request) = *case;
     let mut rows = Rows::new();
@@ -109,6 +112,7 @@ const NO_REQUESTS: [(&[u8], WireBad); 6] = [
     ),
 ];
 
+/// This frame is refused as no request, for this.
 fn is_no_request(_: (), row: usize, case: &(&[u8], WireBad)) -> Result<(), Fail> {
     let (frame, bad) = *case;
     let mut rows = Rows::new();
@@ -156,6 +160,7 @@ const REPLIES: [(&[u8], u8, Reply); 7] = [
     (TOO_SMALL, 2, ERROR),
 ];
 
+/// This frame is read as this reply under this tag.
 fn reply_is_read(_: (), row: usize, case: &(&[u8], u8, Reply)) -> Result<(), Fail> {
     let (frame, tag, reply) = *case;
     let mut rows = Rows::new();
@@ -177,6 +182,7 @@ const NO_REPLIES: [(&[u8], WireBad); 4] = [
     (b"\x00\x07\x05\x00\x00\x00\x00\x00\x00", WireBad::Bad(3)),
 ];
 
+/// This frame is refused as no reply, for this.
 fn is_no_reply(_: (), row: usize, case: &(&[u8], WireBad)) -> Result<(), Fail> {
     let (frame, bad) = *case;
     let mut rows = Rows::new();
@@ -235,6 +241,7 @@ const LINES: [(&[u8], Line); 10] = [
     (&[b'x'; 1_025], Line::Bad(1_024)),
 ];
 
+/// These bytes are read as this line, or as none.
 fn line_is_read(_: (), row: usize, case: &(&[u8], Line)) -> Result<(), Fail> {
     let (bytes, line) = *case;
     let mut rows = Rows::new();

@@ -1,9 +1,9 @@
 use Rattle.std.proofs.Common.{Some, Ok, Err, refl, sym, subst}
 use Rattle.std.specs.Option.{option_or}
 use Rattle.vt_tree.specs.Calls.{put, Counts, with_refusal}
-use Rattle.vt_local.specs.Local.{LocalState, DoesLocal}
-use Rattle.vt_local.proofs.Doing.{took, not_taken}
-use Rattle.vt_local.proofs.local.LocalBlocks.put.Goals as goal
+use Rattle.vt_blocks.specs.Local.{LocalState, DoesLocal}
+use Rattle.vt_blocks.proofs.Doing.{took, not_taken}
+use Rattle.vt_blocks.proofs.local.LocalBlocks.put.Goals as goal
 
 pub returns-in-Ok-clause-done : goal.returns-in-Ok-clause-done
 returns-in-Ok-clause-done g c =

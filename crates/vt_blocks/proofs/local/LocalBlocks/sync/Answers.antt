@@ -1,9 +1,9 @@
 use Rattle.std.proofs.Common.{Some, Ok, Err, refl, sym, subst}
 use Rattle.std.specs.Option.{option_or}
 use Rattle.vt_tree.specs.Calls.{sync, Counts, with_refusal}
-use Rattle.vt_local.specs.Local.{LocalState, DoesLocal}
-use Rattle.vt_local.proofs.Doing.{synced, not_synced}
-use Rattle.vt_local.proofs.local.LocalBlocks.sync.Goals as goal
+use Rattle.vt_blocks.specs.Local.{LocalState, DoesLocal}
+use Rattle.vt_blocks.proofs.Doing.{synced, not_synced}
+use Rattle.vt_blocks.proofs.local.LocalBlocks.sync.Goals as goal
 
 pub returns-in-Ok : goal.returns-in-Ok
 returns-in-Ok g c =
