@@ -7,9 +7,14 @@ use Rattle.vt_core.specs.Sound.{IsSound}
 use Rattle.vt_disk.specs.Members.{DiskOf}
 use Rattle.vt_model.specs.Places.{Setup}
 
--- one arena of 1,048,576 bytes, and one index section of 4 buckets
+-- one arena of 1,048,576 bytes, in version 1, and one index section of 4 buckets
 abbrev pub memory_setup : Setup
-memory_setup = record { arenas = 1048576 ∷ []; base = 0; sections = 4 ∷ [] }
+memory_setup = record {
+  arenas = 1048576 ∷ [];
+  versions = 1 ∷ [];
+  base = 0;
+  sections = 4 ∷ [];
+}
 
 -- a store of this setup without blocks, of which no part has stopped
 pub record IsMemoryStore {D : Type 0} (score : List ℕ → List ℕ) (disk : DiskOf D)

@@ -2,11 +2,17 @@
 use Rattle.std.specs.Prelude.{ℕ, ◌+◌, ◌≤◌, nat_le, Bool, List, [], ◌∷◌, length, map}
 use Rattle.vt_disk.specs.declared.TheConstants.{LEAST_ARENA, MOST_ARENA}
 use Rattle.vt_clump.specs.Spelling.{Stored}
+use Rattle.vt_model.specs.declared.TheConstants.{WRITTEN_VERSION}
 use Rattle.vt_model.specs.Places.{Setup, room_of, needed, clump_len, directory_len, offset_behind}
 
--- a store with one arena, of this length
+-- a store with one arena, of this length, in the version that is written
 abbrev pub alone : (len : ℕ) → Setup
-alone len = record { arenas = len ∷ []; base = 0; sections = [] }
+alone len = record {
+  arenas = len ∷ [];
+  versions = WRITTEN_VERSION ∷ [];
+  base = 0;
+  sections = [];
+}
 
 -- what a block of n bytes takes of an arena
 abbrev pub block_room : (n : ℕ) → ℕ

@@ -10,8 +10,8 @@ ghost use Rattle.vt_disk.specs.Region.{Inside, ChangesWithin, region_bytes};
 ghost use Rattle.vt_clump.specs.declared.packed.Packed.{Packed};
 ghost use Rattle.vt_clump.specs.Spelling.{Stored, clump_bytes};
 ghost use Rattle.vt_clump.specs.Clumps.{IsPacked};
-ghost use Rattle.vt_model.specs.Places.{Setup, room_of, fits as fits_by_lengths, offset_behind};
-ghost use Rattle.vt_model.specs.declared.TheConstants.{ARENA_HEAD_LEN};
+ghost use Rattle.vt_model.specs.Places.{Setup, room_of, version_of, fits as fits_by_lengths, offset_behind};
+ghost use Rattle.vt_model.specs.declared.TheConstants.{ARENA_HEAD_LEN, WRITTEN_VERSION};
 ghost use Rattle.vt_arena.specs.Arena.{ArenaState, fresh_arena, fits, is_committing, with_staged, with_seal, next_content};
 ghost use Rattle.vt_arena.specs.Layout.{Content, IsArenaContent, IsArena, HasBlocks, BytesStandAt, arena_head, used_of};
 ghost use Rattle.vt_arena.specs.Places.{lengths_of, offset_of, arena_room, has_room};
@@ -134,12 +134,13 @@ pub fn blocks_stand_at_their_places()
 {}
 
 /// The room of an arena, and a block's place in it, are those of any store that has an arena of its
-/// length.
+/// length and version.
 pub fn room_is_the_models()
     ensures fits { (c : Setup) (arena len n : ℕ) (stored : List Stored)
-        → room_of c arena ≡ arena_room len
+        → version_of c arena ≡ WRITTEN_VERSION → room_of c arena ≡ arena_room len
         → has_room len (used_of stored) (length stored) n
         ≡ fits_by_lengths c arena (lengths_of stored ++ n ∷ []) }
     ensures offset { (c : Setup) (arena : ℕ) (before : List Stored)
+        → version_of c arena ≡ WRITTEN_VERSION
         → offset_of before ≡ offset_behind c arena (lengths_of before) }
 {}

@@ -3,7 +3,7 @@
 use std::alloc::{AllocError, Global};
 use std::test::Fail;
 use vt_base::{Score, Scorer, Sha1Scorer, ShortScorer, Why};
-use vt_model::PlainStore;
+use vt_model::{PlainStore, WRITTEN_VERSION};
 use vt_rows::Rows;
 
 /// The number of the block type of data.
@@ -69,9 +69,10 @@ fn store_of<S: Scorer + Drop>(
     arenas: &[u32],
     buckets: u32,
 ) -> Result<PlainStore<S>, AllocError> {
+    let versions = vec![in alloc; WRITTEN_VERSION; arenas.len()]?;
     let arenas = Vec::from_slice(alloc, arenas)?;
     let sections = Vec::from_slice(alloc, &[buckets])?;
-    Ok(PlainStore::new(alloc, scorer, arenas, 0, sections))
+    Ok(PlainStore::new(alloc, scorer, arenas, versions, 0, sections))
 }
 
 /// Makes these calls of a store.

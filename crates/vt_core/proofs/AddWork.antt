@@ -123,7 +123,7 @@ module _ {D : Type 0} (score : List ℕ → List ℕ) (disk : DiskOf D) (k : Cor
   after_adding = record k { log = record k.log { queue = q; filling = f }; shards = slice_set k.shards i new_shard; bits = bits }
 
   add_setup : setup_of after_adding ≡ setup_of k
-  add_setup = ap (λ (ns : List ℕ). record { arenas = (setup_of k).arenas; base = k.log.base; sections = ns }) (map_set (λ t. t.section.buckets) k.shards i new_shard s at refl)
+  add_setup = ap (λ (ns : List ℕ). record { arenas = (setup_of k).arenas; versions = (setup_of k).versions; base = k.log.base; sections = ns }) (map_set (λ t. t.section.buckets) k.shards i new_shard s at refl)
 
   pub add_whole : IsWhole disk k → IsWhole disk after_adding
   add_whole w =

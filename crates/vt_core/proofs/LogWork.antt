@@ -17,7 +17,7 @@ use Rattle.vt_log.specs.Committing.{LogTakesStep}
 use Rattle.vt_log.specs.Faults.{CountsFaults, OneHasRisen, is_fault_now}
 use Rattle.vt_log.specs.Log.{LogState, queued}
 use Rattle.vt_log.specs.Sound.{IsSoundLog, AreImagesOf, AreWithinCallOf, LogStandsForPrefix}
-use Rattle.vt_log.specs.Logs.{LogStandsFor}
+use Rattle.vt_log.specs.Logs.{LogStandsFor, versions_of}
 use Rattle.vt_log.proofs.Lists.{at_slice, slice_get_other}
 use Rattle.vt_bloom.specs.Laws.{CoversMore}
 use Rattle.vt_shard.specs.Shard.{ShardState}
@@ -170,8 +170,8 @@ module _ {D : Type 0} (score : List ℕ → List ℕ) (disk : DiskOf D) (k : Cor
 
   setup : setup_of (record k { log = l }) ≡ setup_of k
   setup =
-      ap (λ (rs : List ArenaRegion). record { arenas = map (λ r. r.region.len) rs; base = l.base; sections = (setup_of k).sections }) step.kept.0
-      ∙ ap (λ (b : ℕ). record { arenas = (setup_of k).arenas; base = b; sections = (setup_of k).sections }) step.kept.2
+      ap (λ (rs : List ArenaRegion). record { arenas = map (λ r. r.region.len) rs; versions = versions_of rs; base = l.base; sections = (setup_of k).sections }) step.kept.0
+      ∙ ap (λ (b : ℕ). record { arenas = (setup_of k).arenas; versions = (setup_of k).versions; base = b; sections = (setup_of k).sections }) step.kept.2
 
   pub log_whole : IsWhole disk k → IsWhole disk (record k { log = l })
   log_whole w = record {

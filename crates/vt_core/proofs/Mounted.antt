@@ -15,6 +15,7 @@ use Rattle.vt_disk.specs.Members.{DiskOf}
 use Rattle.vt_isect.specs.Layout.{buckets_in}
 use Rattle.vt_isect.specs.Section.{SectionState}
 use Rattle.vt_log.specs.Log.{LogState, IsMountedLog}
+use Rattle.vt_log.specs.Logs.{versions_of}
 use Rattle.vt_log.specs.Sound.{IsSoundLog}
 use Rattle.vt_model.specs.History.{History, Accepted}
 use Rattle.vt_model.specs.Legal.{IsLegal}
@@ -32,7 +33,7 @@ use Rattle.vt_core.specs.Mounting.{HasRoomOf, IsFreshlyMounted, IsHeadRead, IsLo
 use Rattle.vt_recover.specs.Marks.{AreCovered}
 use Rattle.vt_recover.specs.Opening.{IsFilterOpened, IsFoundSection, IsShardMade, OpensFilter}
 use Rattle.vt_core.specs.Opening.{IsLogFound, TestsParts, with_log}
-use Rattle.vt_recover.specs.Recalling.{ReadsBack, ReadsLogBack, opened, RecallsFrom}
+use Rattle.vt_recover.specs.Recalling.{HasVersionsOf, ReadsBack, ReadsLogBack, opened, RecallsFrom}
 use Rattle.vt_core.specs.Sound.{IsSound, IsSoundFilter}
 use Rattle.vt_core.specs.Stands.{FilterStandsFor, scores_of}
 use Rattle.vt_core.specs.Whole.{IsWhole}
@@ -128,11 +129,14 @@ module _ {D : Type 0} (score : List ℕ → List ℕ) (disk : DiskOf D) (devices
   arenas_are : map (λ r. r.region.len) log1.layout ≡ map (λ r. r.region.len) (layout_of log.tables)
   arenas_are = ap (λ (l : LogState D). map (λ r. r.region.len) l.layout) back.log ∙ ap (λ (rs : List ArenaRegion). map (λ r. r.region.len) rs) given.layout
 
+  versions_are : versions_of log1.layout ≡ versions_of (layout_of log.tables)
+  versions_are = ap (λ (l : LogState D). versions_of l.layout) back.log ∙ ap (λ (rs : List ArenaRegion). versions_of rs) given.layout
+
   sections_are : map (λ s. s.section.buckets) shards ≡ map (λ device. buckets_in (disk.size device)) devices
   sections_are = room_buckets score disk devices sections made sizes.lumps sizes.clean opens makes log log1 bits bits1 shards back
 
   setup_is : IsSetupOf disk log.tables pd (setup_of k)
-  setup_is = record { arenas = arenas_are; sections = sections_are }
+  setup_is = record { arenas = arenas_are; versions = versions_are; sections = sections_are }
 
   limits_are : KeepsLimits log.tables (setup_of k)
   limits_are = record {
@@ -283,6 +287,9 @@ module _ {D : Type 0} (score : List ℕ → List ℕ) (disk : DiskOf D) (devices
     recalled : RecallsFrom score disk g least (opened log made bits) (opened log1 shards bits1)
     recalled = all.recalls g tells log_found.0
 
+    log_versions : HasVersionsOf log c
+    log_versions = of.setup.versions ∙ ap (λ (rs : List ArenaRegion). versions_of rs) (sym given.layout)
+
     durable_is : log1.durable ≡ length g
     durable_is = ap (λ (l : LogState D). l.durable) back.log ∙ log_found.2
 
@@ -292,17 +299,19 @@ module _ {D : Type 0} (score : List ℕ → List ℕ) (disk : DiskOf D) (devices
     setup_same : setup_of k ≡ record c { base = base }
     setup_same =
         let a : map (λ r. r.region.len) log1.layout ≡ c.arenas = arenas_are ∙ sym of.setup.arenas in
+        let v : versions_of log1.layout ≡ c.versions = versions_are ∙ sym of.setup.versions in
         let s : map (λ s. s.section.buckets) shards ≡ c.sections = sections_are ∙ sym of.setup.sections in
-        ap (λ (x : List ℕ). record { arenas = x; base = log1.base; sections = map (λ s. s.section.buckets) shards }) a
-        ∙ ap (λ (x : ℕ). record { arenas = c.arenas; base = x; sections = map (λ s. s.section.buckets) shards }) base_is
-        ∙ ap (λ (x : List ℕ). record { arenas = c.arenas; base = base; sections = x }) s
+        ap (λ (x : List ℕ). record { arenas = x; versions = versions_of log1.layout; base = log1.base; sections = map (λ s. s.section.buckets) shards }) a
+        ∙ ap (λ (x : List ℕ). record { arenas = c.arenas; versions = x; base = log1.base; sections = map (λ s. s.section.buckets) shards }) v
+        ∙ ap (λ (x : ℕ). record { arenas = c.arenas; versions = c.versions; base = x; sections = map (λ s. s.section.buckets) shards }) base_is
+        ∙ ap (λ (x : List ℕ). record { arenas = c.arenas; versions = c.versions; base = base; sections = x }) s
 
     shard_sound : (i : ℕ) (s : ShardState D) → slice_get shards i ≡ Some s → IsSoundFrom score (setup_of k) disk s g k.log.durable 0
     shard_sound i s at =
         let it = link i s at in
         let store = of_store score disk c g tells devices of.setup.sections i it.device it.section it.device_at (was_read.sections i it.device it.device_at) it.opens in
         let before = sound_shard score disk c g sizes.lumps sizes.clean i it.section it.before tells store it.makes in
-        let after = recalled.shards i it.before s it.before_at at c before in
+        let after = recalled.shards i it.before s it.before_at at c log_versions before in
         let low : least ≤ s.section.head.mark = omega (arith, marks i it.before it.before_at, ap (λ h. h.mark) it.keeps.head) in
         subst (λ (n : ℕ). IsSoundFrom score (setup_of k) disk s g n 0) (sym durable_is)
         (subst (λ (v : Setup). IsSoundFrom score v disk s g (length g) 0) (sym setup_same)

@@ -22,6 +22,7 @@ use Rattle.vt_disk.specs.Members.{DiskOf}
 use Rattle.vt_isect.specs.Section.{SectionState}
 use Rattle.vt_log.specs.Answers.{HoldTheSame}
 use Rattle.vt_log.specs.Log.{LogState}
+use Rattle.vt_log.specs.Logs.{versions_of}
 use Rattle.vt_log.specs.Sound.{IsSoundLog}
 use Rattle.vt_log.proofs.Lists.{at_slice, slice_get_other}
 use Rattle.vt_model.specs.History.{History}
@@ -39,7 +40,7 @@ use Rattle.vt_recover.specs.Marks.{LacksMany}
 use Rattle.vt_shard.specs.declared.mounting.Sizes.{Sizes}
 use Rattle.vt_core.specs.Opening.{AgreeWith, AreHeld, IsLogFound, IsMountOf, RefusesBeside, TestsParts, with_log}
 use Rattle.vt_recover.specs.Opening.{IsFoundSection, IsShardMade, OpensFilter}
-use Rattle.vt_recover.specs.Recalling.{EndsEarly, IsCrowdedIn, IsDamagedAt, IsDamagedIn, ReadsBack, ReadsLogBack, KeepsSectionBytes, RecallsFrom, opened}
+use Rattle.vt_recover.specs.Recalling.{EndsEarly, HasVersionsOf, IsCrowdedIn, IsDamagedAt, IsDamagedIn, ReadsBack, ReadsLogBack, KeepsSectionBytes, RecallsFrom, opened}
 use Rattle.vt_recover.specs.Refusals.{CountsRefusal}
 use Rattle.vt_core.specs.Refusals.{IsDamageAt, IsDamagedEntry, IsBeforeReading, IsRefusedMount, BucketIsCrowded, PassesTests}
 use Rattle.vt_recover.specs.Sections.{IsLive, SectionStandsFor}
@@ -87,6 +88,10 @@ module _ {D : Type 0} (score : List ℕ → List ℕ) (disk : DiskOf D) (before 
 
   read_as : ReadsPrefix disk → IsTrue disk.tells → (c : Setup) (h g : History) (base : ℕ) → IsLogOf score disk log.tables pd c h g base → IsReadAs score disk c log.tables pd h g base
   read_as prefix tells c h g base of = prefix score c log.tables pd h g base tells (short_regions disk log given.whole) of
+
+  -- the log's arenas are those of the tables
+  log_versions : (c : Setup) → IsSetupOf disk log.tables pd c → HasVersionsOf log c
+  log_versions c setup = setup.versions ∙ ap (λ (rs : List ArenaRegion). versions_of rs) (sym given.layout)
 
   -- ---- a refusal of the sections or the filter
 
@@ -169,7 +174,7 @@ module _ {D : Type 0} (score : List ℕ → List ℕ) (disk : DiskOf D) (before 
             let it = link i s.0 s.1 in
             let store = store_of i s.0 it in
             let same : d ≡ s.0.section.disk = same_Some d s.0.section.disk (sym at ∙ at_map (λ s. s.section.disk) shards i s.0 s.1) in
-            let after : IsSoundFrom score c disk s.0 g (length g) from = recalled.shards i it.before s.0 it.before_at s.1 c (before_sound i s.0 it) in
+            let after : IsSoundFrom score c disk s.0 g (length g) from = recalled.shards i it.before s.0 it.before_at s.1 c (log_versions c of.setup) (before_sound i s.0 it) in
             let left : LeavesLive score c (take (length g) g) s.0 file =
             agree score c s.0 g (length g) from (length g) after (omega arith) (omega arith) file (subst (λ (x : D). disk.images x file) same image) in
             let head = chain_head score disk devices sections made lumps clean opens makes log log1 bits bits1 shards back i s.0 it in
@@ -178,7 +183,7 @@ module _ {D : Type 0} (score : List ℕ → List ℕ) (disk : DiskOf D) (before 
             (subst (IsLive c i) (sym head) store.live)
             (subst (λ (l : History). LeavesLive score c l s.0 file) (take_all (length g) g (omega arith)) left)
 
-        bytes_kept : ((h : History) (i : ℕ) (b a : ShardState D) → IsTrue disk.tells → IsSoundLog score disk log h → slice_get made i ≡ Some b → slice_get shards i ≡ Some a → KeepsSectionBytes score disk h i b a)
+        bytes_kept : ((h : History) (i : ℕ) (b a : ShardState D) → IsTrue disk.tells → IsSoundLog score disk log h → slice_get made i ≡ Some b → slice_get shards i ≡ Some a → KeepsSectionBytes score disk log h i b a)
             → (i : ℕ) (b a : D) → slice_get devices i ≡ Some b → slice_get (map (λ s. s.section.disk) shards) i ≡ Some a
             → (disk.bytes a ≡ disk.bytes b) ⊎ LacksMany score c g i (disk.bytes b)
         bytes_kept keeps i b a here there =
@@ -195,7 +200,7 @@ module _ {D : Type 0} (score : List ℕ → List ℕ) (disk : DiskOf D) (before 
             subst (SectionStandsFor score c g i) (ap disk.bytes (sym device) ∙ ap disk.bytes device ∙ sym bytes)
             ((read_as prefix tells c h g base of).sections i b here) in
             let same : a ≡ s.0.section.disk = same_Some a s.0.section.disk (sym there ∙ at_map (λ s. s.section.disk) shards i s.0 s.1) in
-            let kept = keeps g i it.before s.0 tells sound it.before_at s.1 c (subst (IsLive c i) (sym made_head) store.live) (made_buckets ∙ store.buckets) stands (before_sound i s.0 it) in
+            let kept = keeps g i it.before s.0 tells sound it.before_at s.1 c (log_versions c of.setup) (subst (IsLive c i) (sym made_head) store.live) (made_buckets ∙ store.buckets) stands (before_sound i s.0 it) in
             ⊎_elim (λ (e : disk.bytes s.0.section.disk ≡ disk.bytes it.before.section.disk). inl (ap disk.bytes same ∙ e ∙ bytes)) (λ lacks. inr (subst (LacksMany score c g i) bytes lacks)) kept
 
       sizes_same : map disk.size (map (λ s. s.section.disk) shards) ≡ map disk.size devices
@@ -204,7 +209,7 @@ module _ {D : Type 0} (score : List ℕ → List ℕ) (disk : DiskOf D) (before 
       -- whatever was read back, what is left stands
       pub read_standing : (prefix : ReadsPrefix disk) (agree : FilesAgree disk) (read : (d : D) → disk.images d (disk.bytes d)) (tells : IsTrue disk.tells)
           → ((g : History) → IsSoundLog score disk log g → (from : ℕ) × RecallsFrom score disk g from (opened log made bits) (opened log1 shards bits1))
-          → ((h : History) (i : ℕ) (b a : ShardState D) → IsTrue disk.tells → IsSoundLog score disk log h → slice_get made i ≡ Some b → slice_get shards i ≡ Some a → KeepsSectionBytes score disk h i b a)
+          → ((h : History) (i : ℕ) (b a : ShardState D) → IsTrue disk.tells → IsSoundLog score disk log h → slice_get made i ≡ Some b → slice_get shards i ≡ Some a → KeepsSectionBytes score disk log h i b a)
           → LeavesStanding score disk log.tables pd new
       read_standing prefix agree read tells recalled keeps = leaves_read score disk log.tables pd new tells read log.disks given.held back.disks
           (λ i d at. at_slice (IsSynced disk) log.disks i d given.settled at) (filter_held disk filter bloom bits filter_opens) sizes_same
@@ -297,7 +302,7 @@ module _ {D : Type 0} (score : List ℕ → List ℕ) (disk : DiskOf D) (before 
                 above = crowd.above;
                 bad_is = is ∙ ap (λ (p : ℕ). Disagree (p + i) Crowd found BUCKET_ROOM) at;
                 crowded = λ g base tells log_is stands.
-                    crowd.crowded c g tells (given.found g base tells log_is).0
+                    crowd.crowded c g tells (given.found g base tells log_is).0 (log_versions c setup)
                     (sound_shard score disk c g lumps clean i t.0 crowd.shard tells (of_store score disk c g tells devices setup.sections i d.0 t.0 d.1 stands d.2) t.2);
               }
 
@@ -314,7 +319,7 @@ module _ {D : Type 0} (score : List ℕ → List ℕ) (disk : DiskOf D) (before 
       read_mount prefix legal_prefix agree read least part at tests bad all handed sizes sessions is tables = record {
         mounts = tt;
         found = λ c h g base tells of limits.
-            inl (all.found c g tells (given.found g base tells of.read).0
+            inl (all.found c g tells (given.found g base tells of.read).0 (log_versions c of.setup)
             (λ n. subst (λ (l : History). crowd score (bucket_count c) l n ≤ BUCKET_ROOM) (sym (read_as prefix tells c h g base of).prefix) ((legal_prefix score c h (read_as prefix tells c h g base of).n of.legal).buckets n))
             (λ i s there.
             let t = zip_beside (IsShardMade disk lumps clean) sections made i s makes there in

@@ -60,7 +60,7 @@ live_stays c i old new same live = record {
 module _ {D : Type 0} (score : List ℕ → List ℕ) (disk : DiskOf D) (k : CoreState D) (i : ℕ) (before after : ShardState D)
     (at : slice_get k.shards i ≡ Some before) (keeps : Keeps disk k.log.durable before after) where
   pub same_setup : setup_of (record k { shards = slice_set k.shards i after }) ≡ setup_of k
-  same_setup = ap (λ (ns : List ℕ). record { arenas = (setup_of k).arenas; base = k.log.base; sections = ns })
+  same_setup = ap (λ (ns : List ℕ). record { arenas = (setup_of k).arenas; versions = (setup_of k).versions; base = k.log.base; sections = ns })
       (map_set (λ s. s.section.buckets) k.shards i after before at keeps.place.buckets)
 
   -- what holds of the new shard and of each other one

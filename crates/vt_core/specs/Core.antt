@@ -30,6 +30,7 @@ history_len k = front k.log
 abbrev pub setup_of : {D : Type 0} → CoreState D → Setup
 setup_of k = record {
   arenas = (setup_of_log k.log).arenas;
+  versions = (setup_of_log k.log).versions;
   base = k.log.base;
   sections = map (λ s. s.section.buckets) k.shards;
 }

@@ -21,7 +21,7 @@ use Rattle.vt_bloom.specs.Frame.{Saved, HasSaved}
 use Rattle.vt_log.specs.Answers.{HoldTheSame}
 use Rattle.vt_log.specs.Faults.{AreFields, IsMountedBy}
 use Rattle.vt_log.specs.Log.{IsMountedLog, LogState, disks_of}
-use Rattle.vt_log.specs.Logs.{IsLog, arena_count}
+use Rattle.vt_log.specs.Logs.{IsLog, arena_count, versions_of}
 use Rattle.vt_shard.specs.Shard.{ShardState}
 use Rattle.vt_shard.specs.declared.mounting.Sizes.{Sizes}
 use Rattle.vt_core.specs.declared.TheConstants.{MOST_ARENAS, MOST_BUCKETS}
@@ -57,6 +57,7 @@ devices_after (Err refusal) = devices_in refusal.1
 pub record IsSetupOf {D : Type 0} (disk : DiskOf D) (tables : List Table) (devices : PerDevice D)
     (c : Setup) : Type 0 where
   pub arenas : c.arenas ≡ map (λ r. r.region.len) (layout_of tables)
+  pub versions : c.versions ≡ versions_of (layout_of tables)
   pub sections : c.sections ≡ map (λ device. buckets_in (disk.size device)) devices.sections
 
 -- every combination of images stands for a prefix of one history that has this many blocks at least

@@ -10,7 +10,7 @@ use std::test::Fail;
 use vt_base::{Operation, Scorer, ShortScorer};
 use vt_core::{Event, Out};
 use vt_memdisk::CrashMode;
-use vt_model::PlainStore;
+use vt_model::{PlainStore, WRITTEN_VERSION};
 use vt_rows::Rows;
 
 /// Numbers that follow from the first one.
@@ -72,8 +72,9 @@ struct Pair<T: TestStore> {
 /// The list of these blocks.
 fn plain_of(alloc: Global, accepted: &[u32]) -> Option<PlainStore<ShortScorer>> {
     let arenas = vec![in alloc; 32_768, 32_768, 32_768].ok()?;
+    let versions = vec![in alloc; WRITTEN_VERSION; arenas.len()].ok()?;
     let sections = vec![in alloc; 1, 1].ok()?;
-    let mut plain = PlainStore::new(alloc, ShortScorer, arenas, 0, sections);
+    let mut plain = PlainStore::new(alloc, ShortScorer, arenas, versions, 0, sections);
     for number in accepted {
         let it = word_of(*number);
         plain.write(alloc, it.kind, it.bytes.get(..it.len)?).ok()?;

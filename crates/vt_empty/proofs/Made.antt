@@ -19,7 +19,8 @@ use Rattle.vt_disk.specs.declared.TheConstants.{BLOCK_LEN}
 use Rattle.vt_isect.specs.Layout.{buckets_in}
 use Rattle.vt_log.specs.Answers.{HoldTheSame}
 use Rattle.vt_log.specs.Log.{disks_of}
-use Rattle.vt_log.specs.Logs.{arena_count}
+use Rattle.vt_log.specs.Logs.{arena_count, versions_of}
+use Rattle.vt_model.specs.declared.TheConstants.{WRITTEN_VERSION}
 use Rattle.vt_model.specs.Places.{Setup}
 use Rattle.vt_part.specs.declared.layout.ArenaRegion.{ArenaRegion}
 use Rattle.vt_part.specs.declared.part.Part.{Part}
@@ -47,6 +48,15 @@ lens t s (suc n) = ap (λ (ns : List ℕ). t.arena_size ∷ ns) (lens t (s + 1) 
 
 arena_lens : (t : Table) → map (λ (r : ArenaRegion). r.region.len) (layout_of (t ∷ [])) ≡ replicate t.count t.arena_size
 arena_lens t = ap (λ (rs : List ArenaRegion). map (λ (r : ArenaRegion). r.region.len) rs) (append-nil (arenas_of_table 0 t)) ∙ lens t 0 t.count
+
+-- each arena is of the version that is written
+each_version : (rs : List ArenaRegion) → versions_of rs ≡ map (λ (n : ℕ). WRITTEN_VERSION) (map (λ (r : ArenaRegion). r.region.len) rs)
+each_version [] = refl
+each_version (r ∷ rs) = ap (λ (vs : List ℕ). WRITTEN_VERSION ∷ vs) (each_version rs)
+
+same_version : (n len : ℕ) → map (λ (m : ℕ). WRITTEN_VERSION) (replicate n len) ≡ replicate n WRITTEN_VERSION
+same_version zero len = refl
+same_version (suc n) len = ap (λ (vs : List ℕ). WRITTEN_VERSION ∷ vs) (same_version n len)
 
 arenas_in : (len arenas : ℕ) → 0 < len → arenas ≤ 4096 → count_for (BLOCK_LEN + arenas * len) len ≡ arenas
 arenas_in len arenas some few =
@@ -97,10 +107,17 @@ module _ {D : Type 0} (disk : DiskOf D) (shape : Shape) (is : IsShape shape) (de
       ∙ ap (λ (t : Table). map (λ (r : ArenaRegion). r.region.len) (layout_of (t ∷ []))) table ∙ arena_lens (table_for (codes "arenas") (BLOCK_LEN + shape.arenas * shape.arena_len) shape.arena_len)
       ∙ ap (λ (n : ℕ). replicate n shape.arena_len) (arenas_in shape.arena_len shape.arenas some_len few)
 
+  versions_are : versions_of (layout_of (tables_in devices)) ≡ replicate shape.arenas WRITTEN_VERSION
+  versions_are = each_version (layout_of (tables_in devices)) ∙ ap (map (λ (n : ℕ). WRITTEN_VERSION)) arenas_are
+      ∙ same_version shape.arenas shape.arena_len
+
   setup_same : setup_on disk (tables_in devices) (devices_in devices) ≡ setup_for shape
   setup_same =
-      ap (λ (ns : List ℕ). record { arenas = ns; base = 0; sections = map (λ (d : D). buckets_in (disk.size d)) devices.sections.items }) arenas_are
-      ∙ ap (λ (ns : List ℕ). record { arenas = replicate shape.arenas shape.arena_len; base = 0; sections = ns }) counts
+      let lens = map (λ (r : ArenaRegion). r.region.len) (layout_of (tables_in devices)) in
+      let counted = map (λ (d : D). buckets_in (disk.size d)) devices.sections.items in
+      ap (λ (vs : List ℕ). record { arenas = lens; versions = vs; base = 0; sections = counted }) versions_are
+      ∙ ap (λ (ns : List ℕ). record { arenas = ns; versions = replicate shape.arenas WRITTEN_VERSION; base = 0; sections = counted }) arenas_are
+      ∙ ap (λ (ns : List ℕ). record { arenas = replicate shape.arenas shape.arena_len; versions = replicate shape.arenas WRITTEN_VERSION; base = 0; sections = ns }) counts
 
   arenas_many : arena_count (tables_in devices) ≡ shape.arenas
   arenas_many =

@@ -8,6 +8,7 @@ use Rattle.vt_disk.specs.Members.{DiskOf}
 use Rattle.vt_model.specs.History.{History}
 use Rattle.vt_model.specs.Legal.{HasOtherKey, IsLegal}
 use Rattle.vt_model.specs.Places.{Setup, bucket_count, first_bucket}
+use Rattle.vt_model.proofs.Room.{nothing_fits}
 use Rattle.vt_part.specs.Laws.{LayoutsHaveArenas, LayoutsListArenas}
 use Rattle.vt_part.specs.Table.{IsPartition, Table}
 use Rattle.vt_bloom.specs.Frame.{HasSaved, empty_of}
@@ -138,7 +139,7 @@ module _ {D : Type 0} (disk : DiskOf D) where
 -- ---- all of them
 
 legal_nothing : (score : List ℕ → List ℕ) (c : Setup) → IsLegal score c []
-legal_nothing score c = search rules
+legal_nothing score c = search (rules, nothing_fits)
 
 module _ {D : Type 0} (disk : DiskOf D) where
   pub own_images : ((device : D) → disk.images device (disk.bytes device)) → (devices : List D) → AreImagesOf disk devices (map disk.bytes devices)
@@ -181,7 +182,7 @@ module _ {D : Type 0} (disk : DiskOf D) (have : LayoutsHaveArenas) (listed : Lay
       let images = own_images disk own devices.partitions in
       record {
         legal = legal_nothing score (setup_on disk tables devices);
-        setup = record { arenas = refl; sections = refl };
+        setup = record { arenas = refl; versions = refl; sections = refl };
         each = λ files left. record {
           n = 0;
           keeps = omega arith;

@@ -6,6 +6,7 @@ use Rattle.vt_disk.specs.Members.{DiskOf}
 use Rattle.vt_empty.specs.Formatted.{AreEmptyLogs, AreUnfilled, IsUnset}
 use Rattle.vt_isect.specs.Layout.{buckets_in}
 use Rattle.vt_log.specs.Answers.{HoldTheSame}
+use Rattle.vt_log.specs.Logs.{versions_of}
 use Rattle.vt_model.specs.Places.{Setup}
 use Rattle.vt_part.specs.Layout.{layout_of}
 use Rattle.vt_part.specs.Table.{Table}
@@ -22,6 +23,7 @@ pub record AreFormatted {D : Type 0} (disk : DiskOf D) (tables : List Table)
 abbrev pub setup_on : {D : Type 0} → DiskOf D → List Table → PerDevice D → Setup
 setup_on disk tables devices = record {
   arenas = map (λ r. r.region.len) (layout_of tables);
+  versions = versions_of (layout_of tables);
   base = 0;
   sections = map (λ device. buckets_in (disk.size device)) devices.sections;
 }

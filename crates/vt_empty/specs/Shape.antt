@@ -5,6 +5,7 @@ use Rattle.vt_bloom.specs.Size.{IsFilterSize}
 use Rattle.vt_core.specs.declared.TheConstants.{MOST_ARENAS, MOST_BUCKETS}
 use Rattle.vt_empty.specs.declared.shape.Shape.{Shape}
 use Rattle.vt_model.specs.Places.{Setup}
+use Rattle.vt_model.specs.declared.TheConstants.{WRITTEN_VERSION}
 use Rattle.vt_part.specs.Table.{IsArenaSize}
 
 -- a store may have it: an arena and a bucket at least, and no more than a store has
@@ -23,6 +24,7 @@ pub record IsShape (shape : Shape) : Type 0 where
 abbrev pub setup_for : Shape → Setup
 setup_for shape = record {
   arenas = replicate shape.arenas shape.arena_len;
+  versions = replicate shape.arenas WRITTEN_VERSION;
   base = 0;
   sections = replicate shape.sections shape.buckets;
 }

@@ -13,7 +13,7 @@ use Rattle.vt_clump.specs.declared.packed.Packed.{Packed}
 use Rattle.vt_clump.specs.Clumps.{IsPacked, stored_of}
 use Rattle.vt_model.specs.declared.TheConstants.{ARENA_HEAD_LEN}
 use Rattle.vt_model.specs.History.{Accepted, History}
-use Rattle.vt_model.specs.Places.{fits, lengths_in, Spot, last_arena, next_arena, place_of, offset_behind}
+use Rattle.vt_model.specs.Places.{fits, takes, lengths_in, Spot, last_arena, next_arena, place_of, offset_behind}
 use Rattle.vt_model.proofs.Adding.{lengths_in-this}
 use Rattle.vt_model.proofs.Prefixes.{lengths_in-append}
 use Rattle.vt_model.proofs.Spots.{place_of-append, place_of-push}
@@ -21,7 +21,7 @@ use Rattle.vt_clump.specs.Spelling.{Stored}
 use Rattle.vt_arena.specs.declared.head.ArenaHead.{ArenaHead}
 use Rattle.vt_arena.specs.declared.head.Found.{Found}
 use Rattle.vt_arena.specs.Arena.{added_by_commit}
-use Rattle.vt_arena.specs.Places.{block_room}
+use Rattle.vt_arena.specs.Places.{block_room, directory_room}
 use Rattle.vt_arena.specs.Layout.{arena_head}
 use Rattle.vt_log.specs.declared.filling.Filling.{Filling}
 use Rattle.vt_log.specs.declared.queue.Waiting.{Waiting}
@@ -32,6 +32,7 @@ use Rattle.vt_log.specs.Sound.{IsFilledBy, IsSoundLog}
 use Rattle.vt_log.specs.Whole.{IsWholeLog, turned_to}
 use Rattle.vt_log.proofs.Lists.{slice_get_other, at_drop, slice_get_left, slice_get_right}
 use Rattle.vt_log.proofs.Fill.{found_arena, fill_push, fill_arena}
+use Rattle.vt_log.proofs.Versions.{fits_is, offset_is, takes_same}
 
 -- the log with one more block
 abbrev pub with_appended : {D : Type 0} → Packed → Place → Filling → LogState D → LogState D
@@ -144,8 +145,10 @@ lengths_none a (e ∷ h) all =
 pub fits_same : {D : Type 0} (l : LogState D) (f : Filling) (lengths : List ℕ) (n : ℕ) → IsFilledBy lengths f
     → fits_in l.layout f n ≡ fits (setup_of_log l) f.arena (lengths ++ n ∷ [])
 fits_same l f lengths n filled =
-    ap (λ (k : ℕ). nat_le k (slice_index (setup_of_log l).arenas f.arena - ARENA_HEAD_LEN))
-    (omega (arith, filled.used, filled.clumps, sum_by-append block_room lengths (n ∷ []), length-append lengths (n ∷ [])))
+    let taken : f.used + block_room n + directory_room (f.clumps + 1) ≡ sum_by block_room (lengths ++ n ∷ []) + directory_room (length (lengths ++ n ∷ [])) =
+    omega (arith, filled.used, filled.clumps, sum_by-append block_room lengths (n ∷ []), length-append lengths (n ∷ [])) in
+    ap (λ (k : ℕ). nat_le k (slice_index (setup_of_log l).arenas f.arena - ARENA_HEAD_LEN)) taken
+    ∙ sym (fits_is l f.arena (lengths ++ n ∷ []))
 
 -- ---- where disks are sound for a history
 
@@ -190,9 +193,10 @@ module _ {D : Type 0} (score_of : List ℕ → List ℕ) (disk : DiskOf D) (l : 
       let there : fits_in l.layout next n ≡ fits (setup_of_log l) (a + 1) (n ∷ []) =
       fits_same l next [] n (found_empty (a + 1) (omega (arith, below.0)))
       ∙ ap (λ (k : ℕ). fits (setup_of_log l) k (n ∷ [])) (found_arena l.heads (a + 1)) in
-      let start : next_arena (setup_of_log l) h n ≡ cond (fits (setup_of_log l) a (lengths_in a h ++ n ∷ [])) (Some a) (cond (fits (setup_of_log l) (a + 1) (n ∷ [])) (Some (a + 1)) None) =
-      ap (λ (k : ℕ). cond (fits (setup_of_log l) k (lengths_in k h ++ n ∷ [])) (Some k) (cond (fits (setup_of_log l) (k + 1) (n ∷ [])) (Some (k + 1)) None)) (sym sound.last) in
+      let start : next_arena (setup_of_log l) h n ≡ cond (takes (setup_of_log l) a (lengths_in a h ++ n ∷ [])) (Some a) (cond (fits (setup_of_log l) (a + 1) (n ∷ [])) (Some (a + 1)) None) =
+      ap (λ (k : ℕ). cond (takes (setup_of_log l) k (lengths_in k h ++ n ∷ [])) (Some k) (cond (fits (setup_of_log l) (k + 1) (n ∷ [])) (Some (k + 1)) None)) (sym sound.last) in
       start
+      ∙ ap (λ (b : Bool). cond b (Some a) (cond (fits (setup_of_log l) (a + 1) (n ∷ [])) (Some (a + 1)) None)) (takes_same l a (lengths_in a h) n)
       ∙ ap (λ (b : Bool). cond b (Some a) (cond (fits (setup_of_log l) (a + 1) (n ∷ [])) (Some (a + 1)) None)) (sym here)
       ∙ ap (λ (b : Bool). cond (fits_in l.layout l.filling n) (Some a) (cond b (Some (a + 1)) None)) (sym there)
       ∙ ap (λ (k : ℕ). cond (fits_in l.layout l.filling n) (Some a) (cond (fits_in l.layout next n) (Some k) None)) (sym (found_arena l.heads (a + 1)))
@@ -270,7 +274,7 @@ append_sound score_of disk l h packed place f well sound room is place_is = (
         ∙ ap (λ (s : Spot). Some s) (λ i. record { arena = place.arena; offset = offset i })
       where
         offset : offset_behind (setup_of_log l) place.arena (lengths_in place.arena h) ≡ place.offset
-        offset = omega (arith, ap (λ (a : ℕ). sum_by block_room (lengths_in a h)) arena, fills.used, ap (λ (p : Place). p.offset) place_is)
+        offset = omega (arith, offset_is l place.arena (lengths_in place.arena h), ap (λ (a : ℕ). sum_by block_room (lengths_in a h)) arena, fills.used, ap (λ (p : Place). p.offset) place_is)
 
     filled : IsFilledBy (lengths_in f.arena (h ++ e ∷ [])) (with_room_taken packed.len f)
     filled = rw longer (record {

@@ -1,4 +1,5 @@
 pub mod Lists
+pub mod Versions
 pub mod IsWhole
 pub mod Fill
 pub mod Appends

@@ -35,6 +35,7 @@ use Rattle.vt_log.proofs.Lists.{slice_get_other, at_slice}
 use Rattle.vt_log.proofs.Places.{blocks_before, take_blocks, block_at, lengths_take, slice_get_there, split_at}
 use Rattle.vt_log.proofs.StoredAt.{HasContent, has_content, queued_as, front_take, front_same}
 use Rattle.vt_log.proofs.IsBehind.{blocks_below}
+use Rattle.vt_log.proofs.Versions.{offset_is}
 
 clumps_before : (arena : ℕ) → List Found → ℕ
 clumps_before arena heads = sum_by (λ found. found.head.clumps) (take arena heads)
@@ -205,7 +206,8 @@ at_last score_of disk l h n t found sound tail none at some behind reads =
         end = end ∙ ap used_of (take_push stored j s.0 s.1) ∙ used_push (take j stored) s.0;
       };
       block = block;
-      place = placed ∙ ap (λ (ls : List ℕ). Some (record { arena = t.arena; offset = offset_behind (setup_of_log l) t.arena ls })) front.lengths;
+      place = placed ∙ ap (λ (ls : List ℕ). Some (record { arena = t.arena; offset = offset_behind (setup_of_log l) t.arena ls })) front.lengths
+          ∙ ap (λ (k : ℕ). Some (record { arena = t.arena; offset = k })) (offset_is l t.arena (lengths_of (take j stored)));
       scored = (at_slice (IsStoredBlock score_of) stored j s.0 is.content.stored s.1).scored;
       front = front;
       inside = below;

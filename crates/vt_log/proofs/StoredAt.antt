@@ -12,8 +12,8 @@ use Rattle.vt_clump.specs.declared.packed.Packed.{Packed}
 use Rattle.vt_clump.specs.Clumps.{IsPacked, stored_of}
 use Rattle.vt_clump.specs.Spelling.{Stored, IsStoredBlock, size_in}
 use Rattle.vt_model.specs.History.{Accepted, History}
-use Rattle.vt_model.specs.Places.{Setup, Spot, StandsAt, lengths_in, offset_behind, place_of}
-use Rattle.vt_model.proofs.Spots.{behind_earlier}
+use Rattle.vt_model.specs.Places.{Setup, Spot, StandsAt, lengths_in, offset_behind, place_of, version_of}
+use Rattle.vt_model.proofs.Spots.{behind_earlier, some_taken}
 use Rattle.vt_part.specs.declared.layout.ArenaRegion.{ArenaRegion}
 use Rattle.vt_arena.specs.declared.head.Found.{Found}
 use Rattle.vt_arena.specs.Layout.{Content, IsArenaContent, HasBlocks, arena_head}
@@ -24,6 +24,7 @@ use Rattle.vt_log.specs.Logs.{accepted_in, blocks_from}
 use Rattle.vt_log.specs.Queue.{IsNowhere, spot_of, waiting_block}
 use Rattle.vt_log.specs.Sound.{IsArenaAt, IsSoundLog}
 use Rattle.vt_log.proofs.StandForPrefix.{there}
+use Rattle.vt_log.proofs.Versions.{offset_is}
 use Rattle.vt_log.proofs.Lists.{slice_get_other, at_slice, slice_get_left, slice_get_drop}
 use Rattle.vt_log.proofs.Places.{blocks_before, block_of, block_at, lengths_take, slice_get_there, split_at}
 
@@ -44,10 +45,12 @@ place_once c h i j s at_i at_j =
     let f = placed_block c h j s at_j in
     let stands_i : StandsAt c h i e.0 s = record { block = e.1; place = at_i } in
     let stands_j : StandsAt c h j f.0 s = record { block = f.1; place = at_j } in
+    let some_i = some_taken (version_of c s.arena) (length e.0.block.bytes) in
+    let some_j = some_taken (version_of c s.arena) (length f.0.block.bytes) in
     ⊎_elim
-    (λ (less : i < j). absurd (omega (arith, behind_earlier c h i j e.0 f.0 s s stands_i stands_j refl less)))
+    (λ (less : i < j). absurd (omega (arith, some_i, behind_earlier c h i j e.0 f.0 s s stands_i stands_j refl less)))
     (λ (rest : j ≤ i). ⊎_elim
-    (λ (less : j < i). absurd (omega (arith, behind_earlier c h j i f.0 e.0 s s stands_j stands_i refl less)))
+    (λ (less : j < i). absurd (omega (arith, some_j, behind_earlier c h j i f.0 e.0 s s stands_j stands_i refl less)))
     (λ (same : i ≤ j). omega (arith, rest, same))
     (cases_lt j i))
     (cases_lt i j)
@@ -222,7 +225,8 @@ module _ {D : Type 0} (score_of : List ℕ → List ℕ) (disk : DiskOf D) (l : 
       let spots : spot e ≡ spot_of place = same_Some (spot e) (spot_of place) (sym (ap (option_map spot) at) ∙ placed) in
       let arena : e.arena ≡ place.arena = ap (λ (s : Spot). s.arena) spots in
       let offset : place.offset ≡ offset_of (take it.index it.content.stored) =
-      sym (ap (λ (s : Spot). s.offset) spots) ∙ ap (offset_behind (setup_of_log l) e.arena) it.lengths in
+      sym (ap (λ (s : Spot). s.offset) spots) ∙ ap (offset_behind (setup_of_log l) e.arena) it.lengths
+      ∙ offset_is l e.arena (lengths_of (take it.index it.content.stored)) in
       let is = has_content e.arena it.content it.at reads in
       record {
         content = it.content;

@@ -14,7 +14,7 @@ use Rattle.vt_arena.specs.declared.head.Found.{Found}
 use Rattle.vt_arena.specs.Arena.{ArenaState, added_by_commit, is_committing}
 use Rattle.vt_arena.specs.Places.{block_room, has_room}
 use Rattle.vt_log.specs.declared.filling.Filling.{Filling}
-use Rattle.vt_log.specs.Logs.{accepted_in}
+use Rattle.vt_log.specs.Logs.{accepted_in, versions_of}
 use Rattle.vt_log.specs.Queue.{QueueState, no_queue, waiting_block}
 
 -- A log: the disks of its partitions and their tables, the regions of all arenas, and each one's
@@ -48,6 +48,7 @@ front l = l.durable + queued l
 abbrev pub setup_of_log : {D : Type 0} → LogState D → Setup
 setup_of_log l = record {
   arenas = map (λ r. r.region.len) l.layout;
+  versions = versions_of l.layout;
   base = l.base;
   sections = [];
 }

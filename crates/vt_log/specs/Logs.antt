@@ -2,11 +2,16 @@
 -- the first that isn't sealed (Quinlan and Dorward 2002, the data log; venti(8)).
 use Rattle.std.specs.Prelude.{◌≡◌, ⊤, ℕ, ◌+◌, ◌≤◌, Bool, if◌then◌else◌, MatchBool, Some, List, [], ◌∷◌, ◌++◌, All, length, map, sum_by, take, slice_get}
 use Rattle.vt_clump.specs.Spelling.{Stored}
+use Rattle.vt_model.specs.declared.TheConstants.{WRITTEN_VERSION}
 use Rattle.vt_model.specs.History.{Accepted, History}
 use Rattle.vt_model.specs.Places.{Setup, current_arena}
 use Rattle.vt_part.specs.declared.layout.ArenaRegion.{ArenaRegion}
 use Rattle.vt_part.specs.Table.{Table}
 use Rattle.vt_arena.specs.Layout.{Content, IsArena}
+
+-- the version of each arena: every one is of the version that is written
+abbrev pub versions_of : List ArenaRegion → List ℕ
+versions_of layout = map (λ r. WRITTEN_VERSION) layout
 
 -- a block of the arena with this number, over all partitions
 abbrev pub accepted_in : (arena : ℕ) → Stored → Accepted

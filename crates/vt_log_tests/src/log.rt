@@ -14,7 +14,7 @@ use vt_base::{Bytes, Failed, FieldValue, Info, Key, Kind, Place, Scorer, Sha1Sco
 use vt_clump::{Packed, pack};
 use vt_log::{LogBad, LogErr, Progress};
 use vt_memdisk::CrashMode;
-use vt_model::PlainStore;
+use vt_model::{PlainStore, WRITTEN_VERSION};
 use vt_part::PartBad;
 use vt_rows::Rows;
 
@@ -687,8 +687,9 @@ fn see_infos(infos: &[Info], taken: &[(Info, usize)], rows: &mut Rows) {
 /// The plain store with the arenas of a log on partitions of three and of two.
 fn plain_store(alloc: Global) -> Option<PlainStore<Sha1Scorer>> {
     let arenas = Vec::from_slice(alloc, &[ARENA_LEN as u32; 5]).ok()?;
+    let versions = Vec::from_slice(alloc, &[WRITTEN_VERSION; 5]).ok()?;
     let sections = Vec::from_slice(alloc, &[4000]).ok()?;
-    Some(PlainStore::new(alloc, Sha1Scorer, arenas, 0, sections))
+    Some(PlainStore::new(alloc, Sha1Scorer, arenas, versions, 0, sections))
 }
 
 /// Both of these.

@@ -283,21 +283,21 @@ module _ {D : Type 0} (score : List ℕ → List ℕ) (disk : DiskOf D) where
         let S : ℕ → ℕ → Spot = λ a o. record { arena = a; offset = o } in
         ap (λ (a : ℕ). S a spot.offset) (sym arena) ∙ ap (λ (o : ℕ). S place.arena o) (sym offset)
 
-    pub entry_given : (l : LogState D) (entry : Entry) (r : Result (List ℕ) ReadBad) → GivesBlocks l entry.place entry.key r → (i : ℕ) (it : IsEntryOf score c h i entry)
+    pub entry_given : (l : LogState D) → c ≡ record (setup_of_log l) { sections = c.sections } → (entry : Entry) (r : Result (List ℕ) ReadBad) → GivesBlocks l entry.place entry.key r → (i : ℕ) (it : IsEntryOf score c h i entry)
         → MatchResult r (λ block. block ≡ it.block.block.bytes) (λ bad. (bad ≡ read_bad.Fault) ⊎ (bad ≡ read_bad.NoMemory))
-    entry_given l entry r gives i it = gives i it.block it.stands.block
-        (it.stands.place ∙ ap (λ (s : Spot). Some s) (entry_spot it.spot entry.place it.arena_is it.offset_is)) it.kind_is it.score_is
+    entry_given l opened entry r gives i it = gives i it.block it.stands.block
+        (sym (ap (λ (d : Setup). place_of d h i) opened) ∙ it.stands.place ∙ ap (λ (s : Spot). Some s) (entry_spot it.spot entry.place it.arena_is it.offset_is)) it.kind_is it.score_is
 
-    pub entry_lump : (l : LogState D) (entry : Entry) (r : Result (List ℕ) ReadBad) (bytes : List ℕ) → r ≡ Ok bytes → GivesBlocks l entry.place entry.key r → IsEntryOfBlock score c h entry → IsLumpOf score h entry.key bytes
-    entry_lump l entry r bytes is gives of =
+    pub entry_lump : (l : LogState D) → c ≡ record (setup_of_log l) { sections = c.sections } → (entry : Entry) (r : Result (List ℕ) ReadBad) (bytes : List ℕ) → r ≡ Ok bytes → GivesBlocks l entry.place entry.key r → IsEntryOfBlock score c h entry → IsLumpOf score h entry.key bytes
+    entry_lump l opened entry r bytes is gives of =
         let it = of.1 in (
           of.0,
           record { block = it.block; stands = it.stands.block; score_is = sym it.score_is; kind_is = sym it.kind_is },
-          subst (λ (x : Result (List ℕ) ReadBad). MatchResult x (λ block. block ≡ it.block.block.bytes) (λ bad. (bad ≡ read_bad.Fault) ⊎ (bad ≡ read_bad.NoMemory))) is (entry_given l entry r gives of.0 it),
+          subst (λ (x : Result (List ℕ) ReadBad). MatchResult x (λ block. block ≡ it.block.block.bytes) (λ bad. (bad ≡ read_bad.Fault) ⊎ (bad ≡ read_bad.NoMemory))) is (entry_given l opened entry r gives of.0 it),
         )
 
-    pub entry_fails : (l : LogState D) (entry : Entry) (r : Result (List ℕ) ReadBad) (bad : ReadBad) → r ≡ Err bad → GivesBlocks l entry.place entry.key r → IsEntryOfBlock score c h entry
+    pub entry_fails : (l : LogState D) → c ≡ record (setup_of_log l) { sections = c.sections } → (entry : Entry) (r : Result (List ℕ) ReadBad) (bad : ReadBad) → r ≡ Err bad → GivesBlocks l entry.place entry.key r → IsEntryOfBlock score c h entry
         → MayKeepFrom (why_of_read entry.place bad)
-    entry_fails l entry r bad is gives of =
+    entry_fails l opened entry r bad is gives of =
         ⊎_elim (λ fault. inl (ap (why_of_read entry.place) fault)) (λ memory. inr (ap (why_of_read entry.place) memory))
-        (subst (λ (x : Result (List ℕ) ReadBad). MatchResult x (λ block. block ≡ of.1.block.block.bytes) (λ bad. (bad ≡ read_bad.Fault) ⊎ (bad ≡ read_bad.NoMemory))) is (entry_given l entry r gives of.0 of.1))
+        (subst (λ (x : Result (List ℕ) ReadBad). MatchResult x (λ block. block ≡ of.1.block.block.bytes) (λ bad. (bad ≡ read_bad.Fault) ⊎ (bad ≡ read_bad.NoMemory))) is (entry_given l opened entry r gives of.0 of.1))

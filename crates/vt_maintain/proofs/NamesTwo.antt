@@ -39,7 +39,7 @@ passes_two field limit first counts bad it =
 module _ {D : Type 0} (disk : DiskOf D) (store : StoreNamesTwo disk) (devices : Devices D) where
   -- the setup of these sections
   abbrev setup : List (SectionState D) → Setup
-  setup sections = record { arenas = []; base = 0; sections = buckets_in_each sections }
+  setup sections = record { arenas = []; versions = []; base = 0; sections = buckets_in_each sections }
 
   abbrev IsCause : Setup → MountBad → Type 0
   IsCause c bad = IsRefusedMount (λ (block : List ℕ). block) disk (tables_in devices)

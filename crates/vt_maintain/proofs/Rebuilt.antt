@@ -27,7 +27,7 @@ use Rattle.vt_isect.specs.declared.head.Head.{Head}
 use Rattle.vt_isect.specs.Layout.{IsSection, buckets_in}
 use Rattle.vt_isect.specs.Section.{SectionState}
 use Rattle.vt_log.specs.Log.{LogState, disks_of, filled_as}
-use Rattle.vt_log.specs.Logs.{IsLog, arena_count}
+use Rattle.vt_log.specs.Logs.{IsLog, arena_count, versions_of}
 use Rattle.vt_log.specs.Sound.{AreImagesOf, IsSoundLog}
 use Rattle.vt_log.specs.declared.filling.Filling.{Filling}
 use Rattle.vt_log.proofs.Lists.{at_slice, slice_get_other}
@@ -168,12 +168,15 @@ module _ {D : Type 0} (disk : DiskOf D) (score : List ℕ → List ℕ) (tells :
       done.opened.log_is.found.layout ∙ ap layout_of same_tables_ in
       let arenas : c.arenas ≡ map (λ r. r.region.len) log.layout =
       setup.arenas ∙ ap (map (λ (r : ArenaRegion). r.region.len)) (sym layout) in
+      let versions : c.versions ≡ versions_of log.layout =
+      setup.versions ∙ ap (λ (rs : List ArenaRegion). versions_of rs) (sym layout) in
       let first : base ≡ log.base = sym found.1 in
       let counts : c.sections ≡ counts_of olds = sym counts_are in
-      let put : List ℕ → ℕ → List ℕ → Setup =
-      λ a b s. record { arenas = a; base = b; sections = s } in
-      let e : put c.arenas base c.sections
-      ≡ put (map (λ r. r.region.len) log.layout) log.base (counts_of olds) = cc in
+      let put : List ℕ → List ℕ → ℕ → List ℕ → Setup =
+      λ a v b s. record { arenas = a; versions = v; base = b; sections = s } in
+      let e : put c.arenas c.versions base c.sections
+      ≡ put (map (λ r. r.region.len) log.layout) (versions_of log.layout) log.base
+      (counts_of olds) = cc in
       e
 
   -- ---- the history
@@ -302,7 +305,11 @@ module _ {D : Type 0} (disk : DiskOf D) (score : List ℕ → List ℕ) (tells :
   pub stands_for_all : IsLogOf score disk tables (devices_in back) (record c { base = base }) g g base
   stands_for_all = record {
     legal = legal_now;
-    setup = record { arenas = setup.arenas; sections = setup.sections };
+    setup = record {
+      arenas = setup.arenas;
+      versions = setup.versions;
+      sections = setup.sections;
+    };
     each = subst (λ (m : Setup). EachStands score disk m tables 0 (devices_in back) g) (sym setup_is)
         (λ files images. record {
           n = length g;

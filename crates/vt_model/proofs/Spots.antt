@@ -1,5 +1,5 @@
 -- Where blocks stand.
-use Rattle.std.proofs.Common.{◌≡◌, ◌≢◌, ℕ, zero, suc, ◌+◌, ◌<◌, ◌≤◌, ◌==◌, true, false, cond, List, [], ◌∷◌, ◌++◌, length, get_or, take, drop, Some, refl, sym, ◌∙◌, ap, subst, arith}
+use Rattle.std.proofs.Common.{◌≡◌, ◌≢◌, ℕ, zero, suc, ◌+◌, ◌-◌, ◌%◌, ◌<◌, ◌≤◌, ◌==◌, true, false, cond, List, [], ◌∷◌, ◌++◌, length, get_or, take, drop, Some, refl, sym, ◌∙◌, ap, subst, arith}
 use Rattle.std.specs.Prelude.{map, filter, slice_get, slice_index, sum_by}
 use Rattle.std.specs.Option.{option_map}
 use Rattle.std.proofs.Math.Seq.{take-append_seam}
@@ -8,9 +8,9 @@ use Rattle.std.proofs.lemmas.Bool.Decides.{Decides-eqb}
 use Rattle.std.proofs.lemmas.List.{take-append-le, take-append-drop, length-take}
 use Rattle.std.proofs.lemmas.List.Sums.{sum_by-cons, sum_by_more, sum_by-take-le}
 use Rattle.std.proofs.lemmas.Option.{slice_get_within, get_or_from_slice_get}
-use Rattle.vt_model.specs.declared.TheConstants.{ARENA_HEAD_LEN}
+use Rattle.vt_model.specs.declared.TheConstants.{ARENA_HEAD_LEN, CLUMP_HEADER_LEN, CLUMP_UNIT}
 use Rattle.vt_model.specs.History.{History, Accepted}
-use Rattle.vt_model.specs.Places.{Setup, Spot, StandsAt, room_of, clump_len, directory_len, needed, lengths_in, offset_behind, place_of}
+use Rattle.vt_model.specs.Places.{Setup, Spot, StandsAt, room_of, version_of, clump_len, clump_len_in, directory_len, needed, lengths_in, offset_behind, place_of, whole_units}
 use Rattle.vt_model.specs.Legal.{IsLegal}
 use Rattle.vt_model.proofs.Lists.{test_false}
 
@@ -64,6 +64,19 @@ pub if_in-other : (f : ℕ → ℕ) (a : ℕ) (e : Accepted) → e.arena ≢ a �
 if_in-other f a e other =
     ap (λ t. cond t (f (length e.block.bytes)) 0) (test_false _ (Decides-eqb e.arena a).0 other)
 
+-- a clump takes its header at least
+pub some_taken : (version n : ℕ) → CLUMP_HEADER_LEN ≤ clump_len_in version n
+some_taken version n = elim (version == 2) as
+    (λ t. CLUMP_HEADER_LEN ≤ cond t (whole_units (CLUMP_HEADER_LEN + n)) (CLUMP_HEADER_LEN + n)) [
+      | true ↦ omega arith
+      | false ↦ omega arith
+    ]
+
+-- clumps of version 2 have whole sectors together
+sum_whole : (lengths : List ℕ) → sum_by (clump_len_in 2) lengths % CLUMP_UNIT ≡ 0
+sum_whole [] = refl
+sum_whole (n ∷ more) = omega (arith, sum_by-cons (clump_len_in 2) n more, sum_whole more)
+
 -- ---- places
 
 pub slice_get-append : (xs ys : History) (i : ℕ) → i < length xs
@@ -75,6 +88,12 @@ slice_get-append (x ∷ xs) ys (suc i) lt = slice_get-append xs ys i (omega arit
 slice_get-push : (xs : History) (x : Accepted) → slice_get (xs ++ x ∷ []) (length xs) ≡ Some x
 slice_get-push [] x = refl
 slice_get-push (y ∷ xs) x = slice_get-push xs x
+
+in_arena : (offset clump first all directory len : ℕ) → offset + clump ≡ ARENA_HEAD_LEN + first
+    → ARENA_HEAD_LEN ≤ offset → first ≤ all → CLUMP_HEADER_LEN ≤ clump
+    → all + directory ≤ len - ARENA_HEAD_LEN → offset + clump + directory ≤ len
+in_arena offset clump first all directory len end head less some room =
+    omega (arith, end, head, less, some, room)
 
 abbrev pub spot_behind : Setup → History → Accepted → Spot
 spot_behind c before e =
@@ -101,6 +120,18 @@ module _ (c : Setup) (h : History) where
 
   pub behind_head : (i : ℕ) (e : Accepted) (s : Spot) → StandsAt c h i e s → ARENA_HEAD_LEN ≤ s.offset
   behind_head i e s at = omega (arith, ap (λ (s : Spot). s.offset) (spot_is i e s at))
+
+  pub on_sector : (i : ℕ) (e : Accepted) (s : Spot) → version_of c s.arena ≡ 2 → StandsAt c h i e s
+      → s.offset % CLUMP_UNIT ≡ 0
+  on_sector i e s version at =
+      let there = spot_is i e s at in
+      let arena : s.arena ≡ e.arena = ap (λ (s : Spot). s.arena) there in
+      let lengths = lengths_in e.arena (take i h) in
+      let offset : s.offset ≡ ARENA_HEAD_LEN + sum_by (clump_len_in 2) lengths =
+      ap (λ (s : Spot). s.offset) there
+      ∙ ap (λ (v : ℕ). ARENA_HEAD_LEN + sum_by (clump_len_in v) lengths)
+      (ap (version_of c) (sym arena) ∙ version) in
+      omega (arith, offset, sum_whole lengths)
 
   pub behind_earlier : (i j : ℕ) (e f : Accepted) (s t : Spot) → StandsAt c h i e s
       → StandsAt c h j f t → s.arena ≡ t.arena → i < j
@@ -140,13 +171,9 @@ module _ (c : Setup) (h : History) where
   before_directory score i e s legal at =
       let a = s.arena in
       let room : needed c a (lengths_in a h) ≤ room_of c a = leb-true _ _ (legal.room a) in
-      omega (
-        arith,
-        end_of i e s at,
-        behind_head i e s at,
-        sum_by-lengths_in-take-le (clump_len c a) a h (i + 1),
-        room,
-      )
+      in_arena _ _ _ _ _ _ (end_of i e s at) (behind_head i e s at)
+      (sum_by-lengths_in-take-le (clump_len c a) a h (i + 1))
+      (some_taken (version_of c a) (length e.block.bytes)) room
 
   pub place_of-append : (more : History) (i : ℕ) → i < length h
       → place_of c (h ++ more) i ≡ place_of c h i

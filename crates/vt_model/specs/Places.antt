@@ -1,15 +1,17 @@
 -- Where blocks go. The log is kept in arenas, which are filled one after another, and the index in
 -- buckets, of which a score's first 32 bits name one (Quinlan and Dorward 2002, venti(8)).
-use Rattle.std.specs.Prelude.{ℕ, ◌≡◌, ◌<◌, ◌≤◌, ◌+◌, ◌-◌, ◌*◌, ◌/◌, ◌^◌, ◌==◌, max, nat_le, nat_lt, Bool, if◌then◌else◌, Option, Some, None, List, [], ◌∷◌, ◌++◌, length, take, map, filter, sum, sum_by, count_by, slice_get, slice_index}
+use Rattle.std.specs.Prelude.{ℕ, ◌≡◌, ◌<◌, ◌≤◌, ◌+◌, ◌-◌, ◌*◌, ◌/◌, ◌^◌, ◌==◌, ◌&&◌, max, nat_le, nat_lt, Bool, if◌then◌else◌, Option, Some, None, List, [], ◌∷◌, ◌++◌, length, take, map, filter, sum, sum_by, count_by, slice_get, slice_index}
 use Rattle.std.specs.Option.{option_map}
 use Rattle.std.specs.Int.{w32, from_be_bytes}
-use Rattle.vt_model.specs.declared.TheConstants.{ARENA_HEAD_LEN, CLUMP_HEADER_LEN, DIRECTORY_ENTRY_LEN}
+use Rattle.vt_model.specs.declared.TheConstants.{ARENA_HEAD_LEN, CLUMP_HEADER_LEN, CLUMP_UNIT, DIRECTORY_ENTRY_LEN, WRITTEN_VERSION}
 use Rattle.vt_model.specs.History.{History, Accepted}
 
--- What a store was opened with: the length of each arena's region, the first arena that was not
--- sealed then (or the count of arenas), and how many buckets each index section has.
+-- What a store was opened with: the length of each arena's region, and the version in which each
+-- arena is kept; the first arena that was not sealed then (or the count of arenas); and how many
+-- buckets each index section has.
 pub record Setup : Type 0 where
   pub arenas : List ℕ
+  pub versions : List ℕ
   pub base : ℕ
   pub sections : List ℕ
 
@@ -19,13 +21,33 @@ pub record Setup : Type 0 where
 abbrev pub room_of : Setup → ℕ → ℕ
 room_of c arena = slice_index c.arenas arena - ARENA_HEAD_LEN
 
--- what a block of n bytes takes in this arena: a header, and itself
-abbrev pub clump_len : Setup → ℕ → ℕ → ℕ
-clump_len c arena n = CLUMP_HEADER_LEN + n
+-- the version of an arena; 0 past the last arena
+abbrev pub version_of : Setup → ℕ → ℕ
+version_of c arena = slice_index c.versions arena
 
--- what the directory of so many blocks takes in this arena: an entry for each
+-- a length, rounded up to whole sectors
+abbrev pub whole_units : ℕ → ℕ
+whole_units n = (n + (CLUMP_UNIT - 1)) / CLUMP_UNIT * CLUMP_UNIT
+
+-- What a block of n bytes takes in an arena of this version: a header, and itself. In version 2 it
+-- takes whole sectors, so that no sector has bytes of two clumps.
+abbrev pub clump_len_in : (version n : ℕ) → ℕ
+clump_len_in version n =
+    if version == 2 then whole_units (CLUMP_HEADER_LEN + n) else CLUMP_HEADER_LEN + n
+
+-- What the directory of so many blocks takes there: an entry for each. In version 2 it has whole
+-- sectors to itself.
+abbrev pub directory_len_in : (version blocks : ℕ) → ℕ
+directory_len_in version blocks =
+    if version == 2 then whole_units (DIRECTORY_ENTRY_LEN * blocks)
+    else DIRECTORY_ENTRY_LEN * blocks
+
+-- the same for this arena of a store
+abbrev pub clump_len : Setup → ℕ → ℕ → ℕ
+clump_len c arena n = clump_len_in (version_of c arena) n
+
 abbrev pub directory_len : Setup → ℕ → ℕ → ℕ
-directory_len c arena blocks = DIRECTORY_ENTRY_LEN * blocks
+directory_len c arena blocks = directory_len_in (version_of c arena) blocks
 
 -- what blocks of these lengths take of an arena
 abbrev pub needed : Setup → ℕ → List ℕ → ℕ
@@ -48,12 +70,17 @@ last_arena arena (e ∷ es) = last_arena e.arena es
 abbrev pub current_arena : Setup → History → ℕ
 current_arena c h = max c.base (last_arena 0 h)
 
--- Where a further block of n bytes goes: the current arena if it fits there, else the next one if
--- there is one and the block fits it empty, else nowhere.
+-- Blocks of these lengths fit an arena that takes more: it is of the version that is written.
+abbrev pub takes : Setup → ℕ → List ℕ → Bool
+takes c arena lengths = version_of c arena == WRITTEN_VERSION && fits c arena lengths
+
+-- Where a further block of n bytes goes: the current arena if it is of the version that is written
+-- and the block fits there, else the next one if there is one and the block fits it empty, else
+-- nowhere.
 abbrev pub next_arena : Setup → History → ℕ → Option ℕ
 next_arena c h n =
     let a = current_arena c h in
-    if fits c a (lengths_in a h ++ n ∷ []) then Some a
+    if takes c a (lengths_in a h ++ n ∷ []) then Some a
     else if fits c (a + 1) (n ∷ []) then Some (a + 1)
     else None
 

@@ -2,13 +2,13 @@
 //! that no code calls check the definitions. In each, `score` is any function of a block's bytes,
 //! also one that gives different bytes one score.
 
-ghost use Rattle.std.specs.Prelude.{◌≡◌, ◌≢◌, ◌↔◌, ◌⊎◌, ℕ, ◌+◌, ◌<◌, ◌≤◌, true, false, List, [], ◌∷◌, ◌++◌, Some, None, slice_get, slice_index, length, take, sum};
+ghost use Rattle.std.specs.Prelude.{◌≡◌, ◌≢◌, ◌↔◌, ◌⊎◌, ℕ, ◌+◌, ◌*◌, ◌%◌, ◌<◌, ◌≤◌, true, false, List, [], ◌∷◌, ◌++◌, Some, None, slice_get, slice_index, length, take, sum};
 ghost use Rattle.std.specs.List.{AllPairs};
 ghost use Rattle.vt_base.specs.Bytes.{AreBytes};
 ghost use Rattle.vt_base.specs.Protocol.{Operation, write, r_write, r_error};
-ghost use Rattle.vt_model.specs.declared.TheConstants.{ARENA_HEAD_LEN, CLUMP_HEADER_LEN, DIRECTORY_ENTRY_LEN, BUCKET_ROOM};
+ghost use Rattle.vt_model.specs.declared.TheConstants.{ARENA_HEAD_LEN, CLUMP_HEADER_LEN, CLUMP_UNIT, DIRECTORY_ENTRY_LEN, BUCKET_ROOM};
 ghost use Rattle.vt_model.specs.History.{History, Accepted, held, HasScoreAt, HasKeyAt};
-ghost use Rattle.vt_model.specs.Places.{Setup, Spot, StandsAt, clump_len, directory_len, lengths_in, offset_behind, place_of, current_arena, next_arena};
+ghost use Rattle.vt_model.specs.Places.{Setup, Spot, StandsAt, version_of, clump_len, clump_len_in, directory_len, directory_len_in, lengths_in, offset_behind, place_of, current_arena, next_arena};
 ghost use Rattle.vt_model.specs.Places.{bucket_of, section_of_bucket, LiesIn};
 ghost use Rattle.vt_model.specs.Answer.{answer, with_added, collides};
 ghost use Rattle.vt_model.specs.Legal.{IsLegal, HasOtherKey, NoCollision};
@@ -83,6 +83,20 @@ pub fn blocks_dont_overlap()
         IsLegal score c h → StandsAt c h i e s →
         s.offset + clump_len c s.arena (length e.block.bytes)
         + directory_len c s.arena (length (lengths_in s.arena h)) ≤ slice_index c.arenas s.arena }
+{}
+
+/// In an arena of version 2 each clump begins at a sector's start, and it and the directory take
+/// whole sectors, fewer than one more than they need.
+pub fn version_2_has_whole_sectors()
+    ensures clumps { (c : Setup) (h : History) (i : ℕ) (e : Accepted) (s : Spot) →
+        version_of c s.arena ≡ 2 → StandsAt c h i e s → s.offset % CLUMP_UNIT ≡ 0 }
+    ensures room { (n : ℕ) → (CLUMP_HEADER_LEN + n ≤ clump_len_in 2 n)
+        × (clump_len_in 2 n < CLUMP_HEADER_LEN + n + CLUMP_UNIT)
+        × (clump_len_in 2 n % CLUMP_UNIT ≡ 0) }
+    ensures directory { (blocks : ℕ) →
+        (DIRECTORY_ENTRY_LEN * blocks ≤ directory_len_in 2 blocks)
+        × (directory_len_in 2 blocks < DIRECTORY_ENTRY_LEN * blocks + CLUMP_UNIT)
+        × (directory_len_in 2 blocks % CLUMP_UNIT ≡ 0) }
 {}
 
 /// Blocks that are added move no earlier one. An added block stands in the arena that was found for
@@ -187,5 +201,6 @@ pub fn sizes_are_fixed()
     ensures head { ARENA_HEAD_LEN ≡ 24576 }
     ensures header { CLUMP_HEADER_LEN ≡ 38 }
     ensures entry { DIRECTORY_ENTRY_LEN ≡ 25 }
+    ensures unit { CLUMP_UNIT ≡ 512 }
     ensures bucket { BUCKET_ROOM ≡ 263 }
 {}

@@ -22,5 +22,12 @@ pub const CLUMP_HEADER_LEN: usize = 4 + 1 + 2 + 2 + 20 + 1 + 4 + 4;
 /// How many bytes an arena's directory keeps of a block: type, two sizes and score.
 pub const DIRECTORY_ENTRY_LEN: usize = 1 + 2 + 2 + 20;
 
+/// In an arena of version 2 a clump takes a multiple of so many bytes, and so does the directory:
+/// those of a disk's sector.
+pub const CLUMP_UNIT: usize = 512;
+
+/// The version of the arenas that blocks are put into. One of another version takes no more.
+pub const WRITTEN_VERSION: u16 = 1;
+
 /// How many blocks a bucket of the index has room for.
 pub const BUCKET_ROOM: usize = 263;

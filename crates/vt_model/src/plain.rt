@@ -4,14 +4,14 @@ ghost use Rattle.std.specs.Prelude.{◌≡◌, ◌≢◌, ◌<◌, ◌≤◌, �
 ghost use Rattle.std.specs.Option.{option_copied};
 ghost use Rattle.vt_base.specs.Protocol.{read, write, r_read, r_write};
 ghost use Rattle.vt_model.specs.History.{IsBlock, held};
-ghost use Rattle.vt_model.specs.Places.{next_arena, fits, lengths_in, current_arena, crowd, bucket_of, bucket_count};
+ghost use Rattle.vt_model.specs.Places.{next_arena, fits, lengths_in, crowd, bucket_of, bucket_count};
 ghost use Rattle.vt_model.specs.Answer.{answer_to_write, with_added, collides};
 ghost use Rattle.vt_model.specs.Plain.{StandsForReply, answer_of};
 ghost use Rattle.vt_model.specs.Verdict.{verdict_outcome};
 
-use crate::BUCKET_ROOM;
-use crate::layout::{Layout, bucket_of, room_after};
+use crate::layout::{Layout, Left, bucket_of, has_room};
 use crate::stored::{Stored, crowd, find_key, has_other_bytes, last_arena, room_left};
+use crate::{BUCKET_ROOM, WRITTEN_VERSION};
 use std::alloc::{AllocError, Global};
 use std::marker::Model;
 use vt_base::{Bytes, Key, Kind, MAX_BLOCK, Score, Scorer, Why};
@@ -49,16 +49,28 @@ impl<S: Scorer> Model for PlainStore<S> {
 }
 
 impl<S: Scorer> PlainStore<S> {
-    /// A store without blocks. `arenas` has how many bytes each arena's region has, `base` is the
-    /// first arena that is not sealed, and `sections` has how many buckets each index section has.
-    pub fn new(alloc: Global, scorer: S, arenas: Vec<u32>, base: usize, sections: Vec<u32>) -> Self
-        ensures setup { result.setup
-            ≡ record { arenas = arenas.items; base = base; sections = sections.items } }
+    /// A store without blocks. `arenas` has how many bytes each arena's region has, and `versions`
+    /// each one's version; `base` is the first arena that is not sealed, and `sections` has how many
+    /// buckets each index section has.
+    pub fn new(
+        alloc: Global,
+        scorer: S,
+        arenas: Vec<u32>,
+        versions: Vec<u16>,
+        base: usize,
+        sections: Vec<u32>,
+    ) -> Self
+        ensures setup { result.setup ≡ record {
+          arenas = arenas.items;
+          versions = versions.items;
+          base = base;
+          sections = sections.items;
+        } }
         ensures empty { result.history ≡ [] }
     {
         PlainStore {
             scorer,
-            layout: Layout::new(arenas, base, sections),
+            layout: Layout::new(arenas, versions, base, sections),
             blocks: Vec::new(alloc),
         }
     }
@@ -179,12 +191,11 @@ impl<S: Scorer> PlainStore<S> {
         ensures { result ≡ next_arena self.now.setup self.now.history len }
     {
         let current = self.layout.base().max(last_arena(&self.blocks));
-        if self.fits(current, len) {
+        if self.layout.version_of(current) == WRITTEN_VERSION && self.fits(current, len) {
             return Some(current);
         }
         let next = self.layout.next(current)?;
-        room_after(self.layout.room_of(next), len)?;
-        Some(next)
+        self.fits_empty(next, len).then_some(next)
     }
 
     /// Whether a further block of `len` bytes fits an arena.
@@ -192,10 +203,23 @@ impl<S: Scorer> PlainStore<S> {
         ensures { result
             ≡ fits self.now.setup arena (lengths_in arena self.now.history ++ len ∷ []) }
     {
-        match room_left(&self.blocks, arena, self.layout.room_of(arena)) {
-            Some(room) => room_after(room, len).is_some(),
+        let version = self.layout.version_of(arena);
+        let room = self.layout.room_of(arena);
+        match room_left(&self.blocks, arena, version, room) {
+            Some(left) => has_room(version, left, len),
             None => false,
         }
+    }
+
+    /// Whether a block of `len` bytes fits an arena without blocks.
+    fn fits_empty(&self, arena: usize, len: usize) -> bool
+        ensures { result ≡ fits self.now.setup arena (len ∷ []) }
+    {
+        let left = Left {
+            room: self.layout.room_of(arena) as u128,
+            clumps: 0,
+        };
+        has_room(self.layout.version_of(arena), left, len)
     }
 
     /// Puts a new block at the end; on want of memory nothing changes.

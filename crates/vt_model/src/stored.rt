@@ -1,13 +1,13 @@
 //! The blocks that the plain store keeps, and searches from the front.
 
-ghost use Rattle.std.specs.Prelude.{◌≡◌, ◌==◌, ◌&&◌, ◌-◌, ◌^◌, ◌<◌, ◌≤◌, not, find, count_by, max};
+ghost use Rattle.std.specs.Prelude.{◌≡◌, ◌==◌, ◌&&◌, ◌-◌, ◌^◌, ◌<◌, ◌≤◌, not, find, count_by, length, sum_by, IfSome};
 ghost use Rattle.std.specs.List.{list_any};
 ghost use Rattle.std.specs.Option.{option_copied, SomeIff};
 ghost use Rattle.std.specs.Str.{bytes_eq};
-ghost use Rattle.vt_model.specs.Places.{Setup, needed, lengths_in, last_arena, bucket_of};
+ghost use Rattle.vt_model.specs.Places.{clump_len_in, lengths_in, last_arena, bucket_of};
 ghost use Rattle.vt_model.specs.Stored.{history_of};
 
-use crate::layout::{bucket_of, room_after};
+use crate::layout::{Left, bucket_of, clump_len_in};
 use vt_base::{Bytes, Key, Score};
 
 /// A block that was accepted: its key, its bytes, and the number of its arena.
@@ -59,18 +59,21 @@ pub fn last_arena(blocks: &[Stored]) -> usize
     }
 }
 
-/// What is left of an arena's room behind its blocks and their directory entries; None where they
-/// take more.
-pub fn room_left(blocks: &[Stored], arena: usize, room: usize) -> Option<usize>
-    ensures { (c : Setup) →
-        let taken = needed c arena (lengths_in arena (history_of blocks.now)) in
-        SomeIff result (taken ≤ room) (room - taken) }
+/// What is left of an arena's room behind its clumps, and how many these are; None where they take
+/// more.
+pub fn room_left(blocks: &[Stored], arena: usize, version: u16, room: usize) -> Option<Left>
+    ensures left { let lengths = lengths_in arena (history_of blocks.now) in
+        let used = sum_by (clump_len_in version) lengths in
+        SomeIff result (used ≤ room) (record { room = room - used; clumps = length lengths }) }
+    ensures few { IfSome result (λ left. left.clumps < 2 ^ 64) }
 {
-    let mut left = room;
+    let mut left = room as u128;
+    let mut clumps = 0;
     for b in blocks {
         if b.arena == arena {
-            left = room_after(left, b.bytes.len())?;
+            left = left.checked_sub(clump_len_in(version, b.bytes.len()))?;
+            clumps += 1;
         }
     }
-    Some(left)
+    Some(Left { room: left, clumps })
 }

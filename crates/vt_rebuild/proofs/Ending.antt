@@ -20,7 +20,7 @@ use Rattle.vt_rebuild.proofs.Assembling.{at_all}
 use Rattle.vt_rebuild.proofs.Beginning.{counts_rise, counts_set}
 use Rattle.vt_rebuild.proofs.Fills.{log_stays}
 use Rattle.vt_rebuild.proofs.InTurn.{AreDoneTo, all_done, at_here, before, behind, done_more, none_done, within}
-use Rattle.vt_rebuild.proofs.Walks.{keeps_none, keeps_then}
+use Rattle.vt_rebuild.proofs.Walks.{keeps_none, keeps_then, versions_stay}
 
 -- what is finished, and from what
 pub record Work (D : Type 0) : Type 0 where
@@ -72,6 +72,7 @@ module _ {D : Type 0} (score : List ℕ → List ℕ) (disk : DiskOf D) (blocks 
   pub can_fill : (c : Setup) (h : History) → CanFill score disk c h old.log old.gathered → CanFill score disk c h now.log now.gathered
   can_fill c h can = record {
     log = log_stays score disk old.log now.log h it.keeps can.log;
+    versions = versions_stay score disk c old.log now.log it.keeps can.versions;
     index = record { buckets = can.index.buckets ∙ sym it.total; keys = can.index.keys };
     gathered = it.gathers c h can;
   }

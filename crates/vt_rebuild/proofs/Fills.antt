@@ -19,7 +19,7 @@ use Rattle.vt_rebuild.specs.Filling.{CanFill, HasFilled, PutsBucket}
 use Rattle.vt_rebuild.specs.Gathering.{HasItsBlocks, IsGathered, IsInOrder}
 use Rattle.vt_rebuild.specs.Rebuilt.{HasHistory}
 use Rattle.vt_rebuild.specs.Walking.{KeepsLog, is_rebuild_fault}
-use Rattle.vt_rebuild.proofs.Walks.{keeps_none, keeps_then}
+use Rattle.vt_rebuild.proofs.Walks.{keeps_none, keeps_then, versions_stay}
 
 -- what is filled, gathered and kept
 pub record Round (D : Type 0) : Type 0 where
@@ -104,6 +104,7 @@ module _ {D : Type 0} (score : List ℕ → List ℕ) (disk : DiskOf D) (i : ℕ
   pub can_fill : (c : Setup) (h : History) → CanFillIn score disk c h old → CanFillIn score disk c h now
   can_fill c h can = record {
     log = log_stays score disk old.log now.log h it.keeps can.log;
+    versions = versions_stay score disk c old.log now.log it.keeps can.versions;
     index = record { buckets = can.index.buckets ∙ sym it.total; keys = can.index.keys };
     gathered = it.gathers c h can;
   }

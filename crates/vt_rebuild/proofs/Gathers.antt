@@ -11,20 +11,24 @@ use Rattle.vt_base.specs.declared.place.Entry.{Entry}
 use Rattle.vt_base.specs.declared.place.Info.{Info}
 use Rattle.vt_isect.specs.Agreement.{HasBlock, IsEntryOf}
 use Rattle.vt_log.specs.Back.{IsInfoInLog}
-use Rattle.vt_log.specs.Log.{LogState}
+use Rattle.vt_log.specs.Log.{LogState, setup_of_log}
 use Rattle.vt_log.specs.Queue.{spot_of}
 use Rattle.vt_model.specs.History.{Accepted, History}
-use Rattle.vt_model.specs.Places.{Setup, bucket_count, bucket_of}
+use Rattle.vt_model.specs.Places.{Setup, bucket_count, bucket_of, place_of}
 use Rattle.vt_rebuild.specs.declared.gathering.Gathered.{Gathered}
 use Rattle.vt_rebuild.specs.Gathering.{HasGathered, IsGathered, IsInOrder, entry_of}
 
+-- a block's place depends on the versions alone
+place_by_log : {D : Type 0} (c : Setup) (l : LogState D) (h : History) (i : ℕ) → c.versions ≡ (setup_of_log l).versions → place_of c h i ≡ place_of (setup_of_log l) h i
+place_by_log c l h i versions = ap (λ (vs : List ℕ). place_of (record c { versions = vs }) h i) versions
+
 -- what is given of a block is its entry
-pub entry_is : {D : Type 0} (score : List ℕ → List ℕ) (c : Setup) (l : LogState D) (h : History) (m : ℕ) (info : Info) → IsInfoInLog score l h m info
+pub entry_is : {D : Type 0} (score : List ℕ → List ℕ) (c : Setup) (l : LogState D) (h : History) (m : ℕ) (info : Info) → c.versions ≡ (setup_of_log l).versions → IsInfoInLog score l h m info
     → IsEntryOf score c h m (entry_of info)
-entry_is score c l h m info it = record {
+entry_is score c l h m info versions it = record {
   block = it.block;
   spot = spot_of info.place;
-  stands = record { block = it.at; place = it.place };
+  stands = record { block = it.at; place = place_by_log c l h m versions ∙ it.place };
   score_is = it.score;
   kind_is = it.kind;
   size_is = it.size;

@@ -9,10 +9,10 @@ use Rattle.vt_disk.specs.Members.{DiskOf}
 use Rattle.vt_log.specs.Answers.{HoldTheSame, OnlyReadsLog}
 use Rattle.vt_log.specs.Back.{IsTailBehind, IsInfoInLog, IsTailOf, TailState}
 use Rattle.vt_log.specs.Faults.{OneHasRisen}
-use Rattle.vt_log.specs.Log.{LogState, front}
+use Rattle.vt_log.specs.Log.{LogState, front, setup_of_log}
 use Rattle.vt_log.specs.Sound.{IsSoundLog}
 use Rattle.vt_model.specs.History.{History}
-use Rattle.vt_model.specs.Places.{lengths_in}
+use Rattle.vt_model.specs.Places.{Setup, lengths_in}
 use Rattle.vt_rebuild.specs.declared.error.RebuildBad.{RebuildBad}
 use Rattle.vt_rebuild.specs.Walking.{GivesNext, KeepsLog, is_rebuild_fault}
 
@@ -61,6 +61,11 @@ keeps_then {D} score disk a b c one two = record {
 
 pub keeps_read : {D : Type 0} (score : List ℕ → List ℕ) (disk : DiskOf D) (most : ℕ) (a b : LogState D) → OnlyReadsLog score disk most a b → KeepsLog score disk a b
 keeps_read score disk most a b it = record { same = it.same; sound = it.sound; disks = it.disks }
+
+-- so do the versions of its arenas
+pub versions_stay : {D : Type 0} (score : List ℕ → List ℕ) (disk : DiskOf D) (c : Setup) (a b : LogState D) → KeepsLog score disk a b
+    → c.versions ≡ (setup_of_log a).versions → c.versions ≡ (setup_of_log b).versions
+versions_stay {D} score disk c a b keeps versions = subst (λ (m : LogState D). c.versions ≡ (setup_of_log m).versions) (sym keeps.same) versions
 
 -- a walk that came so far, of a log that is only read from
 pub record IsWalking {D : Type 0} (score : List ℕ → List ℕ) (disk : DiskOf D) (old now : LogState D) (t : TailState) : Type 0 where

@@ -7,7 +7,7 @@ use Rattle.vt_isect.specs.Filling.{ReadsKnown}
 use Rattle.vt_isect.specs.Section.{SectionState}
 use Rattle.vt_isect.specs.Sound.{KnownBuckets, with_bucket}
 use Rattle.vt_log.specs.Faults.{OneHasRisen}
-use Rattle.vt_log.specs.Log.{LogState}
+use Rattle.vt_log.specs.Log.{LogState, setup_of_log}
 use Rattle.vt_model.specs.History.{History}
 use Rattle.vt_model.specs.Places.{Setup, crowd}
 use Rattle.vt_model.specs.declared.TheConstants.{BUCKET_ROOM}
@@ -28,10 +28,12 @@ CountsEither disk result log log' section section' = TellsFault is_rebuild_fault
     ((map disk.faults log'.disks ≡ map disk.faults log.disks)
     × (disk.faults section'.disk ≡ disk.faults section.disk))
 
--- The log's blocks can be indexed, and what is gathered so far is that of them.
+-- The log's blocks can be indexed, by a setup with the versions of its arenas, and what is gathered
+-- so far is that of them.
 pub record CanFill {D : Type 0} (score : List ℕ → List ℕ) (disk : DiskOf D) (c : Setup)
     (h : History) (l : LogState D) (g : Gathered) : Type 0 where
   pub log : HasHistory score disk l h
+  pub versions : c.versions ≡ (setup_of_log l).versions
   pub index : CanIndex score c h g.total
   pub gathered : IsGathered score c h g
 

@@ -6,6 +6,7 @@ ghost use Rattle.vt_base.specs.declared.place.Entry.{Entry};
 ghost use Rattle.vt_bucket.specs.Buckets.{number_of_bucket, bucket_entries};
 ghost use Rattle.vt_isect.specs.Merging.{Merges};
 ghost use Rattle.vt_log.specs.Faults.{CountsFaults};
+ghost use Rattle.vt_log.specs.Log.{setup_of_log};
 ghost use Rattle.vt_log.specs.Sound.{IsSoundLog};
 ghost use Rattle.vt_model.specs.History.{History};
 ghost use Rattle.vt_model.specs.Places.{Setup, bucket_of, bucket_count, crowd};
@@ -53,7 +54,8 @@ impl Gathered {
             × (self.new.end ≤ self.new.total)) }
         ensures total { self.new.total ≡ self.old.total }
         ensures gathered { (c : Setup) (h : History) → IsTrue D.tells
-            → IsSoundLog S.score_of D.Disk log.old h → bucket_count c ≡ self.old.total
+            → IsSoundLog S.score_of D.Disk log.old h
+            → c.versions ≡ (setup_of_log log.old).versions → bucket_count c ≡ self.old.total
             → OnOk result (IsGathered S.score_of c h self.new) }
         ensures order { OnOk result (IsInOrder self.new) }
         ensures keeps { KeepsLog S.score_of D.Disk log.old log.new }
@@ -121,7 +123,8 @@ fn gather<D: Disk, S: Scorer, L: Ledger>(
     steps: &mut Steps<L>,
 ) -> Result<(), RebuildBad>
     ensures gathered { (c : Setup) (h : History) → IsTrue D.tells
-        → IsSoundLog S.score_of D.Disk log.old h → bucket_count c ≡ total
+        → IsSoundLog S.score_of D.Disk log.old h
+        → c.versions ≡ (setup_of_log log.old).versions → bucket_count c ≡ total
         → OnOk result (HasGathered S.score_of c h first end 0 entries.new.items) }
     ensures keeps { KeepsLog S.score_of D.Disk log.old log.new }
     ensures faults { CountsFaults D.Disk is_rebuild_fault result log.old.disks log.new.disks }

@@ -24,18 +24,18 @@ use Rattle.vt_twin.specs.Frames.{current_frame}
 use Rattle.vt_isect.specs.declared.head.Head.{Head}
 use Rattle.vt_log.specs.Answers.{HoldTheSame, OnlyReadsLog}
 use Rattle.vt_log.specs.Back.{IsTailBehind, IsInfoInLog, IsTailOf, TailState}
-use Rattle.vt_log.specs.Log.{IsMountedLog, LogState, front, queued}
+use Rattle.vt_log.specs.Log.{IsMountedLog, LogState, front, queued, setup_of_log}
 use Rattle.vt_log.specs.Queue.{QueueState, spot_of}
 use Rattle.vt_log.specs.Sound.{IsSoundLog}
 use Rattle.vt_log.specs.Whole.{IsOnDisk, IsWholeLog}
 use Rattle.vt_log.proofs.Lists.{at_slice, slice_get_other}
 use Rattle.vt_model.specs.History.{Accepted, History}
 use Rattle.vt_arena.specs.Places.{block_room}
-use Rattle.vt_model.specs.Places.{Setup, lengths_in}
+use Rattle.vt_model.specs.Places.{Setup, lengths_in, place_of}
 use Rattle.vt_shard.specs.Shard.{ShardState}
 use Rattle.vt_shard.specs.Sound.{IsSoundFrom}
 use Rattle.vt_recover.specs.Marks.{LacksMany}
-use Rattle.vt_recover.specs.Recalling.{AreReadBack, IsDamagedIn, IsUnused, KeepsSectionBytes, KeepsSection, Opened, ReadsBack, ReadsLogBack, RecallsFrom, devices_called, opened}
+use Rattle.vt_recover.specs.Recalling.{AreReadBack, HasVersionsOf, IsDamagedIn, IsUnused, KeepsSectionBytes, KeepsSection, Opened, ReadsBack, ReadsLogBack, RecallsFrom, devices_called, opened}
 use Rattle.vt_recover.specs.Refusals.{CountsRefusal}
 use Rattle.vt_recover.specs.Sections.{IsLive, SectionStandsFor, section_buckets}
 use Rattle.vt_recover.specs.TakingBack.{GivesNext, HasEntries, IsSoundAt, IsUnwrittenShard, StandsOnDisks, TakesAllBack, TellsOfLog}
@@ -76,12 +76,17 @@ stands_stays {D} disk l new same hold it = record {
       omega (arith, below, many);
 }
 
+-- a block's place depends on the versions alone
+place_by_log : {D : Type 0} (c : Setup) (l : LogState D) (h : History) (i : ℕ) → HasVersionsOf l c → place_of c h i ≡ place_of (setup_of_log l) h i
+place_by_log c l h i versions = ap (λ (vs : List ℕ). place_of (record c { versions = vs }) h i) versions
+
 -- what is given of a block is its entry
-pub entry_is : {D : Type 0} (score : List ℕ → List ℕ) (c : Setup) (l : LogState D) (h : History) (info : Info) → IsInfoInLog score l h info.number info → IsEntryOf score c h info.number (entry_of info)
-entry_is score c l h info it = record {
+pub entry_is : {D : Type 0} (score : List ℕ → List ℕ) (c : Setup) (l : LogState D) (h : History) (info : Info) → HasVersionsOf l c → IsInfoInLog score l h info.number info
+    → IsEntryOf score c h info.number (entry_of info)
+entry_is score c l h info versions it = record {
   block = it.block;
   spot = spot_of info.place;
-  stands = record { block = it.at; place = it.place };
+  stands = record { block = it.at; place = place_by_log c l h info.number versions ∙ it.place };
   score_is = it.score;
   kind_is = it.kind;
   size_is = it.size;
@@ -92,8 +97,8 @@ entry_is score c l h info it = record {
 -- ---- how far it came
 
 -- The blocks from this number on were read back, and nothing of the section was written, or many entries were lacking.
-abbrev pub IsUnwrittenTo : {D : Type 0} → (List ℕ → List ℕ) → DiskOf D → History → (i n : ℕ) → (before after : ShardState D) → Type 0
-IsUnwrittenTo score disk h i n before after = (c : Setup) (entries : ℕ → List Entry) → IsLive c i before.section.head → before.section.buckets ≡ section_buckets c i
+abbrev pub IsUnwrittenTo : {D : Type 0} → (List ℕ → List ℕ) → DiskOf D → LogState D → History → (i n : ℕ) → (before after : ShardState D) → Type 0
+IsUnwrittenTo score disk l h i n before after = (c : Setup) (entries : ℕ → List Entry) → HasVersionsOf l c → IsLive c i before.section.head → before.section.buckets ≡ section_buckets c i
     → SectionStandsFor score c h i (disk.bytes before.section.disk) → IsSoundFrom score c disk before h (length h) (length h)
     → HasEntries entries (disk.bytes before.section.disk) before
     → IsUnwrittenShard disk entries (disk.bytes before.section.disk) n after ⊎ LacksMany score c h i (disk.bytes before.section.disk)
@@ -111,7 +116,7 @@ pub record IsReading {D : Type 0} (score : List ℕ → List ℕ) (disk : DiskOf
   pub behind : (h : History) → IsTrue disk.tells → IsSoundLog score disk old.log h → IsTailBehind now.log h t.left t
   pub recalls : (h : History) → IsTrue disk.tells → IsSoundLog score disk old.log h → RecallsFrom score disk h t.left old now
   pub unwritten : (h : History) (i : ℕ) (before after : ShardState D) → IsTrue disk.tells → IsSoundLog score disk old.log h → slice_get old.shards i ≡ Some before
-      → slice_get now.shards i ≡ Some after → IsUnwrittenTo score disk h i t.left before after
+      → slice_get now.shards i ≡ Some after → IsUnwrittenTo score disk old.log h i t.left before after
 
 -- a log that was just found has no queue
 pub no_queued : {D : Type 0} (l : LogState D) → IsMountedLog l → queued l ≡ 0
@@ -174,10 +179,10 @@ begin_reading {D} score disk old t mounted stands unused tail all behind = recor
   behind = λ h tells sound. subst (λ (n : ℕ). IsTailBehind old.log h n t) (sym (all_of h sound)) (behind h sound);
   recalls = λ h tells sound. record {
     bits = λ i e above at. absurd (omega (arith, above, all_of h sound, within_get h i e at));
-    shards = λ i x y at there c was. subst (λ (n : ℕ). IsSoundFrom score c disk y h (length h) n) (sym (all_of h sound))
+    shards = λ i x y at there c versions was. subst (λ (n : ℕ). IsSoundFrom score c disk y h (length h) n) (sym (all_of h sound))
         (subst (λ (s : ShardState D). IsSoundFrom score c disk s h (length h) (length h)) (same_Some x y (sym at ∙ there)) was);
   };
-  unwritten = λ h i x y tells sound at there c entries live buckets section was has. inl (subst (λ (s : ShardState D). IsUnwrittenShard disk entries (disk.bytes x.section.disk) t.left s) (same_Some x y (sym at ∙ there))
+  unwritten = λ h i x y tells sound at there c entries versions live buckets section was has. inl (subst (λ (s : ShardState D). IsUnwrittenShard disk entries (disk.bytes x.section.disk) t.left s) (same_Some x y (sym at ∙ there))
       (let it = unused i x at in record {
         phase = it.quiet.phase;
         bytes = refl;
@@ -246,12 +251,15 @@ module _ {D : Type 0} (score : List ℕ → List ℕ) (disk : DiskOf D) (old now
       → IsInfoInLog score now.log h info.number info × (info.number + 1 ≡ t.left) × IsTailBehind now.log h info.number after
   given h tells sound = next.blocks h t.left tells (was.reads.sound h sound) (was.behind h tells sound)
 
+  versions_now : (c : Setup) → HasVersionsOf old.log c → HasVersionsOf now.log c
+  versions_now c versions = subst (λ (m : LogState D). HasVersionsOf m c) (sym was.reads.log) versions
+
   -- a shard as it was before the block was taken back into it
-  sound_at : (h : History) → IsTrue disk.tells → IsSoundLog score disk old.log h → (c : Setup) (i : ℕ) (x y : ShardState D) → slice_get old.shards i ≡ Some x → slice_get now.shards i ≡ Some y
+  sound_at : (h : History) → IsTrue disk.tells → IsSoundLog score disk old.log h → (c : Setup) → HasVersionsOf old.log c → (i : ℕ) (x y : ShardState D) → slice_get old.shards i ≡ Some x → slice_get now.shards i ≡ Some y
       → IsSoundFrom score c disk x h (length h) (length h) → IsSoundAt score c disk h info y
-  sound_at h tells sound c i x y at there first = (
-    subst (λ (n : ℕ). IsSoundFrom score c disk y h (length h) n) (sym next.number.1) ((was.recalls h tells sound).shards i x y at there c first),
-    entry_is score c now.log h info (given h tells sound).0,
+  sound_at h tells sound c versions i x y at there first = (
+    subst (λ (n : ℕ). IsSoundFrom score c disk y h (length h) n) (sym next.number.1) ((was.recalls h tells sound).shards i x y at there c versions first),
+    entry_is score c now.log h info (versions_now c versions) (given h tells sound).0,
   )
 
   below : info.number < old.log.durable
@@ -297,8 +305,8 @@ module _ {D : Type 0} (score : List ℕ → List ℕ) (disk : DiskOf D) (old now
 
     module _ (ranges : HaveRanges) (one_head : OneHead) (one_frame : IsUnambiguous) (more : LacksMore disk) where
       step_unwritten : (h : History) (i : ℕ) (x z : ShardState D) → IsTrue disk.tells → IsSoundLog score disk old.log h → slice_get old.shards i ≡ Some x
-          → slice_get shards i ≡ Some z → IsUnwrittenTo score disk h i info.number x z
-      step_unwritten h i x z tells sound at there c entries live buckets section first has =
+          → slice_get shards i ≡ Some z → IsUnwrittenTo score disk old.log h i info.number x z
+      step_unwritten h i x z tells sound at there c entries versions live buckets section first has =
           let y = mid_at i z there in
           let file : List ℕ = disk.bytes x.section.disk in
           let keeps = was.reads.shards i x y.0 at y.1 in
@@ -306,17 +314,17 @@ module _ {D : Type 0} (score : List ℕ → List ℕ) (disk : DiskOf D) (old now
           (λ un.
           let mid : IsUnwrittenShard disk entries file (info.number + 1) y.0 = subst (λ (n : ℕ). IsUnwrittenShard disk entries file n y.0) (sym next.number.1) un in
           ⊎_elim (λ good. inl good)
-          (λ full. inr (let it = sound_at h tells sound c i x y.0 at y.1 first in
+          (λ full. inr (let it = sound_at h tells sound c versions i x y.0 at y.1 first in
           lacks_many ranges one_head one_frame score c h i file x live buckets section entries has disk y.0 info keeps it.0 it.1 mid full))
           (takes.unwritten tells i y.0 z y.1 there entries file (entries_stay disk x y.0 entries file keeps has) mid))
           (λ many. inr many)
-          (was.unwritten h i x y.0 tells sound at y.1 c entries live buckets section first has)
+          (was.unwritten h i x y.0 tells sound at y.1 c entries versions live buckets section first has)
 
       step_bytes : (h : History) (i : ℕ) (x z : ShardState D) → IsTrue disk.tells → IsSoundLog score disk old.log h → slice_get old.shards i ≡ Some x → slice_get shards i ≡ Some z
-          → KeepsSectionBytes score disk h i x z
-      step_bytes h i x z tells sound at there c live buckets section first = ⊎_elim
+          → KeepsSectionBytes score disk old.log h i x z
+      step_bytes h i x z tells sound at there c versions live buckets section first = ⊎_elim
           (λ un. inl un.bytes) (λ many. inr many)
-          (step_unwritten h i x z tells sound at there c section.section.entries live buckets section first (stands_entries score c h i (disk.bytes x.section.disk) x live buckets section))
+          (step_unwritten h i x z tells sound at there c section.section.entries versions live buckets section first (stands_entries score c h i (disk.bytes x.section.disk) x live buckets section))
 
 -- all shards took it back
 pub reads_on : {D : Type 0} (score : List ℕ → List ℕ) (disk : DiskOf D) (old now : Opened D) (t after : TailState) (was : IsReading score disk old now t) (l : LogState D) (info : Info)
@@ -335,11 +343,11 @@ reads_on {D} score disk old now t after was l info next done part shards bits ta
       (subst (λ (n : ℕ). IsTailBehind now.log h n after) next.number.0 (given score disk old now t after was l info next h tells sound).2);
   recalls = λ h tells sound. subst (λ (n : ℕ). RecallsFrom score disk h n old (opened l shards bits)) next.number.0 (record {
     bits = step_bits score disk old now t after was l info next (Ok done) part shards bits takes marks stay set h tells sound;
-    shards = λ i x z at there c first.
+    shards = λ i x z at there c versions first.
         let y = slice_get_other now.shards shards i z takes.many there in
-        takes.sound tells score c h i y.0 z y.1 there (sound_at score disk old now t after was l info next h tells sound c i x y.0 at y.1 first);
+        takes.sound tells score c h i y.0 z y.1 there (sound_at score disk old now t after was l info next h tells sound c versions i x y.0 at y.1 first);
   });
-  unwritten = λ h i x z tells sound at there. subst (λ (n : ℕ). IsUnwrittenTo score disk h i n x z) next.number.0
+  unwritten = λ h i x z tells sound at there. subst (λ (n : ℕ). IsUnwrittenTo score disk old.log h i n x z) next.number.0
       (step_unwritten score disk old now t after was l info next (Ok done) part shards bits takes marks stay set ranges one_head one_frame more h i x z tells sound at there);
 }
 
@@ -351,16 +359,16 @@ pub ends_in_shard : {D : Type 0} (score : List ℕ → List ℕ) (disk : DiskOf 
 ends_in_shard {D} score disk old now t after was l info next bad least part shards bits takes marks stay set ranges one_head one_frame more = record {
   recalls = λ h tells sound. record {
     bits = λ i e above at. absurd (omega (arith, above, within_get h i e at));
-    shards = λ i x z at there c first.
+    shards = λ i x z at there c versions first.
         let y = slice_get_other now.shards shards i z takes.many there in
         let it = (given score disk old now t after was l info next h tells sound).0 in
         more score c z h (length h) (info.number + 1) (length h)
-        (takes.sound tells score c h i y.0 z y.1 there (sound_at score disk old now t after was l info next h tells sound c i x y.0 at y.1 first))
+        (takes.sound tells score c h i y.0 z y.1 there (sound_at score disk old now t after was l info next h tells sound c versions i x y.0 at y.1 first))
         (omega (arith, within_get h info.number it.block it.at));
   };
-  found = λ c h tells sound fits all. takes.found tells score c h
+  found = λ c h tells sound versions fits all. takes.found tells score c h
       (λ i y there. let x = slice_get_other old.shards now.shards i y was.reads.many there in
-      sound_at score disk old now t after was l info next h tells sound c i x.0 y x.1 there (all i x.0 x.1)) fits;
+      sound_at score disk old now t after was l info next h tells sound c versions i x.0 y x.1 there (all i x.0 x.1)) fits;
   bytes = λ h i x z tells sound at there.
       step_bytes score disk old now t after was l info next (Err bad) part shards bits takes marks stay set ranges one_head one_frame more h i x z tells sound at there;
   reads = step_reads score disk old now t after was l info next (Err bad) part shards bits takes marks stay set;
@@ -378,8 +386,8 @@ ends_in_shard {D} score disk old now t after was l info next bad least part shar
           shard = x.0;
           at = x.1;
           above = crowd.3.above;
-          crowded = λ c h tells sound first. crowd.3.crowded score c h tells
-              (sound_at score disk old now t after was l info next h tells sound c crowd.0 x.0 crowd.1 x.1 crowd.2 first);
+          crowded = λ c h tells sound versions first. crowd.3.crowded score c h tells
+              (sound_at score disk old now t after was l info next h tells sound c versions crowd.0 x.0 crowd.1 x.1 crowd.2 first);
         },
       )))
       takes.ends_early;
@@ -397,9 +405,10 @@ ends_in_shard {D} score disk old now t after was l info next bad least part shar
 -- ---- it ends in the log, or at its end
 
 module _ {D : Type 0} (score : List ℕ → List ℕ) (disk : DiskOf D) (old now : Opened D) (t : TailState) (was : IsReading score disk old now t) where
-  bytes_now : (h : History) (i : ℕ) (x y : ShardState D) → IsTrue disk.tells → IsSoundLog score disk old.log h → slice_get old.shards i ≡ Some x → slice_get now.shards i ≡ Some y → KeepsSectionBytes score disk h i x y
-  bytes_now h i x y tells sound at there c live buckets section first = ⊎_elim (λ un. inl un.bytes) (λ many. inr many)
-      (was.unwritten h i x y tells sound at there c section.section.entries live buckets section first (stands_entries score c h i (disk.bytes x.section.disk) x live buckets section))
+  bytes_now : (h : History) (i : ℕ) (x y : ShardState D) → IsTrue disk.tells → IsSoundLog score disk old.log h → slice_get old.shards i ≡ Some x → slice_get now.shards i ≡ Some y
+      → KeepsSectionBytes score disk old.log h i x y
+  bytes_now h i x y tells sound at there c versions live buckets section first = ⊎_elim (λ un. inl un.bytes) (λ many. inr many)
+      (was.unwritten h i x y tells sound at there c section.section.entries versions live buckets section first (stands_entries score c h i (disk.bytes x.section.disk) x live buckets section))
 
   -- damage in the log that is read is damage in the log that there was
   damaged_before : (arena : ℕ) (want found : FieldValue) → IsDamagedIn disk now.log arena want found → IsDamagedIn disk old.log arena want found
@@ -430,10 +439,10 @@ module _ {D : Type 0} (score : List ℕ → List ℕ) (disk : DiskOf D) (old now
   ends_in_log l bad least part reads counts tells_of fault more = record {
     recalls = λ h tells sound. let it = was.recalls h tells sound in record {
       bits = λ i e above at. absurd (omega (arith, above, within_get h i e at));
-      shards = λ i x y at there c first. more score c y h (length h) t.left (length h) (it.shards i x y at there c first)
+      shards = λ i x y at there c versions first. more score c y h (length h) t.left (length h) (it.shards i x y at there c versions first)
           (let b = was.behind h tells sound in b.most);
     };
-    found = λ c h tells sound fits all. fault h t.left tells (was.reads.sound h sound) (was.behind h tells sound);
+    found = λ c h tells sound versions fits all. fault h t.left tells (was.reads.sound h sound) (was.behind h tells sound);
     bytes = bytes_now;
     reads = record {
       log = reads.same ∙ ap (λ (m : LogState D). record m { disks = l.disks }) was.reads.log;
@@ -464,9 +473,9 @@ module _ {D : Type 0} (score : List ℕ → List ℕ) (disk : DiskOf D) (old now
     calls = once_ends disk least old now t once far;
     recalls = λ h tells sound. let it = was.recalls h tells sound in record {
       bits = λ i e above at. it.bits i e (omega (arith, far, above)) at;
-      shards = λ i x y at there c first. more score c y h (length h) t.left least (it.shards i x y at there c first) far;
+      shards = λ i x y at there c versions first. more score c y h (length h) t.left least (it.shards i x y at there c versions first) far;
     };
-    found = λ c h tells sound fits all. tt;
+    found = λ c h tells sound versions fits all. tt;
     bytes = bytes_now;
     reads = was.reads;
     rest = was.rest;

@@ -24,7 +24,7 @@ use Rattle.vt_isect.specs.declared.error.ShardErr.TheVariants as shard_err
 use Rattle.vt_isect.specs.Merging.{IsDamage}
 use Rattle.vt_isect.specs.Section.{IsAtRest}
 use Rattle.vt_log.specs.Answers.{HoldTheSame}
-use Rattle.vt_log.specs.Log.{LogState}
+use Rattle.vt_log.specs.Log.{LogState, setup_of_log}
 use Rattle.vt_log.specs.Sound.{IsSoundLog, IsArenaAt}
 use Rattle.vt_shard.specs.Shard.{ShardState}
 use Rattle.vt_shard.specs.Sound.{IsSoundFrom}
@@ -45,6 +45,11 @@ opened log shards bits = record { log = log; shards = shards; bits = bits }
 -- the devices that are called
 abbrev pub devices_called : {D : Type 0} → Opened D → List D
 devices_called o = o.log.disks ++ map (λ s. s.section.disk) o.shards
+
+-- The setup has each arena in the version in which the log has it, so that both place a block alike.
+-- Its base and its sections may be any.
+abbrev pub HasVersionsOf : {D : Type 0} → LogState D → Setup → Type 0
+HasVersionsOf l c = c.versions ≡ (setup_of_log l).versions
 
 -- ---- a shard
 
@@ -131,7 +136,7 @@ pub record IsCrowdedIn {D : Type 0} (score : List ℕ → List ℕ) (disk : Disk
   pub at : slice_get old.shards i ≡ Some shard
   pub above : BUCKET_ROOM < found
   pub crowded : (c : Setup) (h : History) → IsTrue disk.tells → IsSoundLog score disk old.log h
-      → IsSoundFrom score c disk shard h (length h) (length h)
+      → HasVersionsOf old.log c → IsSoundFrom score c disk shard h (length h) (length h)
       → (n : ℕ) × (found ≤ crowd score (bucket_count c) h n)
 
 -- a bucket's frame has a fault, or no room for entries that were to be put into it
@@ -159,10 +164,10 @@ EndsEarly score disk part old bad =
 -- ---- on sound devices
 
 -- A shard that was sound but for the blocks from its mark on is sound but for those from its mark
--- up to this number.
-abbrev pub IsSoundTo : {D : Type 0} → (List ℕ → List ℕ) → DiskOf D → History → (from : ℕ)
-    → (before after : ShardState D) → Type 0
-IsSoundTo score disk h from before after = (c : Setup)
+-- up to this number, by each setup with the log's versions.
+abbrev pub IsSoundTo : {D : Type 0} → (List ℕ → List ℕ) → DiskOf D → LogState D → History
+    → (from : ℕ) → (before after : ShardState D) → Type 0
+IsSoundTo score disk l h from before after = (c : Setup) → HasVersionsOf l c
     → IsSoundFrom score c disk before h (length h) (length h)
     → IsSoundFrom score c disk after h (length h) from
 
@@ -173,14 +178,14 @@ pub record RecallsFrom {D : Type 0} (score : List ℕ → List ℕ) (disk : Disk
   pub bits : (i : ℕ) (e : Accepted) → from ≤ i → slice_get h i ≡ Some e
       → HasBitsOf new.bits (score e.block.bytes)
   pub shards : (i : ℕ) (before after : ShardState D) → slice_get old.shards i ≡ Some before
-      → slice_get new.shards i ≡ Some after → IsSoundTo score disk h from before after
+      → slice_get new.shards i ≡ Some after → IsSoundTo score disk old.log h from before after
 
 -- A section keeps what it holds, unless more of its entries are lacking than its shard has room
--- for.
-abbrev pub KeepsSectionBytes : {D : Type 0} → (List ℕ → List ℕ) → DiskOf D → History → (i : ℕ)
-    → (before after : ShardState D) → Type 0
-KeepsSectionBytes score disk h i before after = (c : Setup) → IsLive c i before.section.head
-    → before.section.buckets ≡ section_buckets c i
+-- for, by a setup with the log's versions.
+abbrev pub KeepsSectionBytes : {D : Type 0} → (List ℕ → List ℕ) → DiskOf D → LogState D → History
+    → (i : ℕ) → (before after : ShardState D) → Type 0
+KeepsSectionBytes score disk l h i before after = (c : Setup) → HasVersionsOf l c
+    → IsLive c i before.section.head → before.section.buckets ≡ section_buckets c i
     → SectionStandsFor score c h i (disk.bytes before.section.disk)
     → IsSoundFrom score c disk before h (length h) (length h)
     → (disk.bytes after.section.disk ≡ disk.bytes before.section.disk)
@@ -202,11 +207,13 @@ pub record ReadsLogBack {D U : Type 0} (score : List ℕ → List ℕ) (disk : D
       → MatchResult result (λ _. RecallsFrom score disk h least old new)
       (λ _. RecallsFrom score disk h (length h) old new)
   pub found : (c : Setup) (h : History) → IsTrue disk.tells → IsSoundLog score disk old.log h
-      → FitsBuckets score c h → ((i : ℕ) (s : ShardState D) → slice_get old.shards i ≡ Some s
+      → HasVersionsOf old.log c → FitsBuckets score c h
+      → ((i : ℕ) (s : ShardState D) → slice_get old.shards i ≡ Some s
       → IsSoundFrom score c disk s h (length h) (length h)) → IfErr result (λ bad. bad ≡ Fault)
   pub bytes : (h : History) (i : ℕ) (before after : ShardState D) → IsTrue disk.tells
       → IsSoundLog score disk old.log h → slice_get old.shards i ≡ Some before
-      → slice_get new.shards i ≡ Some after → KeepsSectionBytes score disk h i before after
+      → slice_get new.shards i ≡ Some after
+      → KeepsSectionBytes score disk old.log h i before after
   -- whatever the devices hold
   pub reads : ReadsBack score disk old new
   pub rest : OnOk result (AreReadBack new.bits old.log.durable new.shards)

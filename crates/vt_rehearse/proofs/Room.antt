@@ -1,5 +1,5 @@
 -- There is room for each word, whatever crashes leave.
-use Rattle.std.proofs.Common.{◌≡◌, ◌≢◌, ⊎_elim, ◌+◌, ◌-◌, ◌<◌, ◌≤◌, ◌==◌, ℕ, zero, suc, Bool, true, false, cond, List, [], ◌∷◌, ◌++◌, length, map, take, drop, Some, None, refl, sym, ◌∙◌, ap, subst, arith, append-nil, take-append-drop, get_or, inl, inr, ◌⊎◌, replicate}
+use Rattle.std.proofs.Common.{◌≡◌, ◌≢◌, ⊎_elim, ◌+◌, ◌-◌, ◌*◌, ◌<◌, ◌≤◌, ◌==◌, ℕ, length-append, zero, suc, Bool, true, false, cond, List, [], ◌∷◌, ◌++◌, length, map, take, drop, Some, None, refl, sym, ◌∙◌, ap, subst, arith, append-nil, take-append-drop, get_or, inl, inr, ◌⊎◌, replicate}
 use Rattle.std.proofs.lemmas.Bool.{eqb-true, leb-false, le-leb, lt-leb}
 use Rattle.std.proofs.lemmas.Bool.Decides.{eqb_tells}
 use Rattle.std.proofs.lemmas.List.Elements.{All-cons, All-filter, All-head, All-nil, All-tail, filter_passes}
@@ -10,9 +10,10 @@ use Rattle.std.proofs.lemmas.Option.{same_Some}
 use Rattle.std.specs.Prelude.{not, slice_index}
 use Rattle.std.specs.List.{All, AllPairs, filter, sum_by}
 use Rattle.vt_model.specs.History.{Accepted, Block, History}
-use Rattle.vt_model.specs.Places.{Setup, current_arena, fits, last_arena, lengths_in, needed, next_arena, room_of}
+use Rattle.vt_model.specs.declared.TheConstants.{CLUMP_HEADER_LEN, DIRECTORY_ENTRY_LEN, WRITTEN_VERSION}
+use Rattle.vt_model.specs.Places.{Setup, clump_len, clump_len_in, current_arena, directory_len, directory_len_in, fits, last_arena, lengths_in, needed, next_arena, room_of, takes, version_of, whole_units}
 use Rattle.vt_model.proofs.Prefixes.{lengths_in-append}
-use Rattle.vt_model.proofs.Room.{needed_for, needed_is}
+use Rattle.vt_model.proofs.Room.{takes_is}
 use Rattle.vt_model.proofs.Spots.{if_in, sum_by-lengths_in}
 use Rattle.vt_rehearse.specs.Stage.{HasWords, IsFilled}
 use Rattle.vt_rehearse.specs.Words.{WORD_MOST, block_of_word, word_of}
@@ -36,15 +37,57 @@ last_pushed : (a : ℕ) (h : History) (e : Accepted) → last_arena a (h ++ e �
 last_pushed a [] e = refl
 last_pushed a (x ∷ xs) e = last_pushed x.arena xs e
 
+-- what one block takes of an arena of the version that is written, with its directory entry
+abbrev needed_for : ℕ → ℕ
+needed_for n = CLUMP_HEADER_LEN + n + DIRECTORY_ENTRY_LEN
+
+needed_written : (lengths : List ℕ) → sum_by (clump_len_in WRITTEN_VERSION) lengths + DIRECTORY_ENTRY_LEN * length lengths ≡ sum_by needed_for lengths
+needed_written [] = refl
+needed_written (n ∷ more) =
+    let rest = needed_written more in
+    let first = sum_by-cons needed_for n more in
+    let own = sum_by-cons (clump_len_in WRITTEN_VERSION) n more in
+    omega (arith, rest, first, own)
+
+needed_is : (c : Setup) (a : ℕ) (lengths : List ℕ) → version_of c a ≡ WRITTEN_VERSION → needed c a lengths ≡ sum_by needed_for lengths
+needed_is c a lengths written =
+    ap (λ (v : ℕ). sum_by (clump_len_in v) lengths + directory_len_in v (length lengths)) written ∙ needed_written lengths
+
+-- a longer block takes no less
+no_shorter : (version m n : ℕ) → m ≤ n → clump_len_in version m ≤ clump_len_in version n
+no_shorter version m n less = elim (version == 2) as (λ t. cond t (whole_units (CLUMP_HEADER_LEN + m)) (CLUMP_HEADER_LEN + m) ≤ cond t (whole_units (CLUMP_HEADER_LEN + n)) (CLUMP_HEADER_LEN + n)) [
+  | true ↦ omega (arith, less)
+  | false ↦ omega (arith, less)
+]
+
 -- what doesn't fit behind blocks is a longer one either
 longer : (c : Setup) (arena : ℕ) (lengths : List ℕ) (m n : ℕ) → m ≤ n → fits c arena (lengths ++ m ∷ []) ≡ false → fits c arena (lengths ++ n ∷ []) ≡ false
 longer c arena lengths m n less full =
     let past : room_of c arena < needed c arena (lengths ++ m ∷ []) = leb-false _ _ full in
-    let short = needed_is c arena (lengths ++ m ∷ []) in
-    let long = needed_is c arena (lengths ++ n ∷ []) in
-    let with_short = sum_by_push needed_for lengths m in
-    let with_long = sum_by_push needed_for lengths n in
-    lt-leb _ _ (omega (arith, past, short, long, with_short, with_long, less))
+    let own = no_shorter (version_of c arena) m n less in
+    let with_short = sum_by_push (clump_len c arena) lengths m in
+    let with_long = sum_by_push (clump_len c arena) lengths n in
+    let many : directory_len c arena (length (lengths ++ m ∷ [])) ≡ directory_len c arena (length (lengths ++ n ∷ [])) =
+    ap (directory_len c arena) (length-append lengths (m ∷ []) ∙ sym (length-append lengths (n ∷ []))) in
+    lt-leb _ _ (no_less _ _ _ _ _ _ _ _ past own with_short with_long many)
+  where
+    no_less : (room used one more few many d e : ℕ) → room < few + d → one ≤ more → few ≡ used + one → many ≡ used + more → d ≡ e → room < many + e
+    no_less room used one more few many d e past own short long same = omega (arith, past, own, short, long, same)
+
+-- each arena is of the version that is written, and takes what fits there
+written : (c : Setup) (h : History) → IsFilled c h → (arena : ℕ) → arena < length c.arenas → version_of c arena ≡ WRITTEN_VERSION
+written c h filled arena less =
+    let many : length c.arenas ≡ 3 = ap (λ (ns : List ℕ). length ns) filled.arenas in
+    ap (λ (vs : List ℕ). slice_index vs arena) filled.versions ∙ by arena (omega (arith, less, many))
+  where
+    by : (arena : ℕ) → arena < 3 → slice_index (replicate 3 WRITTEN_VERSION) arena ≡ WRITTEN_VERSION
+    by zero less = refl
+    by (suc zero) less = refl
+    by (suc (suc zero)) less = refl
+    by (suc (suc (suc n))) less = absurd (omega (arith, less))
+
+takes_filled : (c : Setup) (h : History) → IsFilled c h → (arena : ℕ) (lengths : List ℕ) (n : ℕ) → takes c arena (lengths ++ n ∷ []) ≡ fits c arena (lengths ++ n ∷ [])
+takes_filled c h filled arena lengths n = takes_is c arena lengths n (written c h filled arena)
 
 -- ---- crashes and writes
 
@@ -53,6 +96,7 @@ pub filled_left : (c : Setup) (h : History) (n base : ℕ) → IsFilled c h → 
     → current_arena c (take n h) ≤ base → base ≤ current_arena c h → IsFilled (record c { base = base }) (take n h)
 filled_left c h n base filled others least most = record {
   arenas = filled.arenas;
+  versions = filled.versions;
   full = λ arena less.
       let before : arena < base = omega (arith, less, least) in
       let same : lengths_in arena h ≡ lengths_in arena (take n h) =
@@ -75,8 +119,10 @@ module _ (c : Setup) (h : History) (filled : IsFilled c h) (e : Accepted) where
   pub filled_more : next_arena c h (length e.block.bytes) ≡ Some e.arena → length e.block.bytes ≤ WORD_MOST → IsFilled c (h ++ e ∷ [])
   filled_more next_is most = record {
     arenas = filled.arenas;
+    versions = filled.versions;
     full = λ arena less. by (fits c (current_arena c h) (lengths_in (current_arena c h) h ++ length e.block.bytes ∷ [])) refl
-        (fits c (current_arena c h + 1) (length e.block.bytes ∷ [])) next_is arena less;
+        (fits c (current_arena c h + 1) (length e.block.bytes ∷ [])) (ap (λ (b : Bool). cond b (Some (current_arena c h)) (cond (fits c (current_arena c h + 1) (length e.block.bytes ∷ [])) (Some (current_arena c h + 1)) None))
+        (sym (takes_filled c h filled (current_arena c h) (lengths_in (current_arena c h) h) (length e.block.bytes))) ∙ next_is) arena less;
   }
     where
       last : last_arena 0 (h ++ e ∷ []) ≡ e.arena
@@ -192,10 +238,15 @@ module _ (c : Setup) (h : History) (listed : List ℕ) (filled : IsFilled c h) (
       by (suc (suc zero)) less = refl
       by (suc (suc (suc n))) less = absurd (omega (arith, less))
 
+  version_there : (arena : ℕ) → arena < 3 → version_of c arena ≡ WRITTEN_VERSION
+  version_there arena less =
+      let many : length c.arenas ≡ 3 = ap (λ (ns : List ℕ). length ns) filled.arenas in
+      written c h filled arena (omega (arith, less, many))
+
   -- a word fits an arena without blocks
   fits_empty : (arena : ℕ) → arena < 3 → fits c arena (length (word_of w) ∷ []) ≡ true
   fits_empty arena less =
-      let needs = needed_is c arena (length (word_of w) ∷ []) in
+      let needs = needed_is c arena (length (word_of w) ∷ []) (version_there arena less) in
       let sum = sum_by-cons needed_for (length (word_of w)) [] in
       let room = room_is arena less in
       let most = word_short w in
@@ -205,14 +256,16 @@ module _ (c : Setup) (h : History) (listed : List ℕ) (filled : IsFilled c h) (
   full_has : (arena : ℕ) → arena < 3 → arena < current_arena c h → 7929 < sum_by (if_in arena needed_for) h
   full_has arena there less =
       let past : room_of c arena < needed c arena (lengths_in arena h ++ 200 ∷ []) = leb-false _ _ (filled.full arena less) in
-      let needs = needed_is c arena (lengths_in arena h ++ 200 ∷ []) in
+      let needs = needed_is c arena (lengths_in arena h ++ 200 ∷ []) (version_there arena there) in
       let more = sum_by_push needed_for (lengths_in arena h) 200 in
       let same = sum_by-lengths_in needed_for arena h in
       let room = room_is arena there in
       omega (arith, past, needs, more, same, room)
 
   pub has_room : next_arena c h (length (word_of w)) ≢ None
-  has_room = by (fits c (current_arena c h) (lengths_in (current_arena c h) h ++ length (word_of w) ∷ [])) (fits c (current_arena c h + 1) (length (word_of w) ∷ [])) refl
+  has_room = subst (λ (b : Bool). cond b (Some (current_arena c h)) (cond (fits c (current_arena c h + 1) (length (word_of w) ∷ [])) (Some (current_arena c h + 1)) None) ≢ None)
+      (sym (takes_filled c h filled (current_arena c h) (lengths_in (current_arena c h) h) (length (word_of w))))
+      (by (fits c (current_arena c h) (lengths_in (current_arena c h) h ++ length (word_of w) ∷ [])) (fits c (current_arena c h + 1) (length (word_of w) ∷ [])) refl)
     where
       early_or_late : (n : ℕ) → (n < 2) ⊎ (2 ≤ n)
       early_or_late zero = inl (omega arith)

@@ -38,5 +38,5 @@ alike_first score disk memory devices fresh first mounts unlisted =
         words = λ i d lt. absurd (omega (arith, lt));
         once = λ i j d less lt. absurd (omega (arith, lt));
       });
-      filled = subst (λ (c : Setup). IsFilled c []) (sym it.setup) (record { arenas = refl; full = λ arena less. absurd (omega (arith, less)) });
+      filled = subst (λ (c : Setup). IsFilled c []) (sym it.setup) (record { arenas = refl; versions = refl; full = λ arena less. absurd (omega (arith, less)) });
     }

@@ -53,6 +53,7 @@ pub record HasWords (h : History) (listed : List ℕ) : Type 0 where
 -- room for the longest word.
 pub record IsFilled (c : Setup) (h : History) : Type 0 where
   pub arenas : c.arenas ≡ (setup_for the_shape).arenas
+  pub versions : c.versions ≡ (setup_for the_shape).versions
   pub full : (arena : ℕ) → arena < current_arena c h
       → fits c arena (lengths_in arena h ++ WORD_MOST ∷ []) ≡ false
 

@@ -65,7 +65,7 @@ impl Store for Scripted {
     ghost score_of = { λ bytes. replicate 20 115 };
 
     ghost condition = { λ s. record {
-      setup = record { arenas = []; base = 0; sections = [] };
+      setup = record { arenas = []; versions = []; base = 0; sections = [] };
       alone = Bool.false;
       faults = [];
       stops = [];

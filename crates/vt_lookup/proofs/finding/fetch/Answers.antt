@@ -34,7 +34,7 @@ pub returns-in-Ok-clause-sound : goal.returns-in-Ok-clause-sound
 returns-in-Ok-clause-sound g c = λ setup h durable tells sound of.
     read_sound g.S.Scorer.score_of g.D.Disk setup h durable 2 c.args.log.now c.read.new.self c.args.shard.now c.keep.new.shard c.read.ensures.reads
     (c.keep.ensures.sound g.S.Scorer.score_of setup h durable (c.touch_lump.ensures.sound g.S.Scorer.score_of setup h durable 0 sound.shard)
-    (entry_lump g.S.Scorer.score_of g.D.Disk setup h durable c.args.log.now c.args.entry.now c.read.result c.in-Ok.bytes c.in-Ok.is (λ i e. c.read.ensures.block h i e tells sound.log) of)) sound
+    (entry_lump g.S.Scorer.score_of g.D.Disk setup h durable c.args.log.now sound.opened c.args.entry.now c.read.result c.in-Ok.bytes c.in-Ok.is (λ i e. c.read.ensures.block h i e tells sound.log) of)) sound
 
 pub returns-in-Ok-clause-fetches : goal.returns-in-Ok-clause-fetches
 returns-in-Ok-clause-fetches g c =
@@ -68,7 +68,7 @@ returns-in-Ok-clause-lumps g c =
 pub returns-in-Err-clause-right : goal.returns-in-Err-clause-right
 returns-in-Err-clause-right g c = λ setup h durable tells sound of.
     subst MayKeepFrom (sym c.why_of_read.ensures)
-    (entry_fails g.S.Scorer.score_of g.D.Disk setup h durable c.args.log.now c.args.entry.now c.read.result c.in-Err.bad c.in-Err.is (λ i e. c.read.ensures.block h i e tells sound.log) of)
+    (entry_fails g.S.Scorer.score_of g.D.Disk setup h durable c.args.log.now sound.opened c.args.entry.now c.read.result c.in-Err.bad c.in-Err.is (λ i e. c.read.ensures.block h i e tells sound.log) of)
 
 pub returns-in-Err-clause-sound : goal.returns-in-Err-clause-sound
 returns-in-Err-clause-sound g c = λ setup h durable tells sound of.

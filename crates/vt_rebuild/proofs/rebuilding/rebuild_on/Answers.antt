@@ -1,4 +1,4 @@
-use Rattle.std.proofs.Common.{◌≡◌, ◌∙◌, ℕ, List, length, sym, subst}
+use Rattle.std.proofs.Common.{◌≡◌, ◌∙◌, ℕ, List, length, refl, sym, subst}
 use Rattle.std.specs.Prelude.{All, sum}
 use Rattle.std.proofs.lemmas.Result.{err_from_is_err_and}
 use Rattle.vt_isect.specs.Section.{SectionState}
@@ -8,7 +8,7 @@ use Rattle.vt_rebuild.specs.Filling.{CanFill, FitsBuckets}
 use Rattle.vt_rebuild.specs.Rebuilt.{counts_of, setup_with}
 use Rattle.vt_rebuild.proofs.Assembling.{all_rebuilt, either_refused, fault_refused, half_begun, half_finished, not_full, to_finish}
 use Rattle.vt_rebuild.proofs.Fills.{log_stays}
-use Rattle.vt_rebuild.proofs.Walks.{keeps_then}
+use Rattle.vt_rebuild.proofs.Walks.{keeps_then, versions_stay}
 use Rattle.vt_rebuild.proofs.rebuilding.rebuild_on.Goals as goal
 
 pub returns-in_err-counts-clause-refused : goal.returns-in_err-counts-clause-refused
@@ -45,6 +45,7 @@ returns-in_err-finish_all-clause-refused g c = λ h is.
     let total : c.in_ok-counts.gathered.total ≡ bucket_count setup = c.in_ok-counts.ensures.counts.1 ∙ c.buckets_in-total.ensures in
     let can : CanFill score g.D.Disk setup h c.count_all.new.log c.in_ok-counts.gathered = record {
       log = log_stays score g.D.Disk c.args.log.now c.count_all.new.log h c.count_all.ensures.keeps is;
+      versions = versions_stay score g.D.Disk setup c.args.log.now c.count_all.new.log c.count_all.ensures.keeps refl;
       index = record { buckets = sym total; keys = is.keys };
       gathered = c.in_ok-counts.ensures.none setup h;
     } in
@@ -63,6 +64,7 @@ returns-in_err-finish_all-clause-left g c = λ h is.
     let total : c.in_ok-counts.gathered.total ≡ bucket_count setup = c.in_ok-counts.ensures.counts.1 ∙ c.buckets_in-total.ensures in
     let can : CanFill score g.D.Disk setup h c.count_all.new.log c.in_ok-counts.gathered = record {
       log = log_stays score g.D.Disk c.args.log.now c.count_all.new.log h c.count_all.ensures.keeps is;
+      versions = versions_stay score g.D.Disk setup c.args.log.now c.count_all.new.log c.count_all.ensures.keeps refl;
       index = record { buckets = sym total; keys = is.keys };
       gathered = c.in_ok-counts.ensures.none setup h;
     } in
@@ -81,6 +83,7 @@ returns-in_err-finish_all-clause-unwritten g c = λ h n is full.
     let total : c.in_ok-counts.gathered.total ≡ bucket_count setup = c.in_ok-counts.ensures.counts.1 ∙ c.buckets_in-total.ensures in
     let can : CanFill score g.D.Disk setup h c.count_all.new.log c.in_ok-counts.gathered = record {
       log = log_stays score g.D.Disk c.args.log.now c.count_all.new.log h c.count_all.ensures.keeps is;
+      versions = versions_stay score g.D.Disk setup c.args.log.now c.count_all.new.log c.count_all.ensures.keeps refl;
       index = record { buckets = sym total; keys = is.keys };
       gathered = c.in_ok-counts.ensures.none setup h;
     } in
@@ -104,6 +107,7 @@ returns-clause-rebuilt g c = λ h is.
     let total : c.in_ok-counts.gathered.total ≡ bucket_count setup = c.in_ok-counts.ensures.counts.1 ∙ c.buckets_in-total.ensures in
     let can : CanFill score g.D.Disk setup h c.count_all.new.log c.in_ok-counts.gathered = record {
       log = log_stays score g.D.Disk c.args.log.now c.count_all.new.log h c.count_all.ensures.keeps is;
+      versions = versions_stay score g.D.Disk setup c.args.log.now c.count_all.new.log c.count_all.ensures.keeps refl;
       index = record { buckets = sym total; keys = is.keys };
       gathered = c.in_ok-counts.ensures.none setup h;
     } in

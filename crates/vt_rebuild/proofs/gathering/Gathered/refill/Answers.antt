@@ -7,9 +7,9 @@ use Rattle.vt_rebuild.proofs.Gathers.{gathered_in_order}
 use Rattle.vt_rebuild.proofs.gathering.Gathered.refill.Goals as goal
 
 pub returns-clause-gathered : goal.returns-clause-gathered
-returns-clause-gathered g c = λ setup h tells sound buckets.
+returns-clause-gathered g c = λ setup h tells sound versions buckets.
     gathered_in_order g.S.Scorer.score_of setup h c.args.first c.range_end-end.result 0 c.gather.new.entries.items c.sort_unstable_by_key.new.self.items
-    c.sort_unstable_by_key.ensures.permutation (c.in_ok-gather.ensures.gathered setup h tells sound buckets)
+    c.sort_unstable_by_key.ensures.permutation (c.in_ok-gather.ensures.gathered setup h tells sound versions buckets)
 
 pub returns-clause-order : goal.returns-clause-order
 returns-clause-order g c =
