@@ -30,7 +30,7 @@ LOG = os.path.join(FOLDER, "out", "build.log")
 # GiB of memory: what the checks that go on at a time may take, what one takes at most, and what the large ones do.
 MEMORY, PEAK = 6.0, 1.5
 PEAKS = {
-    "vt_client": 5.0, "vt_core": 2.6, "vt_shard": 2.3, "vt_rehearse": 2.3, "vt_format": 2.2, "run_base": 2.2,
+    "vt_core": 2.6, "vt_shard": 2.3, "vt_rehearse": 2.3, "vt_format": 2.2, "run_base": 2.2,
     "run_stores": 2.0, "vt_use": 1.9, "vt_empty": 1.8, "vt_isect": 1.8, "vt_rebuild": 1.8,
 }
 # What is called of the script rt, with arguments as they are given here; `share_work` only where there is one.

@@ -6,7 +6,7 @@ ghost use Rattle.vt_wire.specs.Frames.{IsFrame};
 ghost use Rattle.vt_client.specs.Clients.{wanted_block, committing, spent_by, taking_in};
 ghost use Rattle.vt_client.specs.Taking.{ReadsReplyFrame};
 
-use crate::exchange::{FRAME_MAX, exchange, remote, reply_in};
+use crate::exchange::{FRAME_MAX, exchange, remote, reply_in, zeros};
 use crate::greeting::say_hello;
 use crate::{ClientErr, LinkError};
 use std::alloc::Global;
@@ -94,7 +94,7 @@ impl<L: Link, S: Scorer + Drop> Client<L, S> {
         ensures refuses { IfErr result (λ parted. MayEndGreeting parted.why) }
     {
         let mut link = link;
-        let Ok(mut buf) = vec![in alloc; 0u8; FRAME_MAX] else {
+        let Ok(mut buf) = zeros(alloc, FRAME_MAX) else {
             let why = ClientErr::NoMemory;
             return Err(LinkError { link, why });
         };

@@ -11,7 +11,7 @@ ghost use Rattle.vt_client.specs.Exchanges.{IsWantedReply, traffic_of};
 ghost use Rattle.vt_client.specs.Taking.{IsOfExchange, IsOfTaking, IsRemote, TakesInAll, TakesAnswer, TakesFrame};
 
 use crate::ClientErr;
-use std::alloc::Global;
+use std::alloc::{AllocError, Global};
 use vt_base::fields::u16_at;
 use vt_base::{MAX_BLOCK, Text};
 use vt_out::Link;
@@ -25,6 +25,13 @@ const ERROR: u8 = 1;
 
 /// The type of an Rread.
 const READ: u8 = 13;
+
+/// Zeros of this length. (In a function of its own, so that no proof has the list of them.)
+pub(crate) fn zeros(alloc: Global, len: usize) -> Result<Vec<u8>, AllocError>
+    ensures { IfOk result (λ zeros. length zeros.items ≡ len) }
+{
+    vec![in alloc; 0u8; len]
+}
 
 /// Fills the buffer from the link.
 pub(crate) fn take_all<L: Link>(link: &mut L, buf: &mut [u8]) -> Result<(), ClientErr>
