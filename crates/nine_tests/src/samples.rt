@@ -4,6 +4,7 @@ ghost use Rattle.std.specs.Prelude.{◌≡◌, ◌≤◌, IfOk, length};
 ghost use Rattle.vt_tree.specs.Entries.{IsTreeEntry};
 ghost use Rattle.nine_view.specs.Files.{FitsMessage};
 
+use crate::large::large_sample;
 use nine_view::{Ended, View, serve_nine};
 use std::alloc::{AllocError, Global};
 use std::test::Fail;
@@ -113,7 +114,7 @@ fn top_block(first: &[u8; 40], second: &[u8; 40]) -> [u8; 80] {
 }
 
 /// The view of an archive with these two entries of its top folder.
-fn view_of<B: Blocks>(
+pub fn view_of<B: Blocks>(
     alloc: Global,
     blocks: &mut B,
     first: &[u8; 40],
@@ -155,6 +156,8 @@ pub enum Shown {
     Small,
     /// That of the file `n`.
     Wide,
+    /// That of 3,000 files.
+    Large,
 }
 
 /// Clients of a view, and what is seen of them.
@@ -179,6 +182,7 @@ fn see_made<B: Blocks, C: Case>(
     let made = match shown {
         Shown::Small => sample(alloc, blocks),
         Shown::Wide => wide_sample(alloc, blocks),
+        Shown::Large => large_sample(alloc, blocks),
     };
     let mut view = made?;
     Ok(case.see(alloc, &mut view, blocks, rows)?)

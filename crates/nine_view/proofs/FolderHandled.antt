@@ -1,6 +1,6 @@
 -- What a read of an open folder comes to, of which the files may still have to be listed.
-use Rattle.std.proofs.Common.{◌≡◌, ◌==◌, ◌&&◌, ℕ, Option, Some, None, Result, Ok, Err, List, length, drop, refl, sym, ◌∙◌, ap, subst, inl, inr}
-use Rattle.std.specs.Prelude.{IfSome, nat_lt}
+use Rattle.std.proofs.Common.{◌≡◌, ℕ, Option, Some, None, Result, Ok, Err, List, refl, sym, ◌∙◌, ap, subst, inl, inr}
+use Rattle.std.specs.Prelude.{IfSome}
 use Rattle.std.proofs.lemmas.Bool.{cases_Bool}
 use Rattle.vt_tree.specs.Calls.{Call}
 use Rattle.vt_tree.specs.Maps.{BlockMap, Maps}
@@ -14,7 +14,7 @@ use Rattle.nine_view.specs.declared.error.AnswerError.{AnswerError}
 use Rattle.nine_view.specs.declared.error.AnswerError.TheVariants.{Failed}
 use Rattle.nine_view.specs.declared.fid.Fid.{Fid}
 use Rattle.nine_view.specs.declared.fid.Reading.{Reading}
-use Rattle.nine_view.specs.Answers.{ViewOutcome, first_file, fitting, reads_files, reads_folder, sets_fid, stays, to_folder}
+use Rattle.nine_view.specs.Answers.{ViewOutcome, is_small, most_data, reads_files, reads_folder, sets_fid, stays, to_folder}
 use Rattle.nine_view.specs.Failures.{failure_words}
 use Rattle.nine_view.specs.Handling.{Handles, KeepsFiles, SettlesRequest, archive_failure}
 use Rattle.nine_view.specs.Known.{ViewState, IsRightView, fid_at, limit, with_fid}
@@ -31,24 +31,23 @@ listed known fid f files =
     record known { fids = with_fid fid (with_files f files) known.fids }
 
 -- what comes of a read doesn't depend on whether the files were kept before
-same_files : (known : ViewState) (fid : ℕ) (f : Fid) (reading : Reading) (offset room : ℕ)
+same_files : (known : ViewState) (fid : ℕ) (f : Fid) (reading : Reading) (offset count : ℕ)
     (files : List Node)
-    → reads_files (listed known fid f files) fid (with_files f files) reading offset room files
-    ≡ reads_files known fid f reading offset room files
-same_files known fid f reading offset room files =
+    → reads_files (listed known fid f files) fid (with_files f files) reading offset count files
+    ≡ reads_files known fid f reading offset count files
+same_files known fid f reading offset count files =
     let again : (g : Fid) (reply : RMessage)
     → sets_fid (listed known fid f files) fid g reply ≡ sets_fid known fid g reply =
     λ g reply. ap (λ (l : List (ℕ × Fid)). stays (record known { fids = l }) reply)
     (with_with fid (with_files f files) g known.fids) in
-    elim (cases_Bool (length (fitting room (drop (first_file reading offset) files)) == 0
-    && nat_lt (first_file reading offset) (length files))) [
+    elim (cases_Bool (is_small (most_data known) reading files offset count)) [
       | inl a ↦ rw a (again _ _)
       | inr a ↦ rw a (again _ _)
     ]
 
 module _ {S : Type 0} (does : S → Call → S → Type 0) (holds : S → Maps → Type 0)
     (score_of : List ℕ → List ℕ) (s s' : S) (tag : ℕ) (old : ViewState) (out : List ℕ) (fid : ℕ)
-    (f : Fid) (reading : Reading) (offset room : ℕ)
+    (f : Fid) (reading : Reading) (offset count : ℕ)
   where
     -- the files were listed
     now_listed : (new : ViewState) (result : Result ℕ AnswerError) (files : List Node)
@@ -56,18 +55,18 @@ module _ {S : Type 0} (does : S → Call → S → Type 0) (holds : S → Maps �
         → ReadsArchive {X = Unit {0}} does holds score_of s s' (Ok tt)
         (λ map. Lists map f.node.stored files)
         → SettlesRequest tag (listed old fid f files) new out result
-        (reads_files (listed old fid f files) fid (with_files f files) reading offset room files)
+        (reads_files (listed old fid f files) fid (with_files f files) reading offset count files)
         → Handles does holds score_of s s' tag old new out result
-        (reads_folder fid f reading offset room)
+        (reads_folder fid f reading offset count)
     now_listed new result files at reads so =
         let outcome : ViewOutcome =
-        reads_files (listed old fid f files) fid (with_files f files) reading offset room files in
+        reads_files (listed old fid f files) fid (with_files f files) reading offset count files in
         let whole : archive_failure result ≡ None = so.whole in
         let none : refused_by (failed (archive_failure result)) ≡ None =
         ap (λ (o : Option VacBad). refused_by (failed o)) whole in
-        let is : stays new outcome.reply ≡ reads_files old fid f reading offset room files =
+        let is : stays new outcome.reply ≡ reads_files old fid f reading offset count files =
         ap (λ (k : ViewState). stays k outcome.reply) so.known
-        ∙ same_files old fid f reading offset room files in
+        ∙ same_files old fid f reading offset count files in
         let kept : (map : BlockMap) → Lists map f.node.stored files → IsRightView map old
         → IsRightView map (listed old fid f files) =
         λ map lists right. right_with map old fid (with_files f files) right
@@ -79,7 +78,7 @@ module _ {S : Type 0} (does : S → Call → S → Type 0) (holds : S → Maps �
               reads_as does holds score_of s s' (Ok tt) (failed (archive_failure result)) _ _ none reads
               (λ map lists right. (
                 so.right map (kept map lists right),
-                subst (λ (o : Option VacBad). IsViewReply map old (reads_folder fid f reading offset room) o
+                subst (λ (o : Option VacBad). IsViewReply map old (reads_folder fid f reading offset count) o
                     (stays new outcome.reply)) (sym whole) (files, lists, is),
               ));
           bytes = tt;
@@ -94,12 +93,12 @@ module _ {S : Type 0} (does : S → Call → S → Type 0) (holds : S → Maps �
     pub not_listed : (mid : ViewState) (bad : VacBad) (files : Option (List Node))
         → KeepsFiles does holds score_of s s' old mid fid f (Err bad) files
         → Handles does holds score_of s s' tag old mid out (Err (Failed bad))
-        (to_folder old fid f reading offset room files)
+        (to_folder old fid f reading offset count files)
     not_listed mid bad (Some files) keeps =
         let no : Err bad ≡ Ok tt = keeps.0 in absurd (cc)
     not_listed mid bad None keeps =
         subst (λ (k : ViewState). Handles does holds score_of s s' tag old k out (Err (Failed bad))
-        (reads_folder fid f reading offset room)) (sym keeps.0)
+        (reads_folder fid f reading offset count)) (sym keeps.0)
         (record {
           reply = r_error (failure_words (limit old) bad);
           says = refl;
@@ -117,22 +116,22 @@ module _ {S : Type 0} (does : S → Call → S → Type 0) (holds : S → Maps �
         → KeepsFiles does holds score_of s s' old mid fid f (Ok tt) files
         → ((g : Fid) (r : Reading) (l : List Node) → fid_at fid mid.fids ≡ Some g
         → g.reading ≡ Some r → g.files ≡ Some l
-        → SettlesRequest tag mid new out result (reads_files mid fid g r offset room l))
+        → SettlesRequest tag mid new out result (reads_files mid fid g r offset count l))
         → Handles does holds score_of s s' tag old new out result
-        (to_folder old fid f reading offset room files)
+        (to_folder old fid f reading offset count files)
     folder_handled mid new result (Some files) at read_so is keeps settles =
         let known : fid_at fid mid.fids ≡ Some f =
         ap (λ (k : ViewState). fid_at fid k.fids) keeps.2 ∙ at in
         subst (λ (x : S). Handles does holds score_of s x tag old new out result
-        (to_folder old fid f reading offset room (Some files))) (sym keeps.1)
+        (to_folder old fid f reading offset count (Some files))) (sym keeps.1)
         (settled_so does holds score_of s tag old new out result _
         (subst (λ (k : ViewState). SettlesRequest tag k new out result
-        (reads_files k fid f reading offset room files)) keeps.2
+        (reads_files k fid f reading offset count files)) keeps.2
         (settles f reading files known read_so is)))
     folder_handled mid new result None at read_so is (files, known, reads) settles =
         let found : fid_at fid mid.fids ≡ Some (with_files f files) =
         ap (λ (k : ViewState). fid_at fid k.fids) known ∙ at_with fid (with_files f files) old.fids in
         now_listed new result files at reads
         (subst (λ (k : ViewState). SettlesRequest tag k new out result
-        (reads_files k fid (with_files f files) reading offset room files)) known
+        (reads_files k fid (with_files f files) reading offset count files)) known
         (settles (with_files f files) reading files found read_so refl))

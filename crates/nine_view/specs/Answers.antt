@@ -1,6 +1,6 @@
 -- What the view of an archive answers to a request, as far as it knows that by itself (9P2000,
 -- manual section 5; vacfs(4)). Each function has its tests in their order.
-use Rattle.std.specs.Prelude.{ℕ, ◌+◌, ◌-◌, ◌==◌, ◌&&◌, ◌||◌, not, min, nat_le, nat_lt, if◌then◌else◌, Bool, is_some, Option, Some, None, List, [], ◌∷◌, codes, length, drop}
+use Rattle.std.specs.Prelude.{ℕ, ◌+◌, ◌-◌, ◌==◌, ◌&&◌, ◌||◌, not, min, nat_le, nat_lt, if◌then◌else◌, Bool, false, is_some, Option, Some, None, List, [], ◌∷◌, codes, length, drop}
 use Rattle.std.specs.List.{before_first, flat_map}
 use Rattle.std.specs.Option.{option_map_or}
 use Rattle.std.specs.Str.{bytes_eq}
@@ -18,7 +18,7 @@ use Rattle.nine_view.specs.declared.place.Place.{Place}
 use Rattle.nine_view.specs.declared.request_error.RequestError.{RequestError}
 use Rattle.nine_view.specs.declared.request_error.RequestError.TheVariants.{UnknownMessage, BadMessage, VersionExpected, SmallSize, NoAuthentication, BadFid, FidInUse, TooManyFids, UnknownFid, ReadOnly, TooManyNames, FidIsOpen, FidNotOpen, BadOffset, SmallCount}
 use Rattle.nine_view.specs.Files.{is_folder, qid_of, stat_of, stat_in}
-use Rattle.nine_view.specs.Known.{ViewState, fid_at, is_known, with_fid, without_fid}
+use Rattle.nine_view.specs.Known.{ViewState, fid_at, is_known, limit, with_fid, without_fid}
 use Rattle.nine_view.specs.Refusals.{refusal_words}
 
 -- what a whole message comes to: no request has its type, its parameters don't fill it, or it asks
@@ -44,7 +44,7 @@ pub data Answer : Type 0 where
   -- so many bytes of this file, from a place on
   reads_file : (file : Entry) → (at n : ℕ) → Answer
   -- what the folder of this fid tells of the files in it, which aren't listed yet
-  reads_folder : (fid : ℕ) → Fid → Reading → (offset room : ℕ) → Answer
+  reads_folder : (fid : ℕ) → Fid → Reading → (offset count : ℕ) → Answer
 
 -- ---- outcomes
 
@@ -135,7 +135,7 @@ iounit msize = msize - 24
 
 -- nothing was read yet
 abbrev pub unread : Reading
-unread = record { next = 0; offset = 0 }
+unread = record { next = 0; offset = 0; left = 0 }
 
 -- what an open is answered (open(5))
 abbrev pub to_open : ViewState → (msize fid mode : ℕ) → Fid → ViewOutcome
@@ -158,41 +158,73 @@ fitting room (node ∷ nodes) =
 abbrev pub first_file : Reading → (offset : ℕ) → ℕ
 first_file reading offset = if offset == 0 then 0 else reading.next
 
--- A folder of these files tells of as many as have room. Where there are more and not one has, the
--- count is too small; it isn't at the end.
-abbrev pub reads_files : ViewState → (fid : ℕ) → Fid → Reading → (offset room : ℕ) → List Node
+-- how many bytes of data a message has room for at most
+abbrev pub most_data : ViewState → ℕ
+most_data known = iounit (limit known)
+
+-- of the files of an open folder, those that the next read of it tells of
+abbrev pub told_next : Reading → List Node → (offset room : ℕ) → List Node
+told_next reading files offset room = fitting room (drop (first_file reading offset) files)
+
+-- there are files left, and not one of them has room
+abbrev pub has_no_room : Reading → List Node → (offset room : ℕ) → Bool
+has_no_room reading files offset room =
+    length (told_next reading files offset room) == 0
+    && nat_lt (first_file reading offset) (length files)
+
+-- A client that fills a buffer asks for the rest of it: for just what the last read that was answered
+-- left of its own count. The next file has room in a message.
+abbrev pub is_rest : (most : ℕ) → Reading → (offset count : ℕ) → (next : List Node) → Bool
+is_rest most reading offset count [] = false
+is_rest most reading offset count (node ∷ nodes) =
+    not (offset == 0) && count == reading.left && nat_le (length (stat_in node)) most
+
+-- the count is too small: no file that is left has room, and it isn't the rest of another count
+abbrev pub is_small : (most : ℕ) → Reading → List Node → (offset count : ℕ) → Bool
+is_small most reading files offset count =
+    has_no_room reading files offset (min count most)
+    && not (is_rest most reading offset count (drop (first_file reading offset) files))
+
+-- A folder of these files tells of as many as have room, in the client's count and in a message.
+-- Where there are more and not one has, the count is too small, since this isn't the end; but the
+-- rest of a count is answered by no bytes.
+abbrev pub reads_files : ViewState → (fid : ℕ) → Fid → Reading → (offset count : ℕ) → List Node
     → ViewOutcome
-reads_files known fid f reading offset room files =
-    let first = first_file reading offset in
-    let told = fitting room (drop first files) in
+reads_files known fid f reading offset count files =
+    let told = told_next reading files offset (min count (most_data known)) in
     let bytes = flat_map stat_in told in
-    if length told == 0 && nat_lt first (length files)
+    if is_small (most_data known) reading files offset count
     then sets_fid known fid (record f { files = Some files }) (r_error (refusal_words SmallCount))
     else sets_fid known fid (record f {
       files = Some files;
-      reading = Some (record { next = first + length told; offset = offset + length bytes });
+      reading = Some (record {
+        next = first_file reading offset + length told;
+        offset = offset + length bytes;
+        left = count - length bytes;
+      });
     }) (r_read bytes)
 
 -- the files of an open folder are kept
-abbrev pub to_folder : ViewState → (fid : ℕ) → Fid → Reading → (offset room : ℕ)
+abbrev pub to_folder : ViewState → (fid : ℕ) → Fid → Reading → (offset count : ℕ)
     → Option (List Node)
     → Answer
-to_folder known fid f reading offset room None = reads_folder fid f reading offset room
-to_folder known fid f reading offset room (Some files) =
-    settled (reads_files known fid f reading offset room files)
+to_folder known fid f reading offset count None = reads_folder fid f reading offset count
+to_folder known fid f reading offset count (Some files) =
+    settled (reads_files known fid f reading offset count files)
 
 -- a folder is read from its start, or from where the last read ended
-abbrev pub to_stored : ViewState → (fid : ℕ) → Fid → Reading → (offset room : ℕ) → Stored → Answer
-to_stored known fid f reading offset room (stored.File e) = reads_file e offset room
-to_stored known fid f reading offset room (stored.Folder entries metadata) =
+abbrev pub to_stored : ViewState → (fid : ℕ) → Fid → Reading → (offset count : ℕ) → Stored → Answer
+to_stored known fid f reading offset count (stored.File e) =
+    reads_file e offset (min count (most_data known))
+to_stored known fid f reading offset count (stored.Folder entries metadata) =
     if not (offset == 0) && not (offset == reading.offset) then refused_answer known BadOffset
-    else to_folder known fid f reading offset room f.files
+    else to_folder known fid f reading offset count f.files
 
 -- what a read is answered (read(5)): only a fid that is open is read
-abbrev pub to_read : ViewState → (fid offset room : ℕ) → Fid → Option Reading → Answer
-to_read known fid offset room f None = refused_answer known FidNotOpen
-to_read known fid offset room f (Some reading) =
-    to_stored known fid f reading offset room f.node.stored
+abbrev pub to_read : ViewState → (fid offset count : ℕ) → Fid → Option Reading → Answer
+to_read known fid offset count f None = refused_answer known FidNotOpen
+to_read known fid offset count f (Some reading) =
+    to_stored known fid f reading offset count f.node.stored
 
 -- ---- stat(5)
 
@@ -223,7 +255,7 @@ answer_agreed known msize (t_open fid mode) =
 answer_agreed known msize (t_create fid name perm mode) =
     of_fid known fid (λ f. refused_answer known ReadOnly)
 answer_agreed known msize (t_read fid offset count) =
-    of_fid known fid (λ f. to_read known fid offset (min count (iounit msize)) f f.reading)
+    of_fid known fid (λ f. to_read known fid offset count f f.reading)
 answer_agreed known msize (t_write fid offset bytes) =
     of_fid known fid (λ f. refused_answer known ReadOnly)
 answer_agreed known msize (t_clunk fid) =

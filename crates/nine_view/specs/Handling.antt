@@ -1,5 +1,5 @@
 -- What those do that answer one request each.
-use Rattle.std.specs.Prelude.{ℕ, ◌≡◌, ◌≢◌, ◌≤◌, ◌+◌, ◌==◌, ◌&&◌, Bool, true, false, nat_lt, IfSome, MatchOption, Option, Some, None, Result, Ok, Err, List, length, take, drop}
+use Rattle.std.specs.Prelude.{ℕ, ◌≡◌, ◌≢◌, ◌≤◌, ◌+◌, ◌-◌, min, true, false, IfSome, MatchOption, Option, Some, None, Result, Ok, Err, List, length, take}
 use Rattle.std.specs.List.{flat_map}
 use Rattle.vt_tree.specs.Calls.{Call}
 use Rattle.vt_tree.specs.Maps.{BlockMap, Maps}
@@ -17,7 +17,7 @@ use Rattle.nine_view.specs.declared.error.AnswerError.TheVariants.{Refused, Fail
 use Rattle.nine_view.specs.declared.fid.Reading.{Reading}
 use Rattle.nine_view.specs.declared.request_error.RequestError.{RequestError}
 use Rattle.nine_view.specs.declared.request_error.RequestError.TheVariants.{SmallCount}
-use Rattle.nine_view.specs.Answers.{Answer, settled, sets, ViewOutcome, stays, sets_fid, first_file, fitting}
+use Rattle.nine_view.specs.Answers.{Answer, settled, sets, ViewOutcome, stays, sets_fid, first_file, is_small, told_next}
 use Rattle.nine_view.specs.Failures.{failure_words}
 use Rattle.nine_view.specs.Files.{stat_in}
 use Rattle.nine_view.specs.Known.{ViewState, IsRightView, fid_at, limit, with_fid}
@@ -74,42 +74,35 @@ abbrev pub SettlesSo : (tag : ℕ) → (old new : ViewState) → (out : List ℕ
 SettlesSo tag old new out result (settled outcome) = SettlesRequest tag old new out result outcome
 SettlesSo tag old new out result answer = ⊥
 
--- of the files of an open folder, those that the next read of it tells of
-abbrev pub told_next : Reading → List Node → (offset room : ℕ) → List Node
-told_next reading files offset room = fitting room (drop (first_file reading offset) files)
-
--- there are files left, and not one of them has room
-abbrev pub has_no_room : Reading → List Node → (offset room : ℕ) → Bool
-has_no_room reading files offset room =
-    length (told_next reading files offset room) == 0
-    && nat_lt (first_file reading offset) (length files)
-
 -- What the next read of an open folder tells of its files stands in front of the buffer, in so
 -- many bytes, and the folder is read so far.
-pub record TellsNext (fids : List (ℕ × Fid)) (fid offset room : ℕ) (buf : List ℕ) (next : Reading)
-    (len : ℕ) : Type 0 where
+pub record TellsNext (fids : List (ℕ × Fid)) (fid offset count most : ℕ) (buf : List ℕ)
+    (next : Reading) (len : ℕ) : Type 0 where
   pub f : Fid
   pub reading : Reading
   pub files : List Node
   pub at : fid_at fid fids ≡ Some f
   pub now : f.reading ≡ Some reading
   pub kept : f.files ≡ Some files
-  pub some : has_no_room reading files offset room ≡ false
+  pub some : is_small most reading files offset count ≡ false
   pub next_is : next.next
-      ≡ first_file reading offset + length (told_next reading files offset room)
+      ≡ first_file reading offset + length (told_next reading files offset (min count most))
   pub end_is : next.offset
-      ≡ offset + length (flat_map stat_in (told_next reading files offset room))
-  pub len_is : len ≡ length (flat_map stat_in (told_next reading files offset room))
-  pub written : take len buf ≡ flat_map stat_in (told_next reading files offset room)
+      ≡ offset + length (flat_map stat_in (told_next reading files offset (min count most)))
+  pub left_is : next.left
+      ≡ count - length (flat_map stat_in (told_next reading files offset (min count most)))
+  pub len_is : len ≡ length (flat_map stat_in (told_next reading files offset (min count most)))
+  pub written : take len buf ≡ flat_map stat_in (told_next reading files offset (min count most))
 
 -- what the next read tells was put into the buffer, or has no room there
-abbrev pub PutsNext : List (ℕ × Fid) → (fid offset room : ℕ) → (buf : List ℕ)
+abbrev pub PutsNext : List (ℕ × Fid) → (fid offset count most : ℕ) → (buf : List ℕ)
     → Result (Reading × ℕ) RequestError → Type 0
-PutsNext fids fid offset room buf (Ok put) = TellsNext fids fid offset room buf put.0 put.1
-PutsNext fids fid offset room buf (Err why) =
+PutsNext fids fid offset count most buf (Ok put) =
+    TellsNext fids fid offset count most buf put.0 put.1
+PutsNext fids fid offset count most buf (Err why) =
     (f : Fid) (reading : Reading) (files : List Node) → fid_at fid fids ≡ Some f
     → f.reading ≡ Some reading → f.files ≡ Some files
-    → (has_no_room reading files offset room ≡ true) × (why ≡ SmallCount)
+    → (is_small most reading files offset count ≡ true) × (why ≡ SmallCount)
 
 -- what the fid's setting came to, for which memory was there, or wasn't
 pub record SettlesFid (tag : ℕ) (old new : ViewState) (out : List ℕ) (result : Result ℕ AnswerError)

@@ -62,9 +62,9 @@ GivesOutcome map known (walks fid from names) o =
 GivesOutcome map known (reads_file e at n) o =
     (bytes : List ℕ) × GivesBytes (byte_of map e) at (min n (size_of e - at)) (Ok bytes)
     × (o ≡ stays known (r_read bytes))
-GivesOutcome map known (reads_folder fid f reading offset room) o =
+GivesOutcome map known (reads_folder fid f reading offset count) o =
     (files : List Node) × Lists map f.node.stored files
-    × (o ≡ reads_files known fid f reading offset room files)
+    × (o ≡ reads_files known fid f reading offset count files)
 
 -- Why an answer can't be told, beside want of memory; what is settled always can.
 abbrev pub Lacks : BlockMap → Answer → VacBad → Type 0
@@ -72,7 +72,7 @@ Lacks map (settled outcome) bad = ⊥
 Lacks map (sets fid f reply) bad = ⊥
 Lacks map (walks fid from names) bad = IsLost map (Ok from) names bad
 Lacks map (reads_file e at n) bad = IsUnread map e at (min n (size_of e - at)) bad
-Lacks map (reads_folder fid f reading offset room) bad = IsBroken map f.node.stored bad
+Lacks map (reads_folder fid f reading offset count) bad = IsBroken map f.node.stored bad
 
 -- the reply was this, by what the archive has, or it failed for this reason
 abbrev pub IsViewReply : BlockMap → ViewState → Answer → (failure : Option VacBad) → ViewOutcome
@@ -88,7 +88,7 @@ AsksNoBlock (settled outcome) = ⊤
 AsksNoBlock (sets fid f reply) = ⊤
 AsksNoBlock (walks fid from names) = ⊥
 AsksNoBlock (reads_file e at n) = ⊥
-AsksNoBlock (reads_folder fid f reading offset room) = ⊥
+AsksNoBlock (reads_folder fid f reading offset count) = ⊥
 
 -- nothing fails
 abbrev pub NeverFails : Answer → Type 0

@@ -124,9 +124,7 @@ impl View {
             Request::Open { fid, mode } => self.open(tag, msize, *fid, *mode, out),
             Request::Create { fid, .. } => self.change(*fid),
             Request::Read { fid, offset, count } => {
-                // 24: room for the rest of a message round its data, as Plan 9's IOHDRSZ.
-                let room = (*count).min(msize - 24);
-                self.read(alloc, blocks, tag, *fid, *offset, room, out)
+                self.read(alloc, blocks, tag, *fid, *offset, *count, out)
             }
             Request::Write { fid, .. } => self.change(*fid),
             Request::Clunk { fid } => self.clunk(tag, *fid, out),

@@ -25,6 +25,8 @@ pub struct Reading {
     pub next: usize,
     /// Where the last read ended.
     pub offset: u128,
+    /// How many bytes of its count the last read that was answered left.
+    pub left: u32,
 }
 
 impl Reading {
@@ -34,7 +36,11 @@ impl Reading {
     pub fn new() -> Self
         ensures { result ≡ unread }
     {
-        Reading { next: 0, offset: 0 }
+        Reading {
+            next: 0,
+            offset: 0,
+            left: 0,
+        }
     }
 }
 

@@ -1,19 +1,20 @@
 //! Reading files and folders (read(5)).
 
-ghost use Rattle.std.specs.Prelude.{◌≡◌, ◌≢◌, ◌==◌, ◌&&◌, ◌+◌, ◌≤◌, not, nat_lt, List, Some};
+ghost use Rattle.std.specs.Prelude.{◌≡◌, ◌≢◌, ◌==◌, ◌&&◌, ◌≤◌, not, nat_le, nat_lt, List, Some};
 ghost use Rattle.std.specs.Prelude.{IfNone, IfSome, IsSome, length, drop};
 ghost use Rattle.std.specs.List.{All};
 ghost use Rattle.vac_read.specs.declared.node.Node.{Node};
 ghost use Rattle.nine_view.specs.declared.fid.Fid.{Fid};
 ghost use Rattle.nine_view.specs.declared.fid.Reading.{Reading};
-ghost use Rattle.nine_view.specs.Answers.{first_file, of_fid, reads_files, to_folder, to_read};
-ghost use Rattle.nine_view.specs.Files.{FitsMessage};
+ghost use Rattle.nine_view.specs.Answers.{first_file, is_rest, of_fid, reads_files, to_folder};
+ghost use Rattle.nine_view.specs.Answers.{to_read};
+ghost use Rattle.nine_view.specs.Files.{FitsMessage, stat_in};
 ghost use Rattle.nine_view.specs.Handling.{Handles, KeepsFiles, PutsNext, SettlesRequest};
-ghost use Rattle.nine_view.specs.Known.{fid_at, limit};
+ghost use Rattle.nine_view.specs.Known.{fid_at};
 
 use crate::error::{AnswerError, first};
 use crate::fids::Fids;
-use crate::stats::put_files;
+use crate::stats::{put_files, stat_len, stat_of};
 use crate::{Reading, RequestError, View};
 use nine_wire::{Reply, encode};
 use std::alloc::Global;
@@ -21,7 +22,7 @@ use vac_read::{Node, Stored, VacBad, list, read};
 use vt_tree::Blocks;
 
 impl View {
-    /// Answers a read of at most so many bytes.
+    /// Answers a read of at most so many bytes, and of no more than a message has room for.
     pub(crate) fn read<B: Blocks>(
         &mut self,
         alloc: Global,
@@ -29,15 +30,14 @@ impl View {
         tag: u16,
         fid: u32,
         offset: u64,
-        room: u32,
+        count: u32,
         out: &mut [u8],
     ) -> Result<usize, AnswerError>
-        requires room { room + 24 ≤ limit self.old }
         requires agreed { IsSome self.old.msize }
         requires out { length out.old ≡ 65536 }
         ensures { Handles B.does B.holds B.score_of blocks.old blocks.new tag self.old self.new
             out.new result
-            (of_fid self.old fid (λ f. to_read self.old fid offset room f f.reading)) }
+            (of_fid self.old fid (λ f. to_read self.old fid offset count f f.reading)) }
     {
         let Some(f) = self.fids.get(fid) else {
             return Err(RequestError::UnknownFid.into());
@@ -47,6 +47,7 @@ impl View {
         };
         match f.node.stored {
             Stored::File(_) => {
+                let room = count.min(self.most_data() as u32);
                 let bytes = read(alloc, blocks, &f.node, offset, room)?;
                 let told = first(bytes.as_slice(), room as usize);
                 Ok(encode(tag, &Reply::Read(told), out))
@@ -55,7 +56,7 @@ impl View {
                 if is_bad_offset(&reading, offset) {
                     return Err(RequestError::BadOffset.into());
                 }
-                self.read_folder(alloc, blocks, tag, fid, offset, room as usize, out)
+                self.read_folder(alloc, blocks, tag, fid, offset, count, out)
             }
         }
     }
@@ -68,18 +69,17 @@ impl View {
         tag: u16,
         fid: u32,
         offset: u64,
-        room: usize,
+        count: u32,
         out: &mut [u8],
     ) -> Result<usize, AnswerError>
-        requires room { room + 24 ≤ limit self.old }
         requires out { length out.old ≡ 65536 }
         ensures { (f : Fid) (r : Reading) → fid_at fid self.old.fids ≡ Some f
             → f.reading ≡ Some r → Handles B.does B.holds B.score_of blocks.old blocks.new tag
             self.old self.new out.new result
-            (to_folder self.old fid f r offset room f.files) }
+            (to_folder self.old fid f r offset count f.files) }
     {
         self.list_files(alloc, blocks, fid)?;
-        self.tell_files(tag, fid, offset, room, out)
+        self.tell_files(tag, fid, offset, count, out)
     }
 
     /// Lists the files of an open folder, unless they are kept.
@@ -105,52 +105,57 @@ impl View {
         Ok(())
     }
 
-    /// Tells of the files of an open folder, from its start on or from where the last read ended.
+    /// Tells of the files of an open folder, from its start on or from where the last read ended, in so many bytes at
+    /// most.
     fn tell_files(
         &mut self,
         tag: u16,
         fid: u32,
         offset: u64,
-        room: usize,
+        count: u32,
         out: &mut [u8],
     ) -> Result<usize, AnswerError>
-        requires room { room + 24 ≤ limit self.old }
         requires out { length out.old ≡ 65536 }
         ensures { (f : Fid) (r : Reading) (files : List Node) → fid_at fid self.old.fids ≡ Some f
             → f.reading ≡ Some r → f.files ≡ Some files
             → SettlesRequest tag self.old self.new out.new result
-            (reads_files self.old fid f r offset room files) }
+            (reads_files self.old fid f r offset count files) }
     {
-        let (reading, len) = put_next(&self.fids, fid, offset, room, &mut self.stats)?;
+        let most = self.most_data();
+        let (reading, len) = put_next(&self.fids, fid, offset, count, most, &mut self.stats)?;
         self.fids.set_reading(fid, reading);
         Ok(encode(tag, &Reply::Read(&self.stats[..len]), out))
     }
 }
 
-/// Writes what a read tells of the files of an open folder to the front of the buffer, and says how
-/// far the folder is read then, and in how many bytes.
+/// Writes what a read by this count tells of the files of an open folder to the front of the buffer, and says how far
+/// the folder is read then, and in how many bytes. A message has room for so many bytes at most.
 fn put_next(
     fids: &Fids,
     fid: u32,
     offset: u64,
-    room: usize,
+    count: u32,
+    most: usize,
     buf: &mut [u8],
 ) -> Result<(Reading, usize), RequestError>
     requires told { (f : Fid) → fid_at fid fids.now ≡ Some f → IfSome f.files (All FitsMessage) }
-    requires room { room ≤ length buf.old }
-    ensures { PutsNext fids.now fid offset room buf.new result }
+    requires room { most ≤ length buf.old }
+    ensures { PutsNext fids.now fid offset count most buf.new result }
 {
     let Some((files, reading)) = listed(fids, fid) else {
         return Err(RequestError::FidNotOpen);
     };
     let from = first_file(&reading, offset);
-    let (count, len) = put_files(files_from(files, from), room, buf);
-    if is_small(count, from, count_of(files)) {
+    let next = files_from(files, from);
+    let (told, len) = put_files(next, (count as usize).min(most), buf);
+    let rest = is_rest(&reading, offset, count, most, next);
+    if is_small(told, from, count_of(files), rest) {
         return Err(RequestError::SmallCount);
     }
     let reading = Reading {
-        next: from + count,
+        next: from + told,
         offset: u128::from(offset) + len as u128,
+        left: count - len as u32,
     };
     Ok((reading, len))
 }
@@ -182,11 +187,36 @@ fn first_file(reading: &Reading, offset: u64) -> usize
     if offset == 0 { 0 } else { reading.next }
 }
 
-/// Whether there are files from this number on, of so many, and not one of them was told.
-fn is_small(count: usize, from: usize, files: usize) -> bool
-    ensures { result ≡ (count == 0 && nat_lt from files) }
+/// Whether there are files from this number on, of so many, not one of them was told, and it isn't the rest of a count
+/// that is asked for.
+fn is_small(told: usize, from: usize, files: usize, rest: bool) -> bool
+    ensures { result ≡ ((told == 0 && nat_lt from files) && not rest) }
 {
-    count == 0 && from < files
+    told == 0 && from < files && !rest
+}
+
+/// Whether just what the last read left of its count is asked for, behind it, and the first of these files has room in
+/// a message of data of so many bytes.
+fn is_rest(reading: &Reading, offset: u64, count: u32, most: usize, next: &[Node]) -> bool
+    requires { All FitsMessage next.now }
+    ensures { result ≡ is_rest most reading.now offset count next.now }
+{
+    match next.first() {
+        Some(node) => {
+            let has_room = has_room(node, most);
+            offset != 0 && count == reading.left && has_room
+        }
+        None => false,
+    }
+}
+
+/// Whether what is told of a file has room in so many bytes.
+fn has_room(node: &Node, room: usize) -> bool
+    requires { FitsMessage node.now }
+    ensures { result ≡ nat_le (length (stat_in node.now)) room }
+{
+    let stat = stat_of(node);
+    stat_len(&stat) <= room
 }
 
 /// How many files there are.

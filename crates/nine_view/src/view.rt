@@ -1,6 +1,7 @@
 //! What a view of an archive keeps from one message to the next.
 
-ghost use Rattle.std.specs.Prelude.{◌≡◌, ◌≤◌, None, [], IfOk, unwrap_or};
+ghost use Rattle.std.specs.Prelude.{◌≡◌, ◌+◌, ◌≤◌, None, [], IfOk};
+ghost use Rattle.nine_view.specs.Answers.{most_data};
 ghost use Rattle.nine_view.specs.Files.{FitsMessage};
 ghost use Rattle.nine_view.specs.Known.{limit};
 
@@ -62,5 +63,15 @@ impl View {
             Some(msize) => msize as usize,
             None => MAX_MESSAGE,
         }
+    }
+
+    /// The most bytes of data that a message has room for now.
+    pub(crate) fn most_data(&self) -> usize
+        ensures is { result ≡ most_data self.now }
+        ensures fits { result + 24 ≡ limit self.now }
+        ensures few { result ≤ 65512 }
+    {
+        // 24: room for the rest of a message round its data, as Plan 9's IOHDRSZ.
+        self.limit() - 24
     }
 }

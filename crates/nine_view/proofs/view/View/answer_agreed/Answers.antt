@@ -1,10 +1,9 @@
-use Rattle.std.proofs.Common.{◌+◌, ◌≤◌, ℕ, Option, Err, sym, subst, arith}
-use Rattle.std.specs.Prelude.{unwrap_or}
+use Rattle.std.proofs.Common.{Err, sym, subst}
 use Rattle.nine_wire.specs.declared.message.Request.{Request}
 use Rattle.nine_wire.specs.Views.{message_of}
 use Rattle.nine_view.specs.declared.error.AnswerError.TheVariants.{Refused}
 use Rattle.nine_view.specs.declared.request_error.RequestError.TheVariants.{NoAuthentication}
-use Rattle.nine_view.specs.Answers.{answer_agreed, of_fid, to_read}
+use Rattle.nine_view.specs.Answers.{answer_agreed}
 use Rattle.nine_view.specs.Handling.{Handles}
 use Rattle.nine_view.proofs.Handled.{refused_so, sets_so, settled_so, settles}
 use Rattle.nine_view.proofs.view.View.answer_agreed.Goals as goal
@@ -80,24 +79,12 @@ returns-in-Wstat g c =
     (settles g.B.Blocks.does g.B.Blocks.holds g.B.Scorer.score_of c.args.blocks.now c.args.tag c.args.self.now
     c.args.self.now c.args.out.now c.change-in-Wstat.result _ (c.change-in-Wstat.ensures c.args.tag c.args.out.now))
 
-pub overflow_sub-msize : goal.overflow_sub-msize
-overflow_sub-msize g c = omega (arith, c.requires.least)
-
-pub read-requires-clause-room : goal.read-requires-clause-room
-read-requires-clause-room g c =
-    subst (λ (o : Option ℕ). c.min-room.result + 24 ≤ unwrap_or o 65536) (sym c.requires.agreed)
-    (omega (arith, c.min-room.ensures, c.requires.least))
-
 pub returns-in-Read : goal.returns-in-Read
 returns-in-Read g c =
     subst (λ (r : Request). Handles g.B.Blocks.does g.B.Blocks.holds g.B.Scorer.score_of
     c.args.blocks.now c.read.new.blocks c.args.tag c.args.self.now c.read.new.self c.read.new.out
     c.read.result (answer_agreed c.args.self.now c.args.msize (message_of r))) (sym c.in-Read.is)
-    (subst (λ (n : ℕ). Handles g.B.Blocks.does g.B.Blocks.holds g.B.Scorer.score_of c.args.blocks.now
-    c.read.new.blocks c.args.tag c.args.self.now c.read.new.self c.read.new.out c.read.result
-    (of_fid c.args.self.now c.in-Read.fid
-    (λ f. to_read c.args.self.now c.in-Read.fid c.in-Read.offset n f f.reading)))
-    c.min-room.ensures c.read.ensures)
+    c.read.ensures
 
 pub returns-in-Clunk : goal.returns-in-Clunk
 returns-in-Clunk g c =

@@ -1,5 +1,6 @@
-use Rattle.std.proofs.Common.{◌≡◌, ◌+◌, ◌≤◌, ℕ, Some, Ok, Err, List, length, take, sym, ◌∙◌, ap, subst, arith, length-take}
+use Rattle.std.proofs.Common.{◌≡◌, ◌+◌, ℕ, min, Some, Ok, Err, List, length, take, sym, ◌∙◌, ap, subst, arith, length-take}
 use Rattle.std.proofs.lemmas.Result.{err_from_is_err_and}
+use Rattle.vt_tree.specs.declared.entry.Entry.{Entry}
 use Rattle.vac_read.specs.declared.node.Stored.{Stored}
 use Rattle.vac_read.specs.declared.node.Stored.TheVariants as stored
 use Rattle.vac_read.specs.Reading.{ReadsNode}
@@ -9,7 +10,7 @@ use Rattle.nine_view.specs.declared.error.AnswerError.TheVariants.{Refused, Fail
 use Rattle.nine_view.specs.declared.fid.Fid.{Fid}
 use Rattle.nine_view.specs.declared.fid.Reading.{Reading}
 use Rattle.nine_view.specs.declared.request_error.RequestError.TheVariants.{BadOffset, FidNotOpen, UnknownFid}
-use Rattle.nine_view.specs.Answers.{of_fid, to_read}
+use Rattle.nine_view.specs.Answers.{most_data, of_fid, reads_file, to_read}
 use Rattle.nine_view.specs.Handling.{Handles}
 use Rattle.nine_view.specs.Known.{ViewState, fid_at, limit}
 use Rattle.nine_view.proofs.FileRead.{file_failed, file_told}
@@ -28,9 +29,9 @@ returns-in_default g c =
     rw c.into.ensures (
     subst (λ (k : ViewState). Handles g.B.Blocks.does g.B.Blocks.holds g.B.Scorer.score_of
     c.args.blocks.now c.args.blocks.now c.args.tag k k c.args.out.now (Err (Refused UnknownFid))
-    (of_fid k c.args.fid (λ h. to_read k c.args.fid c.args.offset c.args.room h h.reading)))
+    (of_fid k c.args.fid (λ h. to_read k c.args.fid c.args.offset c.args.count h h.reading)))
     c.self.view_is
-    (read_unknown g.B.Blocks.does g.B.Blocks.holds g.B.Scorer.score_of c.args.tag known c.args.out.now c.args.fid c.args.offset c.args.room c.args.blocks.now
+    (read_unknown g.B.Blocks.does g.B.Blocks.holds g.B.Scorer.score_of c.args.tag known c.args.out.now c.args.fid c.args.offset c.args.count c.args.blocks.now
     (sym c.in_default.ensures)))
 
 pub returns-in_default-reading : goal.returns-in_default-reading
@@ -45,9 +46,9 @@ returns-in_default-reading g c =
     rw c.into-in_default-reading.ensures (
     subst (λ (k : ViewState). Handles g.B.Blocks.does g.B.Blocks.holds g.B.Scorer.score_of
     c.args.blocks.now c.args.blocks.now c.args.tag k k c.args.out.now (Err (Refused FidNotOpen))
-    (of_fid k c.args.fid (λ h. to_read k c.args.fid c.args.offset c.args.room h h.reading)))
+    (of_fid k c.args.fid (λ h. to_read k c.args.fid c.args.offset c.args.count h h.reading)))
     c.self.view_is
-    (read_closed g.B.Blocks.does g.B.Blocks.holds g.B.Scorer.score_of c.args.tag known c.args.out.now c.args.fid c.args.offset c.args.room c.args.blocks.now f at
+    (read_closed g.B.Blocks.does g.B.Blocks.holds g.B.Scorer.score_of c.args.tag known c.args.out.now c.args.fid c.args.offset c.args.count c.args.blocks.now f at
     c.in_default-reading.is))
 
 pub read-requires : goal.read-requires
@@ -73,20 +74,27 @@ returns-in_err-bytes-in-File g c =
     let at : fid_at c.args.fid known.fids ≡ Some f = sym c.in-Some.ensures in
     let r : Reading = c.in-Some-reading.reading in
     let now : f.reading ≡ Some r = c.in-Some-reading.is in
+    let e : Entry = c.in-File.field-0 in
+    let room : ℕ = c.min-room.result in
+    let room_is : room ≡ min c.args.count (most_data known) =
+    c.min-room.ensures ∙ ap (λ (n : ℕ). min c.args.count n)
+    (c.most_data.ensures.is ∙ ap (λ (k : ViewState). most_data k) (sym c.self.view_is)) in
     rw (p.1, p.2) (
     subst (λ (k : ViewState). Handles g.B.Blocks.does g.B.Blocks.holds g.B.Scorer.score_of
     c.args.blocks.now c.read.new.blocks c.args.tag k k c.args.out.now (Err (Failed bad))
-    (of_fid k c.args.fid (λ h. to_read k c.args.fid c.args.offset c.args.room h h.reading)))
+    (of_fid k c.args.fid (λ h. to_read k c.args.fid c.args.offset c.args.count h h.reading)))
     c.self.view_is
-    (read_of g.B.Blocks.does g.B.Blocks.holds g.B.Scorer.score_of c.args.tag known c.args.out.now c.args.fid c.args.offset c.args.room c.args.blocks.now
-    c.read.new.blocks known (Err (Failed bad)) f r (stored.File c.in-File.field-0) at now
-    c.in-File.is
+    (read_of g.B.Blocks.does g.B.Blocks.holds g.B.Scorer.score_of c.args.tag known c.args.out.now
+    c.args.fid c.args.offset c.args.count c.args.blocks.now c.read.new.blocks known
+    (Err (Failed bad)) f r (stored.File e) at now c.in-File.is
+    (subst (λ (n : ℕ). Handles g.B.Blocks.does g.B.Blocks.holds g.B.Scorer.score_of
+    c.args.blocks.now c.read.new.blocks c.args.tag known known c.args.out.now (Err (Failed bad))
+    (reads_file e c.args.offset n)) room_is
     (file_failed g.B.Blocks.does g.B.Blocks.holds g.B.Scorer.score_of c.args.blocks.now
-    c.read.new.blocks c.args.tag known c.args.out.now c.in-File.field-0 c.args.offset
-    c.args.room bad
+    c.read.new.blocks c.args.tag known c.args.out.now e c.args.offset room bad
     (subst (λ (s : Stored). ReadsNode g.B.Blocks.does g.B.Blocks.holds g.B.Scorer.score_of
-    c.args.blocks.now c.read.new.blocks s c.args.offset c.args.room (Err bad)) c.in-File.is
-    c.in_err-bytes-in-File.ensures))))
+    c.args.blocks.now c.read.new.blocks s c.args.offset room (Err bad)) c.in-File.is
+    c.in_err-bytes-in-File.ensures)))))
 
 pub returns-in_ok-bytes-in-File : goal.returns-in_ok-bytes-in-File
 returns-in_ok-bytes-in-File g c =
@@ -99,28 +107,36 @@ returns-in_ok-bytes-in-File g c =
     let at : fid_at c.args.fid known.fids ≡ Some f = sym c.in-Some.ensures in
     let r : Reading = c.in-Some-reading.reading in
     let now : f.reading ≡ Some r = c.in-Some-reading.is in
+    let e : Entry = c.in-File.field-0 in
     let bytes : List ℕ = c.in_ok-bytes-in-File.bytes in
-    let room : c.args.room + 24 ≤ limit known =
-    subst (λ (k : ViewState). c.args.room + 24 ≤ limit k) (sym c.self.view_is) c.requires.room in
-    let told : c.first-told.result.now ≡ take c.args.room bytes =
-    c.first-told.ensures ∙ ap (λ (l : List ℕ). take c.args.room l) c.as_slice.ensures in
-    let few = length-take c.args.room bytes in
+    let room : ℕ = c.min-room.result in
+    let room_is : room ≡ min c.args.count (most_data known) =
+    c.min-room.ensures ∙ ap (λ (n : ℕ). min c.args.count n)
+    (c.most_data.ensures.is ∙ ap (λ (k : ViewState). most_data k) (sym c.self.view_is)) in
+    let fits : c.most_data.result + 24 ≡ limit known =
+    c.most_data.ensures.fits ∙ ap (λ (k : ViewState). limit k) (sym c.self.view_is) in
+    let told : c.first-told.result.now ≡ take room bytes =
+    c.first-told.ensures ∙ ap (λ (l : List ℕ). take room l) c.as_slice.ensures in
+    let few = length-take room bytes in
     let most = most_limit known c.self.invariant.1 in
-    let len : c.encode.result ≡ length (spelled_reply c.args.tag (r_read (take c.args.room bytes))) =
+    let len : c.encode.result ≡ length (spelled_reply c.args.tag (r_read (take room bytes))) =
     subst (λ (x : List ℕ). c.encode.result ≡ length (spelled_reply c.args.tag (r_read x))) told
     c.encode.ensures.len in
+    let small = c.min-room.ensures in
     subst (λ (k : ViewState). Handles g.B.Blocks.does g.B.Blocks.holds g.B.Scorer.score_of
     c.args.blocks.now c.read.new.blocks c.args.tag k k c.encode.new.buf (Ok c.encode.result)
-    (of_fid k c.args.fid (λ h. to_read k c.args.fid c.args.offset c.args.room h h.reading)))
+    (of_fid k c.args.fid (λ h. to_read k c.args.fid c.args.offset c.args.count h h.reading)))
     c.self.view_is
-    (read_of g.B.Blocks.does g.B.Blocks.holds g.B.Scorer.score_of c.args.tag known c.encode.new.buf c.args.fid c.args.offset c.args.room c.args.blocks.now
-    c.read.new.blocks known (Ok c.encode.result) f r (stored.File c.in-File.field-0) at now
-    c.in-File.is
+    (read_of g.B.Blocks.does g.B.Blocks.holds g.B.Scorer.score_of c.args.tag known
+    c.encode.new.buf c.args.fid c.args.offset c.args.count c.args.blocks.now
+    c.read.new.blocks known (Ok c.encode.result) f r (stored.File e) at now c.in-File.is
+    (subst (λ (n : ℕ). Handles g.B.Blocks.does g.B.Blocks.holds g.B.Scorer.score_of
+    c.args.blocks.now c.read.new.blocks c.args.tag known known c.encode.new.buf
+    (Ok c.encode.result) (reads_file e c.args.offset n)) room_is
     (file_told g.B.Blocks.does g.B.Blocks.holds g.B.Scorer.score_of c.args.blocks.now
-    c.read.new.blocks c.args.tag known c.encode.new.buf c.in-File.field-0 c.args.offset
-    c.args.room bytes c.encode.result
+    c.read.new.blocks c.args.tag known c.encode.new.buf e c.args.offset room bytes c.encode.result
     (subst (λ (s : Stored). ReadsNode g.B.Blocks.does g.B.Blocks.holds g.B.Scorer.score_of
-    c.args.blocks.now c.read.new.blocks s c.args.offset c.args.room (Ok bytes)) c.in-File.is
+    c.args.blocks.now c.read.new.blocks s c.args.offset room (Ok bytes)) c.in-File.is
     c.in_ok-bytes-in-File.ensures)
     (record {
       fits = omega arith;
@@ -128,7 +144,7 @@ returns-in_ok-bytes-in-File g c =
           ≡ spelled_reply c.args.tag (r_read x)) told c.encode.ensures.written;
       len_is = len;
       short = omega arith;
-    })))
+    }))))
 
 pub returns-then-is_bad_offset : goal.returns-then-is_bad_offset
 returns-then-is_bad_offset g c =
@@ -144,12 +160,12 @@ returns-then-is_bad_offset g c =
     rw c.into-then-is_bad_offset.ensures (
     subst (λ (k : ViewState). Handles g.B.Blocks.does g.B.Blocks.holds g.B.Scorer.score_of
     c.args.blocks.now c.args.blocks.now c.args.tag k k c.args.out.now (Err (Refused BadOffset))
-    (of_fid k c.args.fid (λ h. to_read k c.args.fid c.args.offset c.args.room h h.reading)))
+    (of_fid k c.args.fid (λ h. to_read k c.args.fid c.args.offset c.args.count h h.reading)))
     c.self.view_is
-    (read_of g.B.Blocks.does g.B.Blocks.holds g.B.Scorer.score_of c.args.tag known c.args.out.now c.args.fid c.args.offset c.args.room c.args.blocks.now
+    (read_of g.B.Blocks.does g.B.Blocks.holds g.B.Scorer.score_of c.args.tag known c.args.out.now c.args.fid c.args.offset c.args.count c.args.blocks.now
     c.args.blocks.now known (Err (Refused BadOffset)) f r
     (stored.Folder c.in-Folder.entries c.in-Folder.metadata) at now c.in-Folder.is
-    (read_elsewhere g.B.Blocks.does g.B.Blocks.holds g.B.Scorer.score_of c.args.tag known c.args.out.now c.args.fid c.args.offset c.args.room c.args.blocks.now f r
+    (read_elsewhere g.B.Blocks.does g.B.Blocks.holds g.B.Scorer.score_of c.args.tag known c.args.out.now c.args.fid c.args.offset c.args.count c.args.blocks.now f r
     c.in-Folder.entries c.in-Folder.metadata
     (sym c.is_bad_offset.ensures ∙ c.if-is_bad_offset.true))))
 
@@ -162,11 +178,11 @@ returns-else-is_bad_offset g c =
     let r : Reading = c.in-Some-reading.reading in
     let now : f.reading ≡ Some r = c.in-Some-reading.is in
     read_of g.B.Blocks.does g.B.Blocks.holds g.B.Scorer.score_of c.args.tag known
-    c.read_folder.new.out c.args.fid c.args.offset c.args.room c.args.blocks.now
+    c.read_folder.new.out c.args.fid c.args.offset c.args.count c.args.blocks.now
     c.read_folder.new.blocks c.read_folder.new.self c.read_folder.result f r
     (stored.Folder c.in-Folder.entries c.in-Folder.metadata) at now c.in-Folder.is
     (read_here g.B.Blocks.does g.B.Blocks.holds g.B.Scorer.score_of c.args.tag known
-    c.read_folder.new.out c.args.fid c.args.offset c.args.room c.args.blocks.now
+    c.read_folder.new.out c.args.fid c.args.offset c.args.count c.args.blocks.now
     c.read_folder.new.blocks c.read_folder.new.self c.read_folder.result f r
     c.in-Folder.entries c.in-Folder.metadata
     (sym c.is_bad_offset.ensures ∙ c.if-is_bad_offset.false) (c.read_folder.ensures f r at now))

@@ -1,5 +1,4 @@
-use Rattle.std.proofs.Common.{◌+◌, ◌≤◌, ℕ, Option, refl, sym, subst}
-use Rattle.std.specs.Prelude.{unwrap_or}
+use Rattle.std.proofs.Common.{refl}
 use Rattle.std.proofs.lemmas.Result.{err_from_is_err_and}
 use Rattle.nine_view.proofs.FolderHandled.{folder_handled, not_listed}
 use Rattle.nine_view.proofs.view.View.read_folder.Goals as goal
@@ -9,18 +8,13 @@ returns-in_err-list_files g c = λ f r at now.
     let p = err_from_is_err_and c.from_residual.result c.from_residual.ensures.1 in
     rw (p.1, p.2) (not_listed g.B.Blocks.does g.B.Blocks.holds g.B.Scorer.score_of
     c.args.blocks.now c.list_files.new.blocks c.args.tag c.args.self.now c.args.out.now c.args.fid
-    f r c.args.offset c.args.room c.list_files.new.self c.in_err-list_files.field-0.0 f.files
+    f r c.args.offset c.args.count c.list_files.new.self c.in_err-list_files.field-0.0 f.files
     (c.in_err-list_files.ensures.keeps f at))
-
-pub tell_files-requires-clause-room : goal.tell_files-requires-clause-room
-tell_files-requires-clause-room g c =
-    subst (λ (m : Option ℕ). c.args.room + 24 ≤ unwrap_or m 65536)
-    (sym c.in_ok-list_files.ensures.msize) c.requires.room
 
 pub returns : goal.returns
 returns g c = λ f r at now.
     folder_handled g.B.Blocks.does g.B.Blocks.holds g.B.Scorer.score_of
     c.args.blocks.now c.list_files.new.blocks c.args.tag c.args.self.now c.tell_files.new.out
-    c.args.fid f r c.args.offset c.args.room c.list_files.new.self c.tell_files.new.self
+    c.args.fid f r c.args.offset c.args.count c.list_files.new.self c.tell_files.new.self
     c.tell_files.result f.files at now refl (c.in_ok-list_files.ensures.keeps f at)
     c.tell_files.ensures
