@@ -12,7 +12,8 @@
 #     0 2 * * * cd /srv/backup && /opt/venti/examples/nightly.sh backup venti.conf /home archives > /dev/null
 #
 # It prints the line that it adds. What the archive lacks, and what failed, comes on standard error. The status is that
-# of vac or of tools/unvac.py, or 1 for the words and for LIST.
+# of vac or of tools/unvac.py, or 1 for the words and for LIST. At status 6 there may be an archive of all that could be
+# read; its line is added then.
 set -u
 
 say() {
@@ -26,7 +27,7 @@ is_line='^vac:[0-9a-f]{40}$'
 advice() {
     case $1 in
         4) echo 'a file of the store cannot be had; another process may have it' ;;
-        6) echo 'the configuration, the server, or something in the folder cannot be read' ;;
+        6) echo 'the configuration, the server or the folder cannot be read' ;;
         9) echo 'the store is damaged: checkarenas tells where' ;;
         10) echo 'the store is full, and keeps what it has' ;;
         *) echo 'docs/MANUAL.md says what that is' ;;
@@ -37,13 +38,15 @@ backup() {
     local store=$1 folder=$2 list=$3 line status
     line=$("$top/venti" vac "$store" "$folder")
     status=$?
-    if [ "$status" -ne 0 ]; then
+    if ! [[ $line =~ $is_line ]]; then
         say "no archive of $folder, status $status: $(advice "$status")"
+        [ "$status" -ne 0 ] || status=1
         return "$status"
     fi
-    if ! [[ $line =~ $is_line ]]; then
-        say "vac printed $line"
-        return 1
+    if [ "$status" -eq 6 ]; then
+        say "an archive of $folder that lacks what could not be read, status 6"
+    elif [ "$status" -ne 0 ]; then
+        say "an archive of $folder, status $status: $(advice "$status")"
     fi
     # The line is all by which the archive is found: it is on the disk before this ends well.
     line="$(date -u +%Y-%m-%dT%H:%M:%SZ) $line ${folder//$'\n'/?}"
@@ -52,6 +55,7 @@ backup() {
         return 1
     fi
     printf '%s\n' "$line"
+    return "$status"
 }
 
 restore() {

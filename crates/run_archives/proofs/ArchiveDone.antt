@@ -1,7 +1,6 @@
 -- A folder that was archived, and is back.
-use Rattle.std.proofs.Common.{◌≡◌, ◌≢◌, ℕ, ◌+◌, ◌-◌, ◌<◌, ◌^◌, Bool, List, Result, subst}
+use Rattle.std.proofs.Common.{◌≡◌, ◌≢◌, ℕ, ◌+◌, ◌-◌, ◌<◌, ◌^◌, Bool, List, Result, subst, arith}
 use Rattle.std.specs.Prelude.{IsTrue, min}
-use Rattle.vt_base.specs.Faults.{CountsFault}
 use Rattle.vt_disk.specs.Members.{DiskOf}
 use Rattle.vt_out.specs.declared.folder_item.Facts.{Facts}
 use Rattle.vt_out.specs.FolderItems.{Items}
@@ -10,7 +9,7 @@ use Rattle.vac_write.specs.Archiving.{IsSeen}
 use Rattle.vac_store.specs.declared.outcome.ArchiveError.{ArchiveError}
 use Rattle.vac_store.specs.declared.outcome.ArchivedAt.{ArchivedAt}
 use Rattle.vt_use.specs.declared.used_at.StoreAt.{StoreAt}
-use Rattle.vac_store.specs.Storing.{tells_folder_fault}
+use Rattle.vac_store.specs.Storing.{CountsFailuresAt}
 use Rattle.run_base.specs.Change.{DialerChange, PartsChange}
 use Rattle.run_base.specs.Members.{LinkOf}
 use Rattle.run_archives.specs.Vac.{ArchivesAt, StoresFolder}
@@ -28,8 +27,8 @@ module _ {P D N L : Type 0} (score : List ℕ → List ℕ) (disk : DiskOf D) (l
       → (IsTrue told → mid name ≡ lent → new name ≡ there left)
       → (IsTrue told → (other : List ℕ) → other ≢ name → new other ≡ mid other)
       → (IsTrue tells → left ≡ held)
-      → ArchivesAt score disk link at now bsize (IsSeen tells held) told_as parts dialer
-      → own ≡ 0 → CountsFault tells_folder_fault told_as own own' → between ≡ before
+      → ArchivesAt score disk link at now bsize (IsSeen tells held own own') told_as parts dialer
+      → own ≡ 0 → CountsFailuresAt told_as own own' → between ≡ before
       → after ≡ min (between + own') (2 ^ 64 - 1) → between < 2 ^ 64
       → StoresFolder score disk link now name at bsize result (record {
         tells = told;
@@ -47,9 +46,13 @@ module _ {P D N L : Type 0} (score : List ℕ → List ℕ) (disk : DiskOf D) (l
         back = λ t. back_again old mid new name held left (out t).1 (away t) (back t)
             (stays (out t).0)
             (apart t) (apart' t);
-        archives = subst (λ r. ArchivesAt score disk link at now bsize (IsSeen tells held) r parts
-            dialer) is archives;
-        fault = subst (λ r. CountsFault tells_folder_fault r before after) is
-            (subst (λ (n : ℕ). CountsFault tells_folder_fault told_as n after) same
-            (counts_back tells_folder_fault told_as own own' between after fresh counts sum fits));
+        risen = own';
+        rose = omega (arith, same, sum);
+        archives = subst (λ r. ArchivesAt score disk link at now bsize (IsSeen tells held 0 own') r
+            parts dialer) is
+            (subst (λ (n : ℕ). ArchivesAt score disk link at now bsize (IsSeen tells held n own')
+            told_as parts dialer) fresh archives);
+        counted = subst (λ r. CountsFailuresAt r before after) is
+            (subst (λ (n : ℕ). CountsFailuresAt told_as n after) same
+            (counts_back told_as own own' between after fresh counts sum fits));
       }

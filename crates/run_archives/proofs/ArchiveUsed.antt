@@ -1,7 +1,6 @@
 -- What a use of a store by the job that archives tells of the folder.
-use Rattle.std.proofs.Common.{◌≡◌, ℕ, Bool, true, List, Result, Ok, Err, ap}
+use Rattle.std.proofs.Common.{◌≡◌, ℕ, ◌<◌, ◌^◌, Bool, true, List, Result, Ok, Err, ap, arith}
 use Rattle.std.specs.Prelude.{IfOk, IsTrue, OnErr}
-use Rattle.vt_base.specs.Faults.{CountsFault}
 use Rattle.vt_disk.specs.Members.{DiskOf}
 use Rattle.vt_out.specs.declared.folder_item.Facts.{Facts}
 use Rattle.vt_out.specs.FolderItems.{Items}
@@ -14,26 +13,28 @@ use Rattle.vt_use.specs.declared.used_at.UsedAt.{UsedAt}
 use Rattle.vt_use.proofs.Narrower.{told_beside, uses_less}
 use Rattle.vac_write.specs.declared.archived.Archived.{Archived}
 use Rattle.vac_write.specs.declared.error.VacErr.{VacErr}
-use Rattle.vac_write.specs.Archiving.{IsSeen, is_folder_fault}
-use Rattle.vac_store.specs.Storing.{ArchivesOrGivesUp, archived_at, tells_folder_fault}
-use Rattle.vac_store.proofs.Into.{came_fault}
+use Rattle.vac_write.specs.Archiving.{CountsFailures, IsSeen}
+use Rattle.vac_store.specs.Storing.{ArchivesOrGivesUp, CountsFailuresAt, archived_at}
+use Rattle.vac_store.proofs.Into.{came_failures}
 
 module _ {P D N L W : Type 0} (score : List ℕ → List ℕ) (disk : DiskOf D) (link : LinkOf L)
     (at : StoreAt) (now bsize : ℕ) (parts : PartsChange P D) (dialer : DialerChange N L)
     (before after : W) (tells : Bool) (held : W → Items Facts) (faults : W → ℕ) where
   -- it stays, where that is told, and its count tells of its failed calls
   abbrev Stays : Result Archived VacErr → Type 0
-  Stays answer = CountsFault is_folder_fault answer (faults before) (faults after)
+  Stays answer = CountsFailures answer (faults before) (faults after)
       × (IsTrue tells → held after ≡ held before)
 
   abbrev Archives : Result Archived VacErr → Doing
   Archives answer = λ S act holds calls from to.
-      ArchivesOrGivesUp act holds score bsize (IsSeen tells (held before)) answer calls from to
+      ArchivesOrGivesUp act holds score bsize (IsSeen tells (held before) (faults before)
+      (faults after)) answer calls from to
 
   abbrev Job : Result Archived VacErr → Doing
   Job answer = λ S act holds calls from to.
-      ArchivesOrGivesUp act holds score bsize (IsSeen tells (held before)) answer calls from to
-      × CountsFault is_folder_fault answer (faults before) (faults after)
+      ArchivesOrGivesUp act holds score bsize (IsSeen tells (held before) (faults before)
+      (faults after)) answer calls from to
+      × CountsFailures answer (faults before) (faults after)
       × (IsTrue tells → held after ≡ held before)
 
   module _ (used : Result (UsedAt (Result Archived VacErr)) StoreError)
@@ -46,16 +47,16 @@ module _ {P D N L W : Type 0} (score : List ℕ → List ℕ) (disk : DiskOf D) 
     beside = told_beside score disk link now true parts dialer at Job Stays
         (λ answer S act holds calls from to does. (does.1, does.2)) used x
 
-    pub counts_so : OnErr used (after ≡ before)
-        → CountsFault tells_folder_fault (archived_at used) (faults before) (faults after)
-    counts_so same = of used beside same
+    pub counts_so : OnErr used (after ≡ before) → faults before < 2 ^ 64
+        → CountsFailuresAt (archived_at used) (faults before) (faults after)
+    counts_so same fits = of used beside same
       where
         of : (used : Result (UsedAt (Result Archived VacErr)) StoreError)
             → IfOk used (λ u. Stays u.output) → OnErr used (after ≡ before)
-            → CountsFault tells_folder_fault (archived_at used) (faults before) (faults after)
-        of (Ok u) told same = came_fault (faults before) (faults after) u.output u.refusal u.blocks
-            u.closed told.0
-        of (Err bad) told same = ap faults same
+            → CountsFailuresAt (archived_at used) (faults before) (faults after)
+        of (Ok u) told same = came_failures (faults before) (faults after) u.output u.refusal
+            u.blocks u.closed told.0
+        of (Err bad) told same = (0, omega (arith, fits, ap faults same))
 
     pub stays_so : OnErr used (after ≡ before) → IsTrue tells → held after ≡ held before
     stays_so same told = of used beside same

@@ -1,12 +1,16 @@
 -- Folders by name, of which one was handed out and is back.
-use Rattle.std.proofs.Common.{◌≡◌, ◌≢◌, ⊎_elim, ℕ, ◌+◌, ◌-◌, ◌<◌, ◌^◌, Bool, true, false, List, Result, Ok, Err, sym, ◌∙◌, ap, arith}
-use Rattle.std.specs.Prelude.{bytes_eq, min, MatchBool}
+use Rattle.std.proofs.Common.{◌≡◌, ◌≢◌, ⊎_elim, ℕ, ◌+◌, ◌-◌, ◌<◌, ◌^◌, true, false, List, Result, Ok, Err, sym, ◌∙◌, ap, arith}
+use Rattle.std.specs.Prelude.{bytes_eq, min}
 use Rattle.std.proofs.lemmas.Bool.{cases_Bool}
 use Rattle.std.proofs.lemmas.Slice.Eq.{bytes_eq-Decides}
-use Rattle.vt_base.specs.Faults.{CountsFault, HasRisen}
 use Rattle.vt_out.specs.declared.folder_item.Facts.{Facts}
 use Rattle.vt_out.specs.FolderItems.{Items}
 use Rattle.vt_out.specs.FolderStanding.{Standing, lent, there}
+use Rattle.vac_write.specs.declared.error.VacErr.TheVariants as vac
+use Rattle.vac_store.specs.declared.outcome.ArchiveError.{ArchiveError}
+use Rattle.vac_store.specs.declared.outcome.ArchiveError.TheVariants as bads
+use Rattle.vac_store.specs.declared.outcome.ArchivedAt.{ArchivedAt}
+use Rattle.vac_store.specs.Storing.{CountsFailuresAt}
 
 -- under this name and under others
 pub same_everywhere : (old new : List ℕ → Standing) (name : List ℕ) → new name ≡ old name
@@ -31,16 +35,20 @@ back_again old mid new name held left was out back same apart apart' = same_ever
     (back out ∙ ap there same ∙ sym was)
     (λ other differs. apart' other differs ∙ apart other differs)
 
--- its failed call counts among those of the folders
-pub counts_back : {T E : Type 0} (is_fault : E → Bool) (result : Result T E) (f f' old new : ℕ)
-    → f ≡ 0
-    → CountsFault is_fault result f f' → new ≡ min (old + f') (2 ^ 64 - 1) → old < 2 ^ 64
-    → CountsFault is_fault result old new
-counts_back is_fault (Ok value) f f' old new zero counts sum fits = omega
-    (arith, zero, counts, sum, fits)
-counts_back is_fault (Err bad) f f' old new zero counts sum fits = by (is_fault bad) counts
-  where
-    by : (b : Bool) → MatchBool b (HasRisen f f') (f' ≡ f)
-        → MatchBool b (HasRisen old new) (new ≡ old)
-    by true rose = omega (arith, zero, rose, sum, fits)
-    by false stayed = omega (arith, zero, stayed, sum, fits)
+-- its failed calls count among those of the folders
+pub counts_back : (result : Result ArchivedAt ArchiveError) (f f' old new : ℕ) → f ≡ 0
+    → CountsFailuresAt result f f' → new ≡ min (old + f') (2 ^ 64 - 1) → old < 2 ^ 64
+    → CountsFailuresAt result old new
+counts_back (Ok s) f f' old new zero counts sum fits = omega (arith, zero, counts, sum, fits)
+counts_back (Err (bads.Folder vac.FolderFault)) f f' old new zero counts sum fits =
+    omega (arith, zero, counts, sum, fits)
+counts_back (Err (bads.Folder (vac.Tree err))) f f' old new zero counts sum fits =
+    (counts.0, omega (arith, zero, counts.1, sum, fits))
+counts_back (Err (bads.Folder (vac.BadName path))) f f' old new zero counts sum fits =
+    (counts.0, omega (arith, zero, counts.1, sum, fits))
+counts_back (Err (bads.Folder (vac.TooDeep path))) f f' old new zero counts sum fits =
+    (counts.0, omega (arith, zero, counts.1, sum, fits))
+counts_back (Err (bads.Folder vac.NoMemory)) f f' old new zero counts sum fits =
+    (counts.0, omega (arith, zero, counts.1, sum, fits))
+counts_back (Err (bads.Store bad)) f f' old new zero counts sum fits =
+    (counts.0, omega (arith, zero, counts.1, sum, fits))

@@ -1,6 +1,6 @@
 -- Why a folder isn't archived.
-use Rattle.std.proofs.Common.{◌≡◌, ⊎_elim, ℕ, true, List, None, Option, Some, Result, Ok, Err, refl, sym, subst}
-use Rattle.vt_base.specs.Faults.{HasRisen}
+use Rattle.std.proofs.Common.{◌≡◌, ⊎_elim, inl, inr, ℕ, ◌+◌, ◌-◌, ◌<◌, ◌≤◌, ◌^◌, true, List, [], ◌∷◌, length, None, Option, Some, Result, Ok, Err, refl, sym, subst, arith}
+use Rattle.std.proofs.lemmas.Bool.{cases_lt}
 use Rattle.vt_disk.specs.Members.{DiskOf}
 use Rattle.vt_use.specs.Places.{Doing, UsesAt}
 use Rattle.vt_use.specs.declared.used_at.StoreAt.{StoreAt}
@@ -10,25 +10,41 @@ use Rattle.vt_tree.specs.declared.error.TreeErr.TheVariants as trees
 use Rattle.vac_write.specs.declared.archived.Archived.{Archived}
 use Rattle.vac_write.specs.declared.error.VacErr.{VacErr}
 use Rattle.vac_write.specs.declared.error.VacErr.TheVariants as vac
-use Rattle.vac_write.specs.Archiving.{IsSeen}
+use Rattle.vac_write.specs.Archiving.{HasRisenBy, IsSeen}
 use Rattle.vac_store.specs.declared.outcome.ArchiveError.{ArchiveError}
 use Rattle.vac_store.specs.declared.outcome.ArchiveError.TheVariants as bads
 use Rattle.vac_store.specs.Storing.{ArchivesOrGivesUp, archived_at, came_to}
 use Rattle.run_base.specs.declared.error.CommandError.{CommandError}
-use Rattle.run_base.specs.declared.error.CommandError.TheVariants.{FolderFault, NoMemory}
+use Rattle.run_base.specs.declared.error.CommandError.TheVariants.{FolderFault, NoMemory, WriteFault}
 use Rattle.run_base.specs.Blocks.{IsStoreRefusal}
 use Rattle.run_base.specs.Change.{StreamChange, DialerChange, FilesChange, FoldersChange, PartsChange}
-use Rattle.run_base.specs.Errors.{Causes, HasCauseIn, CommandOutcome, no_cause, with_dialer, with_files, with_folders, with_parts, with_sink}
+use Rattle.run_base.specs.Errors.{Causes, HasCauseIn, HaveFailed, CommandOutcome, no_cause, with_dialer, with_files, with_folders, with_parts, with_sink}
 use Rattle.run_base.specs.Members.{LinkOf}
-use Rattle.run_base.proofs.Causes.{as_told, printed_has_cause}
+use Rattle.run_base.proofs.Causes.{as_told, have_failed, printed_has_cause}
 use Rattle.run_base.proofs.StoreCauses.{AreCaused, closed_cause, refusal_cause, unfound_cause, unused_cause}
-use Rattle.run_archives.specs.Vac.{ArchivesNone, AsksForNoSize, DoesVac, HandsOutNone, IsArchiveRefusal, StoresFolder, StoresNone, archive_line, unfit_for}
+use Rattle.run_archives.specs.Vac.{ArchivesNone, AsksForNoSize, DoesVac, HandsOutNone, IsArchiveRefusal, StoresFolder, StoresNone, archive_line, outcome_behind, unfit_for}
+
+-- what is told where calls of folders have failed
+has_failed : (n old new : ℕ) → HasRisenBy (1 + n) old new → HaveFailed old new
+has_failed n old new rose = ⊎_elim
+    (λ (low : old < 2 ^ 64 - 1). inl (omega (arith, rose, low)))
+    (λ (high : 2 ^ 64 - 1 ≤ old). inr (omega (arith, rose, high)))
+    (cases_lt old (2 ^ 64 - 1))
+
+behind_cause : (causes : Causes) (folders : FoldersChange) (failed : List (List ℕ))
+    → (HaveFailed folders.faults folders.faults' → causes.folders)
+    → HasRisenBy (length failed) folders.faults folders.faults'
+    → HasCauseIn causes (outcome_behind failed)
+behind_cause causes folders [] rises counted = tt
+behind_cause causes folders (path ∷ failed) rises counted =
+    rises (has_failed (length failed) folders.faults folders.faults' (omega (arith, counted)))
 
 -- why no folder was handed out, and why a word asks for no size
 pub out_cause : (causes : Causes) (folders : FoldersChange) (failure : CommandError)
-    → (HasRisen folders.faults folders.faults' → causes.folders) → HandsOutNone folders failure
+    → (HaveFailed folders.faults folders.faults' → causes.folders) → HandsOutNone folders failure
     → HasCauseIn causes (Err failure)
-out_cause causes folders FolderFault rises none = rises none
+out_cause causes folders FolderFault rises none =
+    rises (have_failed folders.faults folders.faults' none)
 out_cause causes folders NoMemory rises none = tt
 out_cause causes folders failure rises none = absurd none
 
@@ -51,7 +67,7 @@ module _ {I P D N L K : Type 0} (score : List ℕ → List ℕ) (disk : DiskOf D
     unfit_cause : (err : VacErr)
         → StoresFolder score disk link now name at bsize (Err (bads.Folder err)) folders parts dialer
         → HasCauseIn causes (Err (unfit_for err))
-    unfit_cause vac.FolderFault x = x.fault
+    unfit_cause vac.FolderFault x = have_failed folders.faults folders.faults' x.counted
     unfit_cause (vac.Tree trees.TooLong) x = tt
     unfit_cause err x = tt
 
@@ -117,7 +133,7 @@ module _ {I P D N L K : Type 0} (score : List ℕ → List ℕ) (disk : DiskOf D
         as_told causes failure (unfit_for err) told (unfit_cause err x)
     refusal (bads.Store bad) failure x told = used_cause
         (λ answer S act holds calls from to.
-        ArchivesOrGivesUp act holds score bsize (IsSeen x.tells x.held) answer calls from to) bad
+        ArchivesOrGivesUp act holds score bsize (IsSeen x.tells x.held 0 x.risen) answer calls from to) bad
         failure told x.archives.used x.archives.uses x.archives.result_is
 
     stored_cause : (failure : CommandError)
@@ -144,6 +160,12 @@ module _ {I P D N L K : Type 0} (score : List ℕ → List ℕ) (disk : DiskOf D
       → HasCauseIn causes outcome
   vac_cause does = ⊎_elim
       (λ none. subst (HasCauseIn causes) (sym none.outcome_is) (none_cause none.failure none.none))
-      (λ it. printed_has_cause causes (archive_line it.stored.archived.score.0) outcome sink
-      (λ rose. rose) it.printed)
+      (λ it. ⊎_elim
+      (λ printed. subst (HasCauseIn causes) (sym printed.1)
+      (behind_cause causes folders it.stored.archived.failed (λ rose. rose)
+      it.archives.stores.counted))
+      (λ unwritten. subst (HasCauseIn causes) (sym unwritten.1)
+      (printed_has_cause causes (archive_line it.stored.archived.score.0) (Err WriteFault) sink
+      (λ rose. rose) unwritten.0))
+      it.printed)
       does

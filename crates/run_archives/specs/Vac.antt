@@ -2,7 +2,7 @@
 -- or at a server, and prints what the archive is found by (vac(1)).
 use Rattle.std.specs.Prelude.{ℕ, ◌≡◌, ◌⊎◌, ◌≤◌, ◌++◌, Bool, true, IsTrue, Option, Some, None, List, [], ◌∷◌, Result, Ok, Err, codes, decimal}
 use Rattle.hex.specs.Hex.{encode_lower}
-use Rattle.vt_base.specs.Faults.{CountsFault, HasRisen}
+use Rattle.vt_base.specs.Faults.{HasRisen}
 use Rattle.vt_conf.specs.Numbers.{wrong_digit}
 use Rattle.vt_disk.specs.Members.{DiskOf}
 use Rattle.vt_out.specs.declared.folder_item.Facts.{Facts}
@@ -12,7 +12,7 @@ use Rattle.vt_tree.specs.declared.error.TreeErr.TheVariants as trees
 use Rattle.vac_model.specs.declared.TheConstants.{MIN_BLOCK_SIZE, MAX_BLOCK_SIZE}
 use Rattle.vac_write.specs.declared.error.VacErr.{VacErr}
 use Rattle.vac_write.specs.declared.error.VacErr.TheVariants as vac
-use Rattle.vac_write.specs.Archiving.{IsSeen}
+use Rattle.vac_write.specs.Archiving.{HasRisenBy, IsSeen}
 use Rattle.vt_use.specs.Places.{UsesAt}
 use Rattle.vt_use.specs.declared.used_at.StoreAt.{StoreAt}
 use Rattle.vt_use.specs.declared.used_at.StoreError.{StoreError}
@@ -21,16 +21,16 @@ use Rattle.vac_write.specs.declared.archived.Archived.{Archived}
 use Rattle.vac_store.specs.declared.outcome.ArchiveError.{ArchiveError}
 use Rattle.vac_store.specs.declared.outcome.ArchiveError.TheVariants as bads
 use Rattle.vac_store.specs.declared.outcome.ArchivedAt.{ArchivedAt}
-use Rattle.vac_store.specs.Storing.{ArchivesOrGivesUp, archived_at, tells_folder_fault}
+use Rattle.vac_store.specs.Storing.{ArchivesOrGivesUp, CountsFailuresAt, archived_at}
 use Rattle.run_base.specs.declared.error.CommandError.{CommandError}
-use Rattle.run_base.specs.declared.error.CommandError.TheVariants.{BadName, BadNumber, FolderFault, NoMemory, TooDeep, TooLong}
+use Rattle.run_base.specs.declared.error.CommandError.TheVariants.{BadName, BadNumber, FolderFault, NoMemory, TooDeep, TooLong, WriteFault}
 use Rattle.run_base.specs.Blocks.{IsStoreRefusal}
 use Rattle.run_base.specs.Change.{AreUnused, StreamChange, DialerChange, FilesChange, FoldersChange, IsUntouched, NoneDialled, NoneHandedOut, NoneRead, PartsChange}
 use Rattle.run_base.specs.Errors.{CommandOutcome}
 use Rattle.run_base.specs.Formatting.{Prints}
 use Rattle.run_base.specs.Members.{LinkOf}
 use Rattle.run_base.specs.Places.{FindsAt, FindsNoneAt}
-use Rattle.run_archives.specs.Skipped.{skipped_lines}
+use Rattle.run_archives.specs.Skipped.{left_out_lines}
 
 -- ---- its words
 
@@ -51,6 +51,20 @@ AsksForNoSize (Some word) failure =
 -- what an archive is found by
 abbrev pub archive_line : (score : List ℕ) → List ℕ
 archive_line score = codes "vac:" ++ (encode_lower score ++ 10 ∷ [])
+
+-- what comes of an archive whose line was printed: where a call has failed on a file or a folder, a
+-- fault of reading
+abbrev pub outcome_behind : (failed : List (List ℕ)) → CommandOutcome
+outcome_behind [] = Ok tt
+outcome_behind (path ∷ failed) = Err FolderFault
+
+-- what the archive is found by was written, and what comes of it then is the outcome; or a write
+-- failed behind a front of it
+abbrev pub PrintsArchive : {K : Type 0} → Archived → CommandOutcome → StreamChange K → Type 0
+PrintsArchive archived outcome sink =
+    (Prints (archive_line archived.score.0) (Ok tt) sink
+    × (outcome ≡ outcome_behind archived.failed))
+    ⊎ (Prints (archive_line archived.score.0) (Err WriteFault) sink × (outcome ≡ Err WriteFault))
 
 -- why a folder isn't archived; the place of what is unfit is 0
 abbrev pub unfit_for : VacErr → CommandError
@@ -76,7 +90,8 @@ StandAgain folders =
 -- A folder of which this was seen was archived into the store at this place, with this result; or that
 -- wasn't used, for its cause.
 pub record ArchivesAt {P D N L : Type 0} (score : List ℕ → List ℕ) (disk : DiskOf D)
-    (link : LinkOf L) (at : StoreAt) (now bsize : ℕ) (is_seen : Items Facts → Type 0)
+    (link : LinkOf L) (at : StoreAt) (now bsize : ℕ)
+    (is_seen : (failed : ℕ) → Items Facts → Type 0)
     (result : Result ArchivedAt ArchiveError) (parts : PartsChange P D) (dialer : DialerChange N L)
     : Type 0 where
   pub used : Result (UsedAt (Result Archived VacErr)) StoreError
@@ -85,8 +100,8 @@ pub record ArchivesAt {P D N L : Type 0} (score : List ℕ → List ℕ) (disk :
   pub result_is : result ≡ archived_at used
 
 -- The folder of this name was archived into the store at this place, with this result, and is back. The
--- time `now` is what a clump was stamped with. A failed call of the folder is what is told where one
--- failed.
+-- time `now` is what a clump was stamped with. As many of its calls have failed as paths are told of
+-- which one has; and where there is no archive for a failed call that one alone.
 pub record StoresFolder {P D N L : Type 0} (score : List ℕ → List ℕ) (disk : DiskOf D)
     (link : LinkOf L) (now : ℕ) (name : List ℕ) (at : StoreAt) (bsize : ℕ)
     (result : Result ArchivedAt ArchiveError) (folders : FoldersChange) (parts : PartsChange P D)
@@ -96,8 +111,12 @@ pub record StoresFolder {P D N L : Type 0} (score : List ℕ → List ℕ) (disk
   pub held : Items Facts
   pub handed_out : IsTrue folders.tells → IsTrue tells × (folders.old name ≡ there held)
   pub back : StandAgain folders
-  pub archives : ArchivesAt score disk link at now bsize (IsSeen tells held) result parts dialer
-  pub fault : CountsFault tells_folder_fault result folders.faults folders.faults'
+  -- how many of its calls have failed
+  pub risen : ℕ
+  pub rose : HasRisenBy risen folders.faults folders.faults'
+  pub archives : ArchivesAt score disk link at now bsize (IsSeen tells held 0 risen) result parts
+      dialer
+  pub counted : CountsFailuresAt result folders.faults folders.faults'
 
 -- why no folder was handed out: a call failed, as where there is none, or memory ran out
 abbrev pub HandsOutNone : FoldersChange → CommandError → Type 0
@@ -161,16 +180,16 @@ pub record TellsNone {I P D N L K : Type 0} (score : List ℕ → List ℕ) (dis
   pub nothing : preface ≡ []
   pub unwritten : IsUntouched sink
 
--- The folder was stored; each path that was left out is told, before the line on the fault sink,
--- and what the archive is found by is printed.
+-- The folder was stored, as far as it could be read; each path that was left out is told, before the
+-- line on the fault sink, and what the archive is found by is printed.
 pub record TellsArchived {I P D N L K : Type 0} (score : List ℕ → List ℕ) (disk : DiskOf D)
     (link : LinkOf L) (now : ℕ) (store name : List ℕ) (size_word : Option (List ℕ)) (preface : List ℕ)
     (outcome : CommandOutcome) (files : FilesChange I) (folders : FoldersChange)
     (parts : PartsChange P D) (dialer : DialerChange N L) (sink : StreamChange K) : Type 0 where
   pub stored : ArchivedAt
   pub archives : Archives score disk link now store name size_word stored files folders parts dialer
-  pub left_out : preface ≡ skipped_lines stored.archived.skipped
-  pub printed : Prints (archive_line stored.archived.score.0) outcome sink
+  pub left_out : preface ≡ left_out_lines stored.archived
+  pub printed : PrintsArchive stored.archived outcome sink
 
 -- its folder was stored at this time, or it is told why not
 abbrev pub DoesVac : {I P D N L K : Type 0} → (List ℕ → List ℕ) → DiskOf D → LinkOf L

@@ -194,9 +194,9 @@ with_source source causes = record causes { source = HasRisen source.faults sour
 abbrev pub with_files : {I : Type 0} → FilesChange I → Causes → Causes
 with_files files causes = record causes { files = HasRisen files.faults files.faults' }
 
--- a fault of reading is told only where the folders counted one
+-- a fault of reading is told only where the folders counted some
 abbrev pub with_folders : FoldersChange → Causes → Causes
-with_folders folders causes = record causes { folders = HasRisen folders.faults folders.faults' }
+with_folders folders causes = record causes { folders = HaveFailed folders.faults folders.faults' }
 
 -- a fault of writing is told only where the stream that is written counted one
 abbrev pub with_sink : {K : Type 0} → StreamChange K → Causes → Causes

@@ -32,6 +32,13 @@ const LINE: &[u8] = b"vac:7cb9bdd602e2a403c8d34ad446017ae13b317aa7\n";
 
 const SMALL_LINE: &[u8] = b"vac:808ed0b4711370b9f8b7241cd07ee0206d217fa7\n";
 
+/// The same in blocks of 8,192 bytes without `a`, without `d`, and without `d/f`.
+const WITHOUT_A: &[u8] = b"vac:4fc52f9f8cb8946bf84644deaba8e2c3328138d5\n";
+
+const WITHOUT_D: &[u8] = b"vac:5066a714f0c8a597805c4a5b88664f6c1faa1535\n";
+
+const WITHOUT_F: &[u8] = b"vac:7bf81679d685121181fea42a5f2d692a21737433\n";
+
 /// What is told of the link.
 const SKIPPED: &[u8] = b"venti: skipped d/l\xff\n";
 
@@ -49,7 +56,7 @@ type Archived = (
 );
 
 /// Scores by the formats alone, from another encoder.
-const ARCHIVED: [Archived; 10] = [
+const ARCHIVED: [Archived; 15] = [
     (VAC, b"a", &[], 0, LINE, SKIPPED),
     (VAC, b"a", &[], 0, LINE, SKIPPED),
     (
@@ -100,7 +107,48 @@ const ARCHIVED: [Archived; 10] = [
         b"",
         b"venti: read fault\n",
     ),
-    (VAC, b"a", &[2], 6, b"", b"venti: read fault\n"),
+    // Of the folder's calls the first lists it, the second reads `a`, the third lists `d`, and two read `d/f`.
+    (VAC, b"a", &[0], 6, b"", b"venti: read fault\n"),
+    (
+        VAC,
+        b"a",
+        &[1],
+        6,
+        WITHOUT_A,
+        b"venti: skipped d/l\xff\nventi: can't read a\nventi: read fault\n",
+    ),
+    (
+        VAC,
+        b"a\n\"\\",
+        &[1],
+        6,
+        WITHOUT_A,
+        b"venti: skipped d/l\xff\nventi: can't read \"a\\012\\\"\\\\\"\nventi: read fault\n",
+    ),
+    (
+        VAC,
+        b"a",
+        &[2],
+        6,
+        WITHOUT_D,
+        b"venti: can't read d\nventi: read fault\n",
+    ),
+    (
+        VAC,
+        b"a",
+        &[3],
+        6,
+        WITHOUT_F,
+        b"venti: skipped d/l\xff\nventi: can't read d/f\nventi: read fault\n",
+    ),
+    (
+        VAC,
+        b"a",
+        &[4],
+        6,
+        WITHOUT_F,
+        b"venti: skipped d/l\xff\nventi: can't read d/f\nventi: read fault\n",
+    ),
     (VAC, b"a/b", &[], 5, b"", b"venti: bad name at 0\n"),
 ];
 

@@ -1,7 +1,6 @@
 -- An archiving, as what a use of the store came to.
-use Rattle.std.proofs.Common.{◌≡◌, ℕ, ◌-◌, true, Option, Some, None, Result, Ok, Err, List, refl, ◌∙◌, ap, subst}
+use Rattle.std.proofs.Common.{◌≡◌, ℕ, ◌-◌, true, Option, Some, None, Result, Ok, Err, List, length, refl, ◌∙◌, ap, subst}
 use Rattle.std.specs.Prelude.{IfErr, IfOk}
-use Rattle.vt_base.specs.Faults.{CountsFault}
 use Rattle.vt_base.specs.declared.why.Why.{Why}
 use Rattle.vt_disk.specs.Members.{DiskOf}
 use Rattle.vt_out.specs.declared.folder_item.Facts.{Facts}
@@ -21,14 +20,14 @@ use Rattle.vt_use.specs.declared.used_at.StoreError.{StoreError}
 use Rattle.vac_write.specs.declared.archived.Archived.{Archived}
 use Rattle.vac_write.specs.declared.error.VacErr.{VacErr}
 use Rattle.vac_write.specs.declared.error.VacErr.TheVariants.{FolderFault, Tree, BadName, TooDeep, NoMemory}
-use Rattle.vac_write.specs.Archiving.{WritesArchive, GivesUpArchive, is_folder_fault}
+use Rattle.vac_write.specs.Archiving.{CountsFailures, WritesArchive, GivesUpArchive}
 use Rattle.vac_store.specs.declared.outcome.ArchivedAt.{ArchivedAt}
 use Rattle.vac_store.specs.declared.outcome.ArchiveError.{ArchiveError}
-use Rattle.vac_store.specs.Storing.{ArchivesByJob, ArchivesOrGivesUp, came_to, tells_folder_fault, told}
+use Rattle.vac_store.specs.Storing.{ArchivesByJob, ArchivesOrGivesUp, CountsFailuresAt, came_to, told}
 
 -- A folder was archived into a store, or that was given up, and the store's use was then ended.
 pub record ArchivesInto {D : Type 0} (score : List ℕ → List ℕ) (disk : DiskOf D) (now bsize : ℕ)
-    (is_seen : Items Facts → Type 0) (result : Result ArchivedAt ArchiveError)
+    (is_seen : (failed : ℕ) → Items Facts → Type 0) (result : Result ArchivedAt ArchiveError)
     (old new : CoreState D) : Type 0 where
   pub answer : Result Archived VacErr
   pub kept : LocalState (DrivenState D)
@@ -43,7 +42,7 @@ pub record ArchivesInto {D : Type 0} (score : List ℕ → List ℕ) (disk : Dis
       (history_len new - history_len old) (as_ended closed)
 
 module _ {D : Type 0} (score : List ℕ → List ℕ) (disk : DiskOf D) (now bsize : ℕ)
-    (is_seen : Items Facts → Type 0) (old new : CoreState D) where
+    (is_seen : (failed : ℕ) → Items Facts → Type 0) (old new : CoreState D) where
   abbrev State : Type 0
   State = LocalState (DrivenState D)
 
@@ -87,35 +86,35 @@ module _ {D : Type 0} (score : List ℕ → List ℕ) (disk : DiskOf D) (now bsi
             x.added_is;
       }
 
--- ---- faults of the folder
+-- ---- failed calls of the folder
 
 module _ (before after : ℕ) where
-  told_fault : (err : VacErr) (refusal : Option StoreError)
-      → CountsFault {T = Archived} is_folder_fault (Err err) before after
-      → CountsFault {T = ArchivedAt} tells_folder_fault (Err (told err refusal)) before after
-  told_fault FolderFault refusal counts = counts
-  told_fault (Tree (trees.Block err)) None counts = counts
-  told_fault (Tree (trees.Block err)) (Some bad) counts = counts
-  told_fault (Tree trees.SourceFault) refusal counts = counts
-  told_fault (Tree (trees.BadEntry bad)) refusal counts = counts
-  told_fault (Tree (trees.BadBlock depth len)) refusal counts = counts
-  told_fault (Tree trees.TooLong) refusal counts = counts
-  told_fault (Tree trees.NoMemory) refusal counts = counts
-  told_fault (BadName path) refusal counts = counts
-  told_fault (TooDeep path) refusal counts = counts
-  told_fault NoMemory refusal counts = counts
+  told_failures : (err : VacErr) (refusal : Option StoreError)
+      → CountsFailures (Err err) before after
+      → CountsFailuresAt (Err (told err refusal)) before after
+  told_failures FolderFault refusal counts = counts
+  told_failures (Tree (trees.Block err)) None counts = counts
+  told_failures (Tree (trees.Block err)) (Some bad) counts = counts
+  told_failures (Tree trees.SourceFault) refusal counts = counts
+  told_failures (Tree (trees.BadEntry bad)) refusal counts = counts
+  told_failures (Tree (trees.BadBlock depth len)) refusal counts = counts
+  told_failures (Tree trees.TooLong) refusal counts = counts
+  told_failures (Tree trees.NoMemory) refusal counts = counts
+  told_failures (BadName path) refusal counts = counts
+  told_failures (TooDeep path) refusal counts = counts
+  told_failures NoMemory refusal counts = counts
 
-  pub came_fault : (answer : Result Archived VacErr) (refusal : Option StoreError) (blocks : ℕ)
-      (closed : Result (Unit {0}) StoreError) → CountsFault is_folder_fault answer before after
-      → CountsFault tells_folder_fault (came_to answer refusal blocks closed) before after
-  came_fault (Ok a) refusal blocks (Ok done) counts = counts
-  came_fault (Ok a) refusal blocks (Err bad) counts = counts
-  came_fault (Err err) refusal blocks closed counts = told_fault err refusal counts
+  pub came_failures : (answer : Result Archived VacErr) (refusal : Option StoreError) (blocks : ℕ)
+      (closed : Result (Unit {0}) StoreError) → CountsFailures answer before after
+      → CountsFailuresAt (came_to answer refusal blocks closed) before after
+  came_failures (Ok a) refusal blocks (Ok done) counts = counts
+  came_failures (Ok a) refusal blocks (Err bad) counts = (length a.failed, counts)
+  came_failures (Err err) refusal blocks closed counts = told_failures err refusal counts
 
 -- ---- of any store of blocks
 
 module _ {S : Type 0} (act : S → Call → S → Type 0) (holds : S → Maps → Type 0)
-    (score_of : List ℕ → List ℕ) (bsize : ℕ) (is_seen : Items Facts → Type 0) (s s' : S) where
+    (score_of : List ℕ → List ℕ) (bsize : ℕ) (is_seen : (failed : ℕ) → Items Facts → Type 0) (s s' : S) where
   -- its calls are those that are told
   pub archived_by : (answer : Result Archived VacErr)
       → IfOk answer (WritesArchive act holds score_of s s' bsize is_seen)

@@ -24,13 +24,13 @@ use Rattle.vt_use.specs.LocalJobs.{new_local}
 use Rattle.vt_use.specs.Stores.{at_time, store_on}
 use Rattle.vt_use.specs.Uses.{LeftByUse}
 use Rattle.vt_blocks.specs.Local.{DoesLocal, HoldsLocal, LocalState}
-use Rattle.vac_model.specs.Archives.{archive_of}
 use Rattle.vac_model.specs.Kept.{archived}
 use Rattle.vac_model.specs.Trees.{IsTreeOf}
 use Rattle.vac_write.specs.declared.archived.Archived.{Archived}
 use Rattle.vac_write.specs.declared.error.VacErr.{VacErr}
 use Rattle.vac_write.specs.declared.error.VacErr.TheVariants.{FolderFault, Tree, BadName, TooDeep, NoMemory}
-use Rattle.vac_write.specs.Archiving.{KeepsArchive, WritesArchive, GivesUpArchive, IsGivenUpAs, refusal_of}
+use Rattle.vac_write.specs.Archiving.{KeepsArchive, PutsFor, WritesArchive, GivesUpArchive, IsGivenUpAs, refusal_of}
+use Rattle.vac_write.specs.Tried.{Tried, failures, whole, found}
 use Rattle.vac_model.specs.Limits.{first_unfit}
 use Rattle.vac_store.specs.declared.outcome.ArchiveError.{ArchiveError}
 use Rattle.vac_store.specs.declared.outcome.ArchivedAt.{ArchivedAt}
@@ -82,7 +82,7 @@ all_put put rest blocks are none =
     sym (append-nil put) ∙ ap (λ (l : List Block). put ++ l) (sym none) ∙ are
 
 module _ {D : Type 0} (score : List ℕ → List ℕ) (disk : DiskOf D)
-    (now bsize : ℕ) (is_seen : Items Facts → Type 0) (h : History) (old new : CoreState D)
+    (now bsize : ℕ) (is_seen : (failed : ℕ) → Items Facts → Type 0) (h : History) (old new : CoreState D)
     (tells : IsTrue disk.tells) (sound : IsSound score disk old h) where
   abbrev Does : LocalState (DrivenState D) → Call → LocalState (DrivenState D) → Type 0
   Does = DoesLocal (store_on score disk)
@@ -115,9 +115,8 @@ module _ {D : Type 0} (score : List ℕ → List ℕ) (disk : DiskOf D)
       (it : ArchivesInto score disk now bsize is_seen result old new)
       (leave : (last : History) → IsSound score disk it.kept.store.core last
       → LeftByUse score disk true it.closed last old it.kept.store.core new) where
-    module _ (seen : Items Facts) (none_left : Type 0) (err : Option BlockErr)
-        (so : Holds score disk tells (archive_of score bsize seen).blocks none_left err h
-        start it.kept) where
+    module _ (tried : Tried) (all : List Block) (none_left : Type 0) (err : Option BlockErr)
+        (so : Holds score disk tells all none_left err h start it.kept) where
       abbrev last : History
       last = all_written score (setup_of old) h so.put
 
@@ -125,7 +124,7 @@ module _ {D : Type 0} (score : List ℕ → List ℕ) (disk : DiskOf D)
       leaves = leave last so.sound
 
       abbrev Stored : ArchivedAt → Type 0
-      Stored s = (so.rest ≡ []) × StandsIn score bsize seen last s.archived
+      Stored s = (so.rest ≡ []) × StandsIn score bsize tried last s.archived
           × (length last ≡ length h + s.blocks)
           × AllStandFor score disk (setup_of old) old.log.tables (devices_of new) last
           (length last)
@@ -134,13 +133,15 @@ module _ {D : Type 0} (score : List ℕ → List ℕ) (disk : DiskOf D)
       grown : length last ≡ length h + (history_len new - history_len old)
       grown = omega (arith, sound.log.front, leaves.sound.log.front, leaves.keeps.store.len)
 
-      keeps_so : (is : is_seen seen)
-          → IfErr result (IsBecause score (setup_of old) last so.rest seen)
+      keeps_so : (is : is_seen (failures tried) (whole tried)) → PutsFor score bsize tried all
+          → IfErr result (IsBecause score (setup_of old) last so.rest (found tried))
           → IfOk result Stored
           → KeepsFolder score disk bsize is_seen result h old new
-      keeps_so is because done = record {
-        seen = seen;
+      keeps_so is puts because done = record {
+        tried = tried;
         is = is;
+        all = all;
+        puts = puts;
         put = so.put;
         rest = so.rest;
         blocks = so.are;
@@ -157,7 +158,7 @@ module _ {D : Type 0} (score : List ℕ → List ℕ) (disk : DiskOf D)
     module _ (a : Archived)
         (w : WritesArchive Does Has score start it.kept bsize is_seen a) where
       abbrev blocks : List Block
-      blocks = (archive_of score bsize w.seen).blocks
+      blocks = w.all
 
       so : Holds score disk tells blocks all_asked None h start it.kept
       so = puts_so score disk tells None [] blocks w.calls h start it.kept sound refl w.made w.accepted
@@ -166,13 +167,13 @@ module _ {D : Type 0} (score : List ℕ → List ℕ) (disk : DiskOf D)
       abbrev added : ℕ
       added = history_len new - history_len old
 
-      abbrev whole : History
-      whole = all_written score (setup_of old) h so.put
+      abbrev behind : History
+      behind = all_written score (setup_of old) h so.put
 
-      kept : KeepsArchive Has score it.kept before bsize w.seen
+      kept : KeepsArchive Has score it.kept before bsize w.all (found w.tried)
       kept = w.keeps before holds_before
 
-      same_map : (s : List ℕ) (kind : ℕ) → kept.maps.held s kind ≡ held score whole s kind
+      same_map : (s : List ℕ) (kind : ℕ) → kept.maps.held s kind ≡ held score behind s kind
       unfolding before
       same_map s kind =
           ap (λ (m : BlockMap). m s kind) kept.held
@@ -180,29 +181,29 @@ module _ {D : Type 0} (score : List ℕ → List ℕ) (disk : DiskOf D)
           (sym (all_put so.put so.rest blocks so.are (so.whole refl)))
           ∙ sym (so.map s kind)
 
-      tree : IsTreeOf (held score whole) a.score.0 (archived w.seen)
-      tree = subst (λ (m : BlockMap). IsTreeOf m a.score.0 (archived w.seen))
+      tree : IsTreeOf (held score behind) a.score.0 (archived (found w.tried))
+      tree = subst (λ (m : BlockMap). IsTreeOf m a.score.0 (archived (found w.tried)))
           (λ i s kind. same_map s kind i)
-          (subst (λ (s : List ℕ). IsTreeOf kept.maps.held s (archived w.seen)) (sym w.score)
-          kept.tree)
+          (subst (λ (s : List ℕ). IsTreeOf kept.maps.held s (archived (found w.tried)))
+          (sym w.score) kept.tree)
 
       -- nothing is left but the end of the store's use
       because : (closed : Result (Unit {0}) Why) → it.closed ≡ closed
           → IfErr (came_to (Ok a) (as_refused it.kept.refused) added (as_ended closed))
-          (IsBecause score (setup_of old) whole so.rest w.seen)
+          (IsBecause score (setup_of old) behind so.rest (found w.tried))
       because (Ok end) is = tt
-      because (Err why) is = subst (λ (bs : List Block). IsRefusedFor score (setup_of old) whole bs
+      because (Err why) is = subst (λ (bs : List Block). IsRefusedFor score (setup_of old) behind bs
           why) (sym (so.whole refl)) (
             end_fails disk why it.kept.store.core new
                 (subst (λ (r : Result (Unit {0}) Why). IfErr r (λ w. EndsFor disk w
                 it.kept.store.core new)) is it.asks.ends.cause),
             subst (λ (r : Result (Unit {0}) Why). IfErr r IsUndamagedWhy) is
-                (it.asks.ends.undamaged whole tells so.sound),
+                (it.asks.ends.undamaged behind tells so.sound),
           )
 
       done : (closed : Result (Unit {0}) Why) → it.closed ≡ closed
           → IfOk (came_to (Ok a) (as_refused it.kept.refused) added (as_ended closed))
-          (Stored w.seen all_asked None so)
+          (Stored w.tried w.all all_asked None so)
       done (Err why) well = tt
       done (Ok end) well = (
         so.whole refl,
@@ -210,39 +211,39 @@ module _ {D : Type 0} (score : List ℕ → List ℕ) (disk : DiskOf D)
           fit = w.fit;
           score_is = w.score;
           left_out = w.left_out;
+          failed = w.failed;
           tree = tree;
         },
-        grown w.seen all_asked None so,
-        ((leaves w.seen all_asked None so).done refl well).1,
+        grown w.tried w.all all_asked None so,
+        ((leaves w.tried w.all all_asked None so).done refl well).1,
       )
 
       wrote_so : result ≡ came_to (Ok a) (as_refused it.kept.refused) added (as_ended it.closed)
           → KeepsFolder score disk bsize is_seen result h old new
-      wrote_so is = keeps_so w.seen all_asked None so w.is
+      wrote_so is = keeps_so w.tried w.all all_asked None so w.is w.puts
           (subst (λ (r : Result ArchivedAt ArchiveError). IfErr r
-          (IsBecause score (setup_of old) whole so.rest w.seen)) (sym is)
+          (IsBecause score (setup_of old) behind so.rest (found w.tried))) (sym is)
           (because it.closed refl))
           (subst (λ (r : Result ArchivedAt ArchiveError). IfOk r
-          (Stored w.seen all_asked None so)) (sym is) (done it.closed refl))
+          (Stored w.tried w.all all_asked None so)) (sym is) (done it.closed refl))
 
     -- it was given up
     gave_so : (err : VacErr)
         → GivesUpArchive Does Has score start it.kept bsize is_seen err
         → result ≡ Err (told err (as_refused it.kept.refused))
         → KeepsFolder score disk bsize is_seen result h old new
-    gave_so err gave is = keeps_so gave.seen (gave.rest ≡ []) (refusal_of err) so gave.is
+    gave_so err gave is = keeps_so gave.tried gave.all (gave.rest ≡ []) (refusal_of err) so gave.is
+        gave.puts
         (subst (λ (r : Result ArchivedAt ArchiveError). IfErr r (IsBecause score (setup_of old)
-        (all_written score (setup_of old) h so.put) so.rest gave.seen)) (sym is)
+        (all_written score (setup_of old) h so.put) so.rest (found gave.tried))) (sym is)
         (told_because score (setup_of old) (all_written score (setup_of old) h so.put) so.rest
-        gave.seen err it.kept.refused gave.cause so.because))
+        (found gave.tried) err it.kept.refused gave.cause so.because))
         (subst (λ (r : Result ArchivedAt ArchiveError). IfOk r
-        (Stored gave.seen (gave.rest ≡ []) (refusal_of err) so)) (sym is) tt)
+        (Stored gave.tried gave.all (gave.rest ≡ []) (refusal_of err) so)) (sym is) tt)
       where
-        so : Holds score disk tells (archive_of score bsize gave.seen).blocks (gave.rest ≡ [])
-            (refusal_of err) h start it.kept
-        so = puts_so score disk tells (refusal_of err) gave.rest
-            (archive_of score bsize gave.seen).blocks gave.calls h start it.kept sound refl gave.made
-            gave.refused gave.asked
+        so : Holds score disk tells gave.all (gave.rest ≡ []) (refusal_of err) h start it.kept
+        so = puts_so score disk tells (refusal_of err) gave.rest gave.all gave.calls h start it.kept
+            sound refl gave.made gave.refused gave.asked
 
     pub keeps_folder : KeepsFolder score disk bsize is_seen result h old new
     keeps_folder = of it.answer it.archives it.gives_up it.result_is

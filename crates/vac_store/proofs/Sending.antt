@@ -12,7 +12,6 @@ use Rattle.vt_use.specs.Members.{LinkOf}
 use Rattle.vt_use.specs.Places.{holds_nothing}
 use Rattle.vt_remote.specs.Exchanged.{Exchanged, exchange_of, sent_behind}
 use Rattle.vt_remote.proofs.Calling.{accepted_first}
-use Rattle.vac_model.specs.Archives.{archive_of}
 use Rattle.vac_write.specs.declared.archived.Archived.{Archived}
 use Rattle.vac_write.specs.Archiving.{WritesArchive}
 use Rattle.vac_store.specs.Sent.{IsSent, all_taken_in, as_messages, counted_blocks}
@@ -103,12 +102,9 @@ sent_are (b ∷ blocks) (call ∷ calls) n accepted asked fits =
 -- ---- what was told
 
 module _ {L : Type 0} (link : LinkOf L) (score_of : List ℕ → List ℕ) (bsize : ℕ)
-    (is_seen : Items Facts → Type 0) (archived : Archived) (c c' : ClientState L) (back : L)
+    (is_seen : (failed : ℕ) → Items Facts → Type 0) (archived : Archived) (c c' : ClientState L) (back : L)
     (w : WritesArchive (DoesAsClient link score_of) holds_nothing score_of c c' bsize is_seen archived)
   where
-    abbrev blocks : List Block
-    blocks = (archive_of score_of bsize w.seen).blocks
-
     pub is_sent : (calls : List Call) → w.calls ≡ calls
         → (refusals_of calls ≡ []
         → Exchanged (map (exchange_of score_of) calls) (traffic_of link back))
@@ -116,17 +112,20 @@ module _ {L : Type 0} (link : LinkOf L) (score_of : List ℕ → List ℕ) (bsiz
         → IsSent score_of bsize is_seen (record { archived = archived; blocks = c'.sent })
         (traffic_of link back)
     is_sent calls are exchanged sent = record {
-      seen = w.seen;
+      tried = w.tried;
       is = w.is;
       fit = w.fit;
       few = w.few;
       times = w.times;
       score_is = w.score;
       left_out = w.left_out;
+      failed = w.failed;
+      all = w.all;
+      puts = w.puts;
       exchanged = subst (λ (all : List (TMessage × RMessage)). Exchanged all (traffic_of link back))
-          (ap (map (exchange_of score_of)) (sym are) ∙ said_are score_of blocks w.calls w.asked)
+          (ap (map (exchange_of score_of)) (sym are) ∙ said_are score_of w.all w.calls w.asked)
           (exchanged (ap refusals_of (sym are) ∙ w.accepted));
       many = sent ∙ ap (λ (cs : List Call). sent_behind cs 0) (sym are)
-          ∙ sent_are blocks w.calls 0 w.accepted w.asked (omega arith)
+          ∙ sent_are w.all w.calls 0 w.accepted w.asked (omega arith)
           ∙ ap counted_blocks (omega arith);
     }

@@ -27,13 +27,13 @@ not_answered err calls it none =
     ∙ ap (λ (o : Option BlockErr). cons_option o []) it.refused) ∙ none in cc
 
 module _ {S : Type 0} (act : S → Call → S → Type 0) (holds : S → Maps → Type 0)
-    (score_of : List ℕ → List ℕ) (s s' : S) (bsize : ℕ) (is_seen : Items Facts → Type 0) where
+    (score_of : List ℕ → List ℕ) (s s' : S) (bsize : ℕ) (is_seen : (failed : ℕ) → Items Facts → Type 0) where
   abbrev GaveUp : VacErr → Type 0
   GaveUp err = GivesUpArchive act holds score_of s s' bsize is_seen err
 
   of_folder : (err : VacErr) → GaveUp err → IsOfFolder err → IsUnfitFor is_seen err
   of_folder err gave of = record {
-    seen = gave.seen;
+    tried = gave.tried;
     is = gave.is;
     cause = gave.cause;
     of_folder = of;

@@ -14,7 +14,8 @@ use Rattle.vac_model.specs.Kept.{archived, count, skipped}
 use Rattle.vac_model.specs.Limits.{HaveTimes, first_unfit}
 use Rattle.vac_write.specs.declared.error.VacErr.{VacErr}
 use Rattle.vac_write.specs.declared.error.VacErr.TheVariants.{FolderFault, Tree, BadName, TooDeep, NoMemory}
-use Rattle.vac_write.specs.Archiving.{IsGivenUpAs}
+use Rattle.vac_write.specs.Archiving.{IsGivenUpAs, PutsFor}
+use Rattle.vac_write.specs.Tried.{Tried, whole, found, failed_at, failures}
 use Rattle.vac_store.specs.declared.outcome.ArchivedAt.{ArchivedAt}
 
 -- ---- an archive that was sent
@@ -35,22 +36,24 @@ as_messages calls = map (λ call. (t_ask call.0, call.1)) calls
 abbrev pub counted_blocks : ℕ → ℕ
 counted_blocks n = min n (2 ^ 64 - 1)
 
--- An archive that was told was sent: its score is that of the archive of a folder that was seen, of
--- which it tells what was left out; each of its blocks was written, in order, and taken in with its
--- own score, and behind them the server has committed; it is told how many these are; and nothing
--- else was asked for over the link.
-pub record IsSent (score_of : List ℕ → List ℕ) (bsize : ℕ) (is_seen : Items Facts → Type 0)
+-- An archive that was told was sent: its score is that of the archive of what was found in a folder,
+-- of which it tells what was skipped, and of what a call has failed; each block that is put for it was
+-- written, in order, and taken in with its own score, and behind them the server has committed; it is
+-- told how many these are; and nothing else was asked for over the link.
+pub record IsSent (score_of : List ℕ → List ℕ) (bsize : ℕ) (is_seen : (failed : ℕ) → Items Facts → Type 0)
     (sent : ArchivedAt) (back : Traffic) : Type 0 where
-  pub seen : Items Facts
-  pub is : is_seen seen
-  pub fit : first_unfit seen ≡ None
-  pub few : count (archived seen) < 2 ^ 64
-  pub times : HaveTimes seen
-  pub score_is : sent.archived.score.0 ≡ (archive_of score_of bsize seen).score
-  pub left_out : sent.archived.skipped ≡ skipped seen
-  pub exchanged : Exchanged
-      (as_messages (all_taken_in score_of (archive_of score_of bsize seen).blocks)) back
-  pub many : sent.blocks ≡ counted_blocks (length (archive_of score_of bsize seen).blocks)
+  pub tried : Tried
+  pub is : is_seen (failures tried) (whole tried)
+  pub fit : first_unfit (found tried) ≡ None
+  pub few : count (archived (found tried)) < 2 ^ 64
+  pub times : HaveTimes (found tried)
+  pub score_is : sent.archived.score.0 ≡ (archive_of score_of bsize (found tried)).score
+  pub left_out : sent.archived.skipped ≡ skipped (found tried)
+  pub failed : sent.archived.failed ≡ failed_at [] tried
+  pub all : List Block
+  pub puts : PutsFor score_of bsize tried all
+  pub exchanged : Exchanged (as_messages (all_taken_in score_of all)) back
+  pub many : sent.blocks ≡ counted_blocks (length all)
 
 -- ---- one that wasn't
 
@@ -67,9 +70,9 @@ IsOfFolder (BadName path) = ⊤
 IsOfFolder (TooDeep path) = ⊤
 IsOfFolder NoMemory = ⊤
 
--- a folder that was seen is unfit so, a call of it has failed, or memory ran out
-pub record IsUnfitFor (is_seen : Items Facts → Type 0) (err : VacErr) : Type 0 where
-  pub seen : Items Facts
-  pub is : is_seen seen
-  pub cause : IsGivenUpAs err (first_unfit seen)
+-- what was found in a folder is unfit so, a call of it failed, or memory ran out
+pub record IsUnfitFor (is_seen : (failed : ℕ) → Items Facts → Type 0) (err : VacErr) : Type 0 where
+  pub tried : Tried
+  pub is : is_seen (failures tried) (whole tried)
+  pub cause : IsGivenUpAs err (first_unfit (found tried))
   pub of_folder : IsOfFolder err

@@ -16,14 +16,15 @@ use Rattle.vt_open.specs.Names.{AreUnder}
 use Rattle.vt_use.specs.Uses.{Uses}
 use Rattle.vac_write.specs.declared.archived.Archived.{Archived}
 use Rattle.vac_write.specs.declared.error.VacErr.{VacErr}
-use Rattle.vac_model.specs.Archives.{archive_of}
+use Rattle.vac_write.specs.Archiving.{PutsFor}
+use Rattle.vac_write.specs.Tried.{Tried, whole, found, failures}
 use Rattle.vac_store.specs.declared.outcome.ArchiveError.{ArchiveError}
 use Rattle.vac_store.specs.declared.outcome.ArchivedAt.{ArchivedAt}
 use Rattle.vac_store.specs.Storing.{ArchivesByJob, IsBecause, StandsIn, all_written}
 
 -- the store was opened, a folder was archived into it by its job, with this answer, and it was closed
 abbrev pub UsesFor : {D : Type 0} → (List ℕ → List ℕ) → DiskOf D → (told : Type 0) → Conf
-    → (now bsize : ℕ) → (is_seen : Items Facts → Type 0) → (answer : Result Archived VacErr)
+    → (now bsize : ℕ) → (is_seen : (failed : ℕ) → Items Facts → Type 0) → (answer : Result Archived VacErr)
     → (said : Option Why) → (added : ℕ) → (closed : Result (Unit {0}) Why)
     → (old new : List ℕ → Standing D) → Type 0
 UsesFor score disk told conf now bsize is_seen answer said added closed old new =
@@ -31,17 +32,19 @@ UsesFor score disk told conf now bsize is_seen answer said added closed old new 
     new
 
 -- What it leaves of partitions that read as history `g`: whatever calls failed, and whatever a crash
--- then leaves of them, they stand for all of it, and for the first blocks of the folder's archive,
--- each if the model adds it. Where a score is told, they stand for all its blocks, and it is told
--- how many are new.
+-- then leaves of them, they stand for all of it, and for the first of the blocks that are put for the
+-- folder's archive, each if the model adds it. Where a score is told, they stand for all of these, and
+-- it is told how many are new.
 pub record KeepsStored {D : Type 0} (score : List ℕ → List ℕ) (disk : DiskOf D) (conf : Conf)
-    (bsize : ℕ) (is_seen : Items Facts → Type 0) (result : Result ArchivedAt ArchiveError)
+    (bsize : ℕ) (is_seen : (failed : ℕ) → Items Facts → Type 0) (result : Result ArchivedAt ArchiveError)
     (new : List ℕ → Standing D) (tables : List Table) (c : Setup) (g : History) : Type 0 where
-  pub seen : Items Facts
-  pub is : is_seen seen
+  pub tried : Tried
+  pub is : is_seen (failures tried) (whole tried)
+  pub all_blocks : List Block
+  pub puts : PutsFor score bsize tried all_blocks
   pub put : List Block
   pub rest : List Block
-  pub blocks : put ++ rest ≡ (archive_of score bsize seen).blocks
+  pub blocks : put ++ rest ≡ all_blocks
   pub last : History
   pub last_is : last ≡ all_written score c g put
   pub back : PerDevice D
@@ -49,7 +52,7 @@ pub record KeepsStored {D : Type 0} (score : List ℕ → List ℕ) (disk : Disk
   pub least : ℕ
   pub all : length g ≤ least
   pub stands : EachStands score disk c tables least back last
-  pub because : IfErr result (IsBecause score c last rest seen)
-  pub done : IfOk result (λ s. (rest ≡ []) × StandsIn score bsize seen last s.archived
+  pub because : IfErr result (IsBecause score c last rest (found tried))
+  pub done : IfOk result (λ s. (rest ≡ []) × StandsIn score bsize tried last s.archived
       × (length last ≡ length g + s.blocks)
       × AllStandFor score disk c tables back last (length last))

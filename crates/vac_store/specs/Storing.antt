@@ -1,5 +1,6 @@
 -- A folder that is archived into a store of blocks, and into one on devices.
-use Rattle.std.specs.Prelude.{ℕ, ◌≡◌, ◌+◌, true, false, Bool, Option, Some, None, Result, Ok, Err, IfOk, IfErr, List, [], ◌∷◌, ◌++◌, length}
+use Rattle.std.specs.Prelude.{ℕ, ◌≡◌, ◌+◌, true, Option, Some, None, Result, Ok, Err, IfOk, IfErr, List, [], ◌∷◌, ◌++◌, length}
+use Rattle.vt_base.specs.Faults.{HasRisen}
 use Rattle.vt_base.specs.Protocol.{write}
 use Rattle.vt_base.specs.declared.why.Why.{Why}
 use Rattle.vt_disk.specs.Members.{DiskOf}
@@ -29,8 +30,9 @@ use Rattle.vac_model.specs.Limits.{Unfit, first_unfit}
 use Rattle.vac_model.specs.Trees.{IsTreeOf}
 use Rattle.vac_write.specs.declared.archived.Archived.{Archived}
 use Rattle.vac_write.specs.declared.error.VacErr.{VacErr}
-use Rattle.vac_write.specs.declared.error.VacErr.TheVariants.{Tree}
-use Rattle.vac_write.specs.Archiving.{WritesArchive, GivesUpArchive, IsGivenUpAs, is_folder_fault}
+use Rattle.vac_write.specs.declared.error.VacErr.TheVariants.{FolderFault, Tree}
+use Rattle.vac_write.specs.Archiving.{HasRisenBy, PutsFor, WritesArchive, GivesUpArchive, IsGivenUpAs}
+use Rattle.vac_write.specs.Tried.{Tried, whole, found, failed_at, failures}
 use Rattle.vac_store.specs.declared.outcome.ArchiveError.{ArchiveError}
 use Rattle.vac_store.specs.declared.outcome.ArchiveError.TheVariants.{Store, Folder}
 use Rattle.vac_store.specs.declared.outcome.ArchivedAt.{ArchivedAt}
@@ -56,16 +58,19 @@ abbrev pub archived_at : Result (UsedAt (Result Archived VacErr)) StoreError
 archived_at (Ok used) = came_to used.output used.refusal used.blocks used.closed
 archived_at (Err bad) = Err (Store bad)
 
--- Whether it is told that a call of the folder has failed.
-abbrev pub tells_folder_fault : ArchiveError → Bool
-tells_folder_fault (Folder err) = is_folder_fault err
-tells_folder_fault (Store bad) = false
+-- As many calls of the folder have failed as files and folders are told as those of which one has.
+-- Where there is no archive for a failed call, that one alone has. Where there is none for something
+-- else, some may have.
+abbrev pub CountsFailuresAt : Result ArchivedAt ArchiveError → (old new : ℕ) → Type 0
+CountsFailuresAt (Ok s) old new = HasRisenBy (length s.archived.failed) old new
+CountsFailuresAt (Err (Folder FolderFault)) old new = HasRisen old new
+CountsFailuresAt (Err bad) old new = (n : ℕ) × HasRisenBy n old new
 
 -- ---- what is done
 
 -- A folder was archived so into a store of blocks, by these calls, or that was given up.
 pub record ArchivesOrGivesUp {S : Type 0} (does : S → Call → S → Type 0) (holds : S → Maps → Type 0)
-    (score_of : List ℕ → List ℕ) (bsize : ℕ) (is_seen : Items Facts → Type 0)
+    (score_of : List ℕ → List ℕ) (bsize : ℕ) (is_seen : (failed : ℕ) → Items Facts → Type 0)
     (answer : Result Archived VacErr) (calls : List Call) (old new : S) : Type 0 where
   pub archives : IfOk answer (λ a.
       (w : WritesArchive does holds score_of old new bsize is_seen a) × (w.calls ≡ calls))
@@ -74,7 +79,7 @@ pub record ArchivesOrGivesUp {S : Type 0} (does : S → Call → S → Type 0) (
 
 -- so a store on devices is used by the job that archives a folder
 abbrev pub ArchivesByJob : {D : Type 0} → (List ℕ → List ℕ) → DiskOf D → (now bsize : ℕ)
-    → (is_seen : Items Facts → Type 0) → (answer : Result Archived VacErr) → (said : Option Why)
+    → (is_seen : (failed : ℕ) → Items Facts → Type 0) → (answer : Result Archived VacErr) → (said : Option Why)
     → (added : ℕ) → (closed : Result (Unit {0}) Why) → (old new : CoreState D) → Type 0
 ArchivesByJob score disk now bsize is_seen answer said added closed old new =
     UsesCore score disk now true (DoesOnStore (store_on score disk)
@@ -89,14 +94,15 @@ all_written score c h [] = h
 all_written score c h (b ∷ blocks) =
     all_written score c (written_to score c h b.kind b.bytes) blocks
 
--- An archive that was told stands in this history: its score is that of the archive of a folder that
--- was seen, of which it tells what was left out, and stands for it.
-pub record StandsIn (score : List ℕ → List ℕ) (bsize : ℕ) (seen : Items Facts) (last : History)
+-- An archive that was told stands in this history: its score is that of the archive of what was found
+-- in a folder, and stands for it; it tells what was skipped, and of what a call has failed.
+pub record StandsIn (score : List ℕ → List ℕ) (bsize : ℕ) (tried : Tried) (last : History)
     (a : Archived) : Type 0 where
-  pub fit : first_unfit seen ≡ None
-  pub score_is : a.score.0 ≡ (archive_of score bsize seen).score
-  pub left_out : a.skipped ≡ skipped seen
-  pub tree : IsTreeOf (held score last) a.score.0 (archived seen)
+  pub fit : first_unfit (found tried) ≡ None
+  pub score_is : a.score.0 ≡ (archive_of score bsize (found tried)).score
+  pub left_out : a.skipped ≡ skipped (found tried)
+  pub failed : a.failed ≡ failed_at [] tried
+  pub tree : IsTreeOf (held score last) a.score.0 (archived (found tried))
 
 -- which refusal a folder is given up for, of which this is the first thing that is unfit
 abbrev pub IsUnfitAs : VacErr → Option Unfit → Type 0
@@ -117,24 +123,26 @@ IsBecause score c last rest seen (Store (Refused why)) = IsRefusedFor score c la
 IsBecause score c last rest seen (Store (Unopened bad)) = ⊥
 IsBecause score c last rest seen (Store (Server bad)) = ⊥
 
--- What the devices hold then: the history, and of the blocks of the folder's archive the first, each
--- if the model adds it. A crash leaves a prefix of that with all that is durable. Where a score is
--- told, these are all its blocks, it is told how many are new, and no crash takes one away.
+-- What the devices hold then: the history, and of the blocks that are put for the folder's archive the
+-- first, each if the model adds it. A crash leaves a prefix of that with all that is durable. Where a
+-- score is told, these are all of them, it is told how many are new, and no crash takes one away.
 pub record KeepsFolder {D : Type 0} (score : List ℕ → List ℕ) (disk : DiskOf D) (bsize : ℕ)
-    (is_seen : Items Facts → Type 0) (result : Result ArchivedAt ArchiveError) (h : History)
+    (is_seen : (failed : ℕ) → Items Facts → Type 0) (result : Result ArchivedAt ArchiveError) (h : History)
     (old new : CoreState D) : Type 0 where
-  pub seen : Items Facts
-  pub is : is_seen seen
+  pub tried : Tried
+  pub is : is_seen (failures tried) (whole tried)
+  pub all : List Block
+  pub puts : PutsFor score bsize tried all
   pub put : List Block
   pub rest : List Block
-  pub blocks : put ++ rest ≡ (archive_of score bsize seen).blocks
+  pub blocks : put ++ rest ≡ all
   pub last : History
   pub last_is : last ≡ all_written score (setup_of old) h put
   pub sound : IsSound score disk new last
   pub keeps : KeepsAll disk old new
   pub stands : EachStands score disk (setup_of old) old.log.tables new.log.durable (devices_of new)
       last
-  pub because : IfErr result (IsBecause score (setup_of old) last rest seen)
-  pub done : IfOk result (λ s. (rest ≡ []) × StandsIn score bsize seen last s.archived
+  pub because : IfErr result (IsBecause score (setup_of old) last rest (found tried))
+  pub done : IfOk result (λ s. (rest ≡ []) × StandsIn score bsize tried last s.archived
       × (length last ≡ length h + s.blocks)
       × AllStandFor score disk (setup_of old) old.log.tables (devices_of new) last (length last))

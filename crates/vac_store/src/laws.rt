@@ -24,11 +24,11 @@ ghost use Rattle.vt_partitions.specs.Parts.{Standing};
 ghost use Rattle.vt_use.specs.Places.{as_ended, as_refused, as_server, holds_nothing};
 ghost use Rattle.vt_remote.specs.Remote.{TalksFor};
 ghost use Rattle.vt_tree.specs.Calls.{Call};
-ghost use Rattle.vac_model.specs.Archives.{archive_of};
 ghost use Rattle.vac_model.specs.declared.TheConstants.{MIN_BLOCK_SIZE, MAX_BLOCK_SIZE};
 ghost use Rattle.vac_write.specs.declared.archived.Archived.{Archived};
 ghost use Rattle.vac_write.specs.declared.error.VacErr.{VacErr};
 ghost use Rattle.vac_write.specs.Archiving.{IsSeen};
+ghost use Rattle.vac_write.specs.Tried.{found};
 ghost use Rattle.vac_store.specs.declared.outcome.ArchivedAt.{ArchivedAt};
 ghost use Rattle.vac_store.specs.declared.outcome.ArchiveError.TheVariants.{Folder};
 ghost use Rattle.vac_store.specs.Sent.{IsSent, IsUnfitFor, all_taken_in};
@@ -45,12 +45,12 @@ use vt_use::uses_leave;
 /// What is archived into a store whose devices are sound for a history stands in it, whatever calls
 /// failed.
 pub fn archives_are_kept<D: Disk>()
-    ensures { (score : List ℕ → List ℕ) (now bsize : ℕ) (tells : Bool) (held : Items Facts)
+    ensures { (score : List ℕ → List ℕ) (now bsize : ℕ) (tells : Bool) (held : Items Facts) (faults faults' : ℕ)
         (answer : Result Archived VacErr) (said : Option Why) (added : ℕ)
         (closed : Result (Unit {0}) Why) (h : History) (old new : CoreState D) → IsTrue D.tells
         → IsSound score D.Disk old h
-        → ArchivesByJob score D.Disk now bsize (IsSeen tells held) answer said added closed old new
-        → KeepsFolder score D.Disk bsize (IsSeen tells held)
+        → ArchivesByJob score D.Disk now bsize (IsSeen tells held faults faults') answer said added closed old new
+        → KeepsFolder score D.Disk bsize (IsSeen tells held faults faults')
         (came_to answer (as_refused said) added (as_ended closed)) h old new }
 {
     uses_leave::<D>();
@@ -60,14 +60,14 @@ pub fn archives_are_kept<D: Disk>()
 /// images of its partitions stands for a prefix of one legal history, whatever calls failed.
 pub fn stores_keep_archives<D: Disk>()
     ensures { (score : List ℕ → List ℕ) (told : Bool) (conf : Conf) (now bsize : ℕ) (tells : Bool)
-        (held : Items Facts) (answer : Result Archived VacErr) (said : Option Why) (added : ℕ)
+        (held : Items Facts) (faults faults' : ℕ) (answer : Result Archived VacErr) (said : Option Why) (added : ℕ)
         (closed : Result (Unit {0}) Why) (old new : List ℕ → Standing D) (tables : List Table)
         (devices : PerDevice D) (c : Setup) (h g : History) (base : ℕ) → IsTrue told
         → IsTrue D.tells
-        → UsesFor score D.Disk (IsTrue told) conf now bsize (IsSeen tells held) answer said added
+        → UsesFor score D.Disk (IsTrue told) conf now bsize (IsSeen tells held faults faults') answer said added
         closed old new
         → AreUnder old conf devices → IsLogOf score D.Disk tables devices c h g base
-        → KeepsStored score D.Disk conf bsize (IsSeen tells held)
+        → KeepsStored score D.Disk conf bsize (IsSeen tells held faults faults')
         (came_to answer (as_refused said) added (as_ended closed)) new tables
         (record c { base = base }) g }
 {
@@ -76,30 +76,30 @@ pub fn stores_keep_archives<D: Disk>()
     archives_are_kept::<D>();
 }
 
-/// Where an archive was sent over a link that tells its bytes, a write of each of its blocks went
-/// out, in order, and behind them the request to commit; each had its reply before the next one;
-/// and nothing else was asked.
+/// Where an archive was sent over a link that tells its bytes, a write of each block that is put for
+/// it went out, in order, and behind them the request to commit; each had its reply before the next
+/// one; and nothing else was asked.
 pub fn sent_archives_are_exchanged<L: Link>()
-    ensures { (score_of : List ℕ → List ℕ) (bsize : ℕ) (tells : Bool) (held : Items Facts)
+    ensures { (score_of : List ℕ → List ℕ) (bsize : ℕ) (tells : Bool) (held : Items Facts) (faults faults' : ℕ)
         (archived : Archived) (calls : List Call) (met last : ClientState L) (back : L)
         → IsTrue L.tells → TalksFor L.Link score_of calls met last back
         → ArchivesOrGivesUp (DoesAsClient L.Link score_of) holds_nothing score_of bsize
-        (IsSeen tells held) (Ok archived) calls met last
-        → IsSent score_of bsize (IsSeen tells held)
+        (IsSeen tells held faults faults') (Ok archived) calls met last
+        → IsSent score_of bsize (IsSeen tells held faults faults')
         (record { archived = archived; blocks = last.sent }) (traffic_of L.Link back) }
 {
     calls_are_exchanged::<L>();
 }
 
-/// The folder is told as why it wasn't archived at a server only where it is unfit, where a call of it
-/// has failed, or where memory ran out; and never for what the server said.
+/// The folder is told as why it wasn't archived at a server only where it is unfit, where a call of
+/// it failed, or where memory ran out; and never for what the server said.
 pub fn folders_are_unfit<L: Link>()
-    ensures { (score_of : List ℕ → List ℕ) (bsize : ℕ) (tells : Bool) (held : Items Facts)
+    ensures { (score_of : List ℕ → List ℕ) (bsize : ℕ) (tells : Bool) (held : Items Facts) (faults faults' : ℕ)
         (err given : VacErr) (calls : List Call) (met last : ClientState L) (back : L)
         → TalksFor L.Link score_of calls met last back
         → ArchivesOrGivesUp (DoesAsClient L.Link score_of) holds_nothing score_of bsize
-        (IsSeen tells held) (Err given) calls met last
-        → told given (as_server last.refused) ≡ Folder err → IsUnfitFor (IsSeen tells held) err }
+        (IsSeen tells held faults faults') (Err given) calls met last
+        → told given (as_server last.refused) ≡ Folder err → IsUnfitFor (IsSeen tells held faults faults') err }
 {
     refusals_have_causes::<L>();
 }
@@ -108,14 +108,13 @@ pub fn folders_are_unfit<L: Link>()
 /// held before, and whatever others add meanwhile, it then holds each block of the archive, whose
 /// score stands for the folder.
 pub fn truthful_servers_keep_archives()
-    ensures { (score_of : List ℕ → List ℕ) (bsize : ℕ) (tells : Bool) (held : Items Facts)
+    ensures { (score_of : List ℕ → List ℕ) (bsize : ℕ) (tells : Bool) (held : Items Facts) (faults faults' : ℕ)
         (sent : ArchivedAt) (back : Traffic) (c : Setup) (before after : History)
         → MIN_BLOCK_SIZE ≤ bsize → bsize ≤ MAX_BLOCK_SIZE
         → ((block : List ℕ) → length (score_of block) ≡ 20) → IsLegal score_of c after
-        → (it : IsSent score_of bsize (IsSeen tells held) sent back)
-        → AnswersTruly score_of c before
-        (all_taken_in score_of (archive_of score_of bsize it.seen).blocks) after
-        → HoldsArchive score_of bsize it.seen after }
+        → (it : IsSent score_of bsize (IsSeen tells held faults faults') sent back)
+        → AnswersTruly score_of c before (all_taken_in score_of it.all) after
+        → HoldsArchive score_of bsize (found it.tried) after }
 {
     vac_model::laws::archives_read_back();
 }

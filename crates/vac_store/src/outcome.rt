@@ -7,8 +7,8 @@ use vt_use::StoreError;
 #[derive(Drop)]
 pub struct ArchivedAt {
     pub archived: Archived,
-    /// How many of its blocks are new in the store of a configuration; or how many were sent to a
-    /// server, each of which it took in.
+    /// How many of the blocks that were put for it are new in the store of a configuration; or how
+    /// many were sent to a server, each of which it took in.
     pub blocks: u64,
 }
 
@@ -17,6 +17,7 @@ pub struct ArchivedAt {
 pub enum ArchiveError {
     /// The store wasn't opened, or not reached, or it said no, or failed.
     Store(StoreError),
-    /// A call of the folder has failed, it has something that can't be archived, or memory ran out.
+    /// A call of the folder failed before anything was asked, as its listing, it has something that
+    /// can't be archived, or memory ran out.
     Folder(VacErr),
 }

@@ -1,7 +1,6 @@
 //! Archiving into a store of blocks.
 
 ghost use Rattle.std.specs.Prelude.{◌≡◌, ◌≤◌, IsTrue};
-ghost use Rattle.vt_base.specs.Faults.{CountsFault};
 ghost use Rattle.vac_model.specs.declared.TheConstants.{MIN_BLOCK_SIZE, MAX_BLOCK_SIZE};
 ghost use Rattle.vac_write.specs.Archiving.{IsSeen};
 ghost use Rattle.vac_store.specs.Storing.{archived_at, came_to, told};
@@ -22,15 +21,15 @@ pub struct ArchiveFolder {
 impl<F: Folder> BlockJob<F> for ArchiveFolder {
     ghost use Rattle.std.specs.Prelude.{true};
     ghost use Rattle.vac_store.specs.Storing.{ArchivesOrGivesUp};
-    ghost use Rattle.vac_write.specs.Archiving.{is_folder_fault};
+    ghost use Rattle.vac_write.specs.Archiving.{CountsFailures};
 
     type Output = Result<Archived, VacErr>;
 
     ghost fits = { λ it folder. (MIN_BLOCK_SIZE ≤ it.bsize) × (it.bsize ≤ MAX_BLOCK_SIZE) };
 
     ghost does = { λ S act holds score_of it output before after calls old new.
-        ArchivesOrGivesUp act holds score_of it.bsize (IsSeen F.tells (F.holds before)) output calls old new
-        × CountsFault is_folder_fault output (F.faults before) (F.faults after)
+        ArchivesOrGivesUp act holds score_of it.bsize (IsSeen F.tells (F.holds before) (F.faults before) (F.faults after)) output calls old new
+        × CountsFailures output (F.faults before) (F.faults after)
         × (IsTrue F.tells → F.holds after ≡ F.holds before) };
 
     ghost writes = { λ it. true };

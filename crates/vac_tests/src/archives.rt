@@ -310,20 +310,17 @@ fn items_that_cannot_be_archived_are_named(rt: HostRuntime) -> Result<(), Fail> 
     Ok(())
 }
 
-/// Where reading fails, so many files with long names are given up for that, if their metadata isn't
-/// too long; and nothing was put.
+/// Where the store fails, so many files with long names are given up for that, if their metadata isn't
+/// too long; where it is, the store wasn't asked.
 fn is_told(alloc: Global, count: u32, fits: bool) -> Result<bool, Fail> {
     let items = long_named(alloc, count)?;
-    let failing = vec![in alloc; 1]?;
-    let (result, left) = archive_items(alloc, items, 8192, failing, Vec::new(alloc));
-    Ok(
-        left.puts == 0
-            && match result {
-                Err(VacErr::FolderFault) => fits,
-                Err(VacErr::Tree(TreeErr::TooLong)) => !fits,
-                _ => false,
-            },
-    )
+    let failing = vec![in alloc; 0u64]?;
+    let (result, left) = archive_items(alloc, items, 8192, Vec::new(alloc), failing);
+    Ok(match result {
+        Err(VacErr::Tree(TreeErr::Block(_))) => fits,
+        Err(VacErr::Tree(TreeErr::TooLong)) => !fits && left.puts == 0,
+        _ => false,
+    })
 }
 
 /// The path that is told of so many folders in one another, where they are too deep.
@@ -362,15 +359,90 @@ fn metadata_and_depth_have_their_limits(rt: HostRuntime) -> Result<(), Fail> {
     Ok(())
 }
 
-/// Whether archiving is given up where this call of the folder fails, as its last one.
-fn folder_fails_at(alloc: Global, call: u64) -> Result<bool, Fail> {
+/// Whether archiving is given up where the folder can't be listed, by its only call.
+fn is_given_up_unlisted(alloc: Global) -> Result<bool, Fail> {
     let items = items_of(alloc, Sample::Small)?;
-    let failing = vec![in alloc; call]?;
+    let failing = vec![in alloc; 0u64]?;
     let (result, left) = archive_items(alloc, items, 8192, failing, Vec::new(alloc));
     Ok(
         matches!(result, Err(VacErr::FolderFault))
-            && (left.calls, left.folder_faults, left.synced) == (call.saturating_add(1), 1, 0),
+            && (left.calls, left.folder_faults, left.puts) == (1, 1, 0),
     )
+}
+
+/// What is left of `Sample::Small` where this call of it fails.
+fn small_without(alloc: Global, call: u64) -> Result<Vec<MemItem>, Fail> {
+    match call {
+        1 => {
+            let f = file(alloc, b"f", 0o644, b"abc")?;
+            one(alloc, folder(alloc, b"d", one(alloc, f)?)?)
+        }
+        2 => one(alloc, file(alloc, b"a", 0o644, b"")?),
+        _ => {
+            let d = folder(alloc, b"d", Vec::new(alloc))?;
+            let a = file(alloc, b"a", 0o644, b"")?;
+            two(alloc, a, d)
+        }
+    }
+}
+
+/// Whether these paths, with a space behind each, are told as those that couldn't be read.
+fn lacks(alloc: Global, answer: &Result<Archived, VacErr>, wanted: &[u8]) -> bool {
+    let Ok(archived) = answer else {
+        return false;
+    };
+    match listed(alloc, &archived.failed) {
+        Ok(names) => names.as_slice() == wanted,
+        Err(_) => false,
+    }
+}
+
+/// Whether `items`, where these calls fail, become the archive of `rest`, the paths of all else are
+/// told, and what was put is synced.
+fn becomes(
+    alloc: Global,
+    items: Vec<MemItem>,
+    failing: Vec<u64>,
+    rest: Vec<MemItem>,
+    paths: &[u8],
+) -> bool {
+    let failures = failing.len() as u64;
+    let (wanted, _) = archive_items(alloc, rest, 512, Vec::new(alloc), Vec::new(alloc));
+    let (found, left) = archive_items(alloc, items, 512, failing, Vec::new(alloc));
+    score_of(&found).is_some()
+        && score_of(&found) == score_of(&wanted)
+        && lacks(alloc, &found, paths)
+        && left.folder_faults == failures
+        && left.synced == left.held
+}
+
+/// Whether the archive of `Sample::Small` is that of all but what is at this path, where a call fails.
+fn goes_on(alloc: Global, call: u64, path: &[u8]) -> Result<bool, Fail> {
+    let items = items_of(alloc, Sample::Small)?;
+    let rest = small_without(alloc, call)?;
+    let failing = vec![in alloc; call]?;
+    Ok(becomes(alloc, items, failing, rest, path))
+}
+
+/// The path that is told where this call of `Sample::Small` fails: of two folders that are listed, and
+/// two files that are read, one of them twice, all but the first.
+const FAILING: [(u64, &[u8]); 4] = [(1, b"a "), (2, b"d "), (3, b"d/f "), (4, b"d/f ")];
+
+/// Whether of `Sample::Large` blocks are put of a file that couldn't be read to its end, and nothing of
+/// it is in the archive.
+fn leaves_nothing_half(alloc: Global) -> Result<bool, Fail> {
+    let items = items_of(alloc, Sample::Large)?;
+    let rest = items_of(alloc, Sample::LargeBehind)?;
+    // The folder is listed, and its first file read in pieces of 300 bytes.
+    let failing = vec![in alloc; 30u64]?;
+    Ok(becomes(alloc, items, failing, rest, b"big "))
+}
+
+/// Whether all calls of files and folders may fail, and nothing is in the archive then.
+fn may_be_empty(alloc: Global) -> Result<bool, Fail> {
+    let items = items_of(alloc, Sample::Small)?;
+    let failing = vec![in alloc; 1u64, 2]?;
+    Ok(becomes(alloc, items, failing, Vec::new(alloc), b"a d "))
 }
 
 /// Whether it is given up where this call of the store fails, as its last one.
@@ -385,13 +457,26 @@ fn blocks_fail_at(alloc: Global, call: u64) -> Result<bool, Fail> {
 }
 
 #[test]
+fn archiving_goes_on_where_a_call_fails(rt: HostRuntime) -> Result<(), Fail> {
+    let alloc = rt.alloc();
+    let mut rows = Rows::new();
+    for (n, (call, path)) in FAILING.iter().enumerate() {
+        let is_told = goes_on(alloc, *call, path)?;
+        rows.nth(n, "a call of the folder that fails", is_told);
+    }
+    let is_whole = leaves_nothing_half(alloc)?;
+    rows.is("a file that fails in its middle", is_whole);
+    let is_empty = may_be_empty(alloc)?;
+    rows.is("all that is in a folder fails", is_empty);
+    rows.all()?;
+    Ok(())
+}
+
+#[test]
 fn archiving_is_given_up_where_a_call_fails(rt: HostRuntime) -> Result<(), Fail> {
     let mut rows = Rows::new();
-    // Two folders are listed, and two files read, one of them twice.
-    for call in 0..5u64 {
-        let is_told = folder_fails_at(rt.alloc(), call)?;
-        rows.nth(call as usize, "a call of the folder that fails", is_told);
-    }
+    let is_given_up = is_given_up_unlisted(rt.alloc())?;
+    rows.is("a folder that can't be listed", is_given_up);
     // Seven blocks are put, and then all is committed.
     for call in 0..8u64 {
         let is_told = blocks_fail_at(rt.alloc(), call)?;

@@ -63,8 +63,10 @@ pub enum Sample {
     Small,
     /// Items out of order, links, times and modes of all bits, owners of no bytes.
     Mixed,
-    /// A file of 20,000 bytes, and one with a hole.
+    /// A file of 20,000 bytes, and behind it a folder of one with a hole.
     Large,
+    /// That folder alone.
+    LargeBehind,
     /// Forty files.
     Many,
 }
@@ -76,6 +78,7 @@ pub fn items_of(alloc: Global, which: Sample) -> Result<Vec<MemItem>, Fail> {
         Sample::Small => small(alloc),
         Sample::Mixed => mixed(alloc),
         Sample::Large => large(alloc),
+        Sample::LargeBehind => one(alloc, hole(alloc)?),
         Sample::Many => many(alloc),
     }
 }
@@ -158,12 +161,17 @@ fn file_with_holes(alloc: Global) -> Result<MemItem, Fail> {
     file(alloc, b"z", 0o644, &bytes)
 }
 
+/// The folder `hole` with that file.
+fn hole(alloc: Global) -> Result<MemItem, Fail> {
+    let file = file_with_holes(alloc)?;
+    folder_of(alloc, b"hole", file)
+}
+
 /// The items of `Sample::Large`.
 fn large(alloc: Global) -> Result<Vec<MemItem>, Fail> {
-    let hole = file_with_holes(alloc)?;
-    let folder = folder_of(alloc, b"hole", hole)?;
+    let hole = hole(alloc)?;
     let big = big_file(alloc)?;
-    two(alloc, big, folder)
+    two(alloc, big, hole)
 }
 
 /// The items of `Sample::Many`: `000` to `039`, each with its number in digits as its content.
@@ -193,7 +201,8 @@ pub fn nested(alloc: Global, depth: u32) -> Result<Vec<MemItem>, Fail> {
     Ok(items)
 }
 
-/// So many files, of which each has a name, a uid and a gid of 255 bytes, and a record of 792.
+/// So many files of one byte, of which each has a name, a uid and a gid of 255 bytes, and a record of
+/// 792.
 pub fn long_named(alloc: Global, count: u32) -> Result<Vec<MemItem>, Fail> {
     let owner = vec![in alloc; b'o'; 255]?;
     let mut items = Vec::new(alloc);
@@ -202,7 +211,8 @@ pub fn long_named(alloc: Global, count: u32) -> Result<Vec<MemItem>, Fail> {
         let mut name = Vec::from_slice(alloc, digits.as_bytes())?;
         name.extend_from_slice(&owner[..250])?;
         let about = facts(alloc, &name, 0, 0, &owner, &owner)?;
-        items.push(MemItem::File(about, MemContent::from_vec(Vec::new(alloc))))?;
+        let content = MemContent::from_vec(vec![in alloc; b'.']?);
+        items.push(MemItem::File(about, content))?;
     }
     Ok(items)
 }

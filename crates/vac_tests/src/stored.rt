@@ -148,7 +148,7 @@ enum Wanted {
     Stored(&'static str, u64),
     /// The store isn't opened.
     Unopened,
-    /// A call of the folder failed.
+    /// The folder couldn't be listed.
     FolderFault,
     /// The store said no first for this reason.
     Refused(Why),
@@ -171,10 +171,12 @@ fn is_wanted(answer: &Result<ArchivedAt, ArchiveError>, wanted: Wanted) -> bool 
 /// The configuration of the store that is there.
 const CONF: &[u8] = b"arenas a\nisect i\n";
 
-/// The scores of the archives of two samples.
+/// The scores of the archives of two samples, and of the second without its folder `d`.
 const EMPTY: &str = "bc0134b39e3f1c437bec79b6dcbfc5a24a26b717";
 
 const SMALL: &str = "cfd1270f57bb4fddde84a62de63149f0b829e079";
+
+const WITHOUT: &str = "38d9c4f6567f2d3b353e7d019c76534c6dde195e";
 
 /// A configuration, a folder, the block size, the call of the folder that fails, and what is told.
 type Row = (&'static [u8], Sample, u16, u64, Wanted);
@@ -186,7 +188,8 @@ const NEVER: u64 = u64::MAX;
 const ROWS: &[Row] = &[
     (CONF, Sample::Empty, 8192, NEVER, Wanted::Stored(EMPTY, 2)),
     (CONF, Sample::Empty, 8192, NEVER, Wanted::Stored(EMPTY, 0)),
-    (CONF, Sample::Small, 8192, 4, Wanted::FolderFault),
+    (CONF, Sample::Small, 8192, 0, Wanted::FolderFault),
+    (CONF, Sample::Small, 8192, 2, Wanted::Stored(WITHOUT, 4)),
     (CONF, Sample::Small, 8192, NEVER, Wanted::Stored(SMALL, 7)),
     (CONF, Sample::Small, 8192, NEVER, Wanted::Stored(SMALL, 0)),
     (

@@ -1,34 +1,92 @@
 -- When a fault of the folder is told.
-use Rattle.std.proofs.Common.{◌≡◌, ℕ, IfErr, Result, Ok, Err, sym, subst}
+use Rattle.std.proofs.Common.{◌≡◌, ℕ, ◌<◌, ◌^◌, Bool, false, IfErr, Result, Ok, Err, refl, sym, ap, subst, arith}
 use Rattle.std.specs.Prelude.{MatchBool}
-use Rattle.vt_base.specs.Faults.{CountsFault, HasRisen}
+use Rattle.vt_base.specs.Faults.{HasRisen}
 use Rattle.vac_write.specs.declared.error.VacErr.{VacErr}
 use Rattle.vac_write.specs.declared.error.VacErr.TheVariants.{FolderFault, Tree, BadName, TooDeep, NoMemory}
-use Rattle.vac_write.specs.Archiving.{is_folder_fault}
+use Rattle.vac_write.specs.Archiving.{CountsFailures, HasRisenAtLeast, HasRisenBy, is_folder_fault}
 use Rattle.vac_write.specs.Puts.{IsOfStore}
+use Rattle.vac_write.specs.Walking.{IsHandedOn}
 
--- want of memory is none
-pub short_of_memory : {X : Type 0} (r : Result X VacErr) (a b : ℕ) → b ≡ a
-    → IfErr r (λ err. err ≡ NoMemory) → CountsFault is_folder_fault r a b
-short_of_memory (Ok x) a b same is = same
-short_of_memory (Err err) a b same is =
-    subst (λ (e : VacErr). MatchBool (is_folder_fault e) (HasRisen a b) (b ≡ a)) (sym is) same
+-- what the store answers, and want of memory, is no failed call of the folder
+pub of_store_goes_on : (err : VacErr) → IsOfStore err → is_folder_fault err ≡ false
+of_store_goes_on FolderFault own = absurd own
+of_store_goes_on (Tree err) own = refl
+of_store_goes_on (BadName path) own = absurd own
+of_store_goes_on (TooDeep path) own = absurd own
+of_store_goes_on NoMemory own = refl
 
--- nor is what the store answers
-pub of_store_counts : {X : Type 0} (r : Result X VacErr) (a b : ℕ) → b ≡ a
-    → IfErr r IsOfStore → CountsFault is_folder_fault r a b
-of_store_counts (Ok x) a b same own = same
-of_store_counts (Err FolderFault) a b same own = absurd own
-of_store_counts (Err (Tree err)) a b same own = same
-of_store_counts (Err (BadName path)) a b same own = same
-of_store_counts (Err (TooDeep path)) a b same own = same
-of_store_counts (Err NoMemory) a b same own = same
+pub memory_goes_on : {X : Type 0} (r : Result X VacErr) → IfErr r (λ err. err ≡ NoMemory)
+    → IfErr r (λ err. is_folder_fault err ≡ false)
+memory_goes_on (Ok x) is = tt
+memory_goes_on (Err err) is = ap is_folder_fault is
 
--- what was counted behind calls that didn't fail
-pub counts_behind : {X : Type 0} (r : Result X VacErr) (a b c : ℕ) → b ≡ a
-    → CountsFault is_folder_fault r b c → CountsFault is_folder_fault r a c
-counts_behind {X} r a b c same counts =
-    subst (λ (n : ℕ). CountsFault is_folder_fault r n c) same counts
+pub of_store_all : {X : Type 0} (r : Result X VacErr) → IfErr r IsOfStore
+    → IfErr r (λ err. is_folder_fault err ≡ false)
+of_store_all (Ok x) own = tt
+of_store_all (Err err) own = of_store_goes_on err own
+
+-- what an item isn't archived for was noted, but for want of memory, or handed on
+pub handed_on : (err answer : VacErr) (P : VacErr → Type 0) → IsHandedOn err answer
+    → (err ≡ FolderFault → P NoMemory) → (is_folder_fault err ≡ false → P err) → P answer
+handed_on FolderFault answer P is lost goes_on = subst P (sym is) (lost refl)
+handed_on (Tree err) answer P is lost goes_on = subst P (sym is) (goes_on refl)
+handed_on (BadName path) answer P is lost goes_on = subst P (sym is) (goes_on refl)
+handed_on (TooDeep path) answer P is lost goes_on = subst P (sym is) (goes_on refl)
+handed_on NoMemory answer P is lost goes_on = subst P (sym is) (goes_on refl)
+
+pub handed_on_all : {X : Type 0} (r : Result X VacErr) (err : VacErr) → IfErr r (IsHandedOn err)
+    → IfErr r (λ answer. is_folder_fault answer ≡ false)
+handed_on_all (Ok x) err is = tt
+handed_on_all (Err answer) err is =
+    handed_on err answer (λ (e : VacErr). is_folder_fault e ≡ false) is (λ fault. refl)
+    (λ goes_on. goes_on)
+
+-- ---- counts
+
+-- a count that stayed has risen by none
+pub stayed : (a b : ℕ) → a < 2 ^ 64 → b ≡ a → HasRisenBy 0 a b
+stayed a b fits same = omega (arith, fits, same)
+
+pub rose_once : (a b : ℕ) → HasRisen a b → HasRisenBy 1 a b
+rose_once a b rose = omega (arith, rose)
+
+-- a count that stayed where no fault is told
+pub kept_count : (err : VacErr) (a b : ℕ) → is_folder_fault err ≡ false
+    → MatchBool (is_folder_fault err) (HasRisen a b) (b ≡ a) → b ≡ a
+kept_count err a b goes_on counts =
+    subst (λ (t : Bool). MatchBool t (HasRisen a b) (b ≡ a)) goes_on counts
+
+-- by as many as it has risen it has risen at least
+pub at_least : (n a b : ℕ) → HasRisenBy n a b → HasRisenAtLeast n a b
+at_least n a b rose = omega (arith, rose)
+
+-- the count behind the listing of one folder
+pub none_at_least : (err : VacErr) (a b : ℕ)
+    → MatchBool (is_folder_fault err) (HasRisen a b) (b ≡ a) → HasRisenAtLeast 0 a b
+none_at_least FolderFault a b rose = omega (arith, rose)
+none_at_least (Tree err) a b same = omega (arith, same)
+none_at_least (BadName path) a b same = omega (arith, same)
+none_at_least (TooDeep path) a b same = omega (arith, same)
+none_at_least NoMemory a b same = omega (arith, same)
+
+-- what an archiving that is given up tells of the count
+pub counts_some : (err : VacErr) (n a b : ℕ) → is_folder_fault err ≡ false → HasRisenBy n a b
+    → CountsFailures (Err err) a b
+counts_some FolderFault n a b goes_on counted = let never : ⊥ = cc in absurd never
+counts_some (Tree err) n a b goes_on counted = (n, counted)
+counts_some (BadName path) n a b goes_on counted = (n, counted)
+counts_some (TooDeep path) n a b goes_on counted = (n, counted)
+counts_some NoMemory n a b goes_on counted = (n, counted)
+
+-- and one of a folder that isn't listed
+pub counts_unlisted : (err : VacErr) (a b : ℕ) → a < 2 ^ 64
+    → MatchBool (is_folder_fault err) (HasRisen a b) (b ≡ a) → CountsFailures (Err err) a b
+counts_unlisted FolderFault a b fits rose = rose
+counts_unlisted (Tree err) a b fits same = (0, stayed a b fits same)
+counts_unlisted (BadName path) a b fits same = (0, stayed a b fits same)
+counts_unlisted (TooDeep path) a b fits same = (0, stayed a b fits same)
+counts_unlisted NoMemory a b fits same = (0, stayed a b fits same)
 
 -- two facts of one error
 pub err_both : {X : Type 0} (r : Result X VacErr) (P Q R : VacErr → Type 0)

@@ -43,7 +43,7 @@ fits_kind item kinds.Folder good name =
     }
 fits_kind item kinds.Other good name = tt
 
-good_name : (last : Option (List ℕ)) (name : List ℕ) → is_bad_behind last name ≡ false
+pub good_name : (last : Option (List ℕ)) (name : List ℕ) → is_bad_behind last name ≡ false
     → is_bad_name name ≡ false
 good_name None name good = good
 good_name (Some last) name good = (neither (is_bad_name name) _ good).0
@@ -73,13 +73,13 @@ fits_item tells held path items before item behind listed split =
 
 -- ---- how long its streams are
 
-short_name : (path : List ℕ) (bad : Option (List ℕ)) (len : ℕ) → unfit_name path bad len ≡ None
+pub short_name : (path : List ℕ) (bad : Option (List ℕ)) (len : ℕ) → unfit_name path bad len ≡ None
     → len ≤ MAX_METADATA
 short_name path (Some name) len fit = let never : ⊥ = cc in absurd never
 short_name path None len fit =
     ltb-false MAX_METADATA len (passes (nat_lt MAX_METADATA len) too_long None fit).0
 
-few_entries : (score_of : List ℕ → List ℕ) (bsize i : ℕ) (items : Items Numbered)
+pub few_entries : (score_of : List ℕ → List ℕ) (bsize i : ℕ) (items : Items Numbered)
     → 13 * length (item_entries score_of bsize items) ≤ length (all_spelled (records_of i items))
 few_entries score_of bsize i none = omega arith
 few_entries score_of bsize i (file about bytes others) =

@@ -28,14 +28,6 @@ followed_none (file about bytes others) = ap (file about bytes) (followed_none o
 followed_none (folder about inside others) = ap (folder about inside) (followed_none others)
 followed_none (other about others) = ap (other about) (followed_none others)
 
-pub followed_assoc : {A : Type 0} (a b c : Items A)
-    → followed (followed a b) c ≡ followed a (followed b c)
-followed_assoc none b c = refl
-followed_assoc (file about bytes others) b c = ap (file about bytes) (followed_assoc others b c)
-followed_assoc (folder about inside others) b c =
-    ap (folder about inside) (followed_assoc others b c)
-followed_assoc (other about others) b c = ap (other about) (followed_assoc others b c)
-
 pub listing_followed : (a b : Items Facts)
     → listing_of (followed a b) ≡ listing_of a ++ listing_of b
 listing_followed none b = refl

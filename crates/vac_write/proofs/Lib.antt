@@ -4,6 +4,7 @@ pub mod Filed
 pub mod Fits
 pub mod Followed
 pub mod Found
+pub mod FoundFits
 pub mod Listed
 pub mod OneItem
 pub mod Ordered
@@ -12,5 +13,7 @@ pub mod Pieces
 pub mod Puts
 pub mod Shapes
 pub mod Sorting
+pub mod Tried
+pub mod TriedPuts
 pub mod Wholes
 pub mod Wholly

@@ -114,7 +114,7 @@ none_behind : (last : Option (List ℕ)) → NoneBehind last []
 none_behind None = tt
 none_behind (Some last) = tt
 
-names_order : IsStrictWeakOrder (λ (a b : List ℕ). is_lt (slice_cmp nat_cmp a b))
+pub names_order : IsStrictWeakOrder (λ (a b : List ℕ). is_lt (slice_cmp nat_cmp a b))
 names_order = ranks_by nat_list_cmp_total (λ (a : List ℕ). a)
 
 -- none is below a name that isn't above that one

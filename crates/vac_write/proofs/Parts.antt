@@ -4,7 +4,7 @@ use Rattle.std.specs.List.{flat_map}
 use Rattle.std.specs.Option.{option_or}
 use Rattle.std.proofs.lemmas.List.Concat.{flat_map-append}
 use Rattle.vt_out.specs.declared.folder_item.Facts.{Facts}
-use Rattle.vt_out.specs.FolderItems.{Items, none}
+use Rattle.vt_out.specs.FolderItems.{Items}
 use Rattle.vt_model.specs.History.{Block}
 use Rattle.vt_tree.specs.declared.error.TreeErr.TheVariants as trees
 use Rattle.vt_tree.specs.Calls.{Call}
@@ -12,17 +12,19 @@ use Rattle.vt_tree.specs.Entries.{tree_entry_bytes}
 use Rattle.vac_meta.specs.Records.{all_spelled, record_bytes}
 use Rattle.vac_model.specs.Archives.{records_of, item_entries, blocks_of}
 use Rattle.vac_model.specs.Kept.{Numbered, kept, numbered, count, left_out}
-use Rattle.vac_model.specs.Limits.{Unfit, unfit_inside}
+use Rattle.vac_model.specs.Limits.{Unfit, unfit_inside, HaveTimes}
 use Rattle.vac_write.specs.declared.archiving.Walk.{Walk}
 use Rattle.vac_write.specs.declared.error.VacErr.{VacErr}
 use Rattle.vac_write.specs.declared.error.VacErr.TheVariants.{FolderFault, Tree, BadName, TooDeep, NoMemory}
 use Rattle.vac_write.specs.declared.streams.Streams.{Streams}
 use Rattle.vac_write.specs.Archiving.{IsGivenUpAs}
 use Rattle.vac_write.specs.Listing.{joined_path}
-use Rattle.vac_write.specs.Puts.{PutsBlocks, GivesUpBlocks, IsOfStore}
-use Rattle.vac_write.specs.Walking.{ArchivesPart, GivesUpPart}
+use Rattle.vac_write.specs.Puts.{IsOfStore}
+use Rattle.vac_write.specs.Tried.{Tried, no_more, found, failed_at}
+use Rattle.vac_write.specs.Walking.{archived_from, PutsTried, GivesUpTried, ArchivesPart, GivesUpPart}
 use Rattle.vac_write.proofs.Followed.{followed, archived_followed, count_followed, entries_followed, records_followed, blocks_followed, left_followed, unfit_followed, times_followed}
-use Rattle.vac_write.proofs.Puts.{puts_none, puts_join, gives_front, gives_later}
+use Rattle.vac_write.proofs.Tried.{joined, found_joined, failed_joined, as_read, found_read}
+use Rattle.vac_write.proofs.TriedPuts.{tried_none, tried_join, tried_front, tried_later}
 
 -- ---- causes
 
@@ -68,7 +70,7 @@ further_on a b n is = omega arith
 
 module _ {S : Type 0} (does : S → Call → S → Type 0) (score_of : List ℕ → List ℕ) where
   pub part_none : (s : S) (walk : Walk) (streams : Streams)
-      → ArchivesPart does score_of s s walk walk streams streams none
+      → ArchivesPart does score_of s s walk walk streams streams no_more
   part_none s walk streams = record {
     fit = refl;
     times = tt;
@@ -77,9 +79,10 @@ module _ {S : Type 0} (does : S → Call → S → Type 0) (score_of : List ℕ 
     metadata = sym (append-nil streams.metadata.items);
     qid = same_qid walk.qid;
     left_out = sym (append-nil walk.skipped.items);
+    failed = sym (append-nil walk.failed.items);
     path = refl;
     bsize = refl;
-    put = puts_none does s;
+    put = tried_none does score_of walk.bsize s;
   }
     where
       none_more : (n : ℕ) → n ≡ n + 40 * 0
@@ -88,60 +91,65 @@ module _ {S : Type 0} (does : S → Call → S → Type 0) (score_of : List ℕ 
       same_qid : (n : ℕ) → n ≡ n + 0
       same_qid n = omega arith
 
-  module _ (s mid s' : S) (old half : Walk) (from between : Streams) (a b : Items Facts)
+  module _ (s mid s' : S) (old half : Walk) (from between : Streams) (a b : Tried)
       (first : ArchivesPart does score_of s mid old half from between a) where
     x : Items Numbered
-    x = numbered old.qid (kept a)
+    x = archived_from old.qid a
 
     y : Items Numbered
-    y = numbered (old.qid + count (numbered old.qid (kept a))) (kept b)
+    y = archived_from (old.qid + count (archived_from old.qid a)) b
 
-    both : numbered old.qid (kept (followed a b)) ≡ followed x y
+    both : archived_from old.qid (joined a b) ≡ followed x y
     unfolding x y
-    both = archived_followed old.qid a b
+    both =
+        ap (λ (items : Items Facts). numbered old.qid (kept items)) (found_joined a b)
+        ∙ archived_followed old.qid (found a) (found b)
 
-    same_items : numbered half.qid (kept b) ≡ y
+    same_items : archived_from half.qid b ≡ y
     unfolding y
-    same_items = ap (λ (n : ℕ). numbered n (kept b)) first.qid
+    same_items = ap (λ (n : ℕ). archived_from n b) first.qid
 
-    same_blocks : blocks_of score_of half.bsize (numbered half.qid (kept b))
+    same_blocks : blocks_of score_of half.bsize (archived_from half.qid b)
         ≡ blocks_of score_of old.bsize y
     same_blocks = λ i. blocks_of score_of (first.bsize i) (same_items i)
 
-    same_entries : item_entries score_of half.bsize (numbered half.qid (kept b))
+    same_entries : item_entries score_of half.bsize (archived_from half.qid b)
         ≡ item_entries score_of old.bsize y
     same_entries = λ i. item_entries score_of (first.bsize i) (same_items i)
 
     all_blocks_are : blocks_of score_of old.bsize x ++ blocks_of score_of old.bsize y
-        ≡ blocks_of score_of old.bsize (numbered old.qid (kept (followed a b)))
+        ≡ blocks_of score_of old.bsize (archived_from old.qid (joined a b))
     all_blocks_are =
         sym (blocks_followed score_of old.bsize x y)
         ∙ ap (blocks_of score_of old.bsize) (sym both)
 
     all_entries_are : item_entries score_of old.bsize x ++ item_entries score_of old.bsize y
-        ≡ item_entries score_of old.bsize (numbered old.qid (kept (followed a b)))
+        ≡ item_entries score_of old.bsize (archived_from old.qid (joined a b))
     all_entries_are =
         sym (entries_followed score_of old.bsize x y)
         ∙ ap (item_entries score_of old.bsize) (sym both)
 
-    unfit_is : unfit_inside (length half.path.items) (joined_path half.path.items) b
-        ≡ unfit_inside (length old.path.items) (joined_path old.path.items) (followed a b)
+    unfit_is : unfit_inside (length half.path.items) (joined_path half.path.items) (found b)
+        ≡ unfit_inside (length old.path.items) (joined_path old.path.items) (found (joined a b))
     unfit_is =
-        ap (λ (p : List (List ℕ)). unfit_inside (length p) (joined_path p) b) first.path
-        ∙ sym (unfit_followed (length old.path.items) (joined_path old.path.items) a b
+        ap (λ (p : List (List ℕ)). unfit_inside (length p) (joined_path p) (found b)) first.path
+        ∙ sym (ap (unfit_inside (length old.path.items) (joined_path old.path.items))
+        (found_joined a b)
+        ∙ unfit_followed (length old.path.items) (joined_path old.path.items) (found a) (found b)
         ∙ ap (λ (o : Option Unfit). option_or o
-        (unfit_inside (length old.path.items) (joined_path old.path.items) b)) first.fit)
+        (unfit_inside (length old.path.items) (joined_path old.path.items) (found b))) first.fit)
 
     pub part_join : (new : Walk) (to : Streams)
         → ArchivesPart does score_of mid s' half new between to b
-        → ArchivesPart does score_of s s' old new from to (followed a b)
+        → ArchivesPart does score_of s s' old new from to (joined a b)
     unfolding x
     part_join new to then =
         let es = item_entries score_of old.bsize x in
         let fs = item_entries score_of old.bsize y in
         record {
           fit = sym unfit_is ∙ then.fit;
-          times = times_followed a b first.times then.times;
+          times = subst HaveTimes (sym (found_joined a b))
+              (times_followed (found a) (found b) first.times then.times);
           entries =
               then.entries
               ∙ (λ i. first.entries i ++ flat_map tree_entry_bytes (same_entries i))
@@ -183,48 +191,69 @@ module _ {S : Type 0} (does : S → Call → S → Type 0) (score_of : List ℕ 
           );
           left_out =
               then.left_out
-              ∙ (λ i. first.left_out i ++ left_out (joined_path (first.path i)) b)
-              ∙ append_assoc old.skipped.items (left_out (joined_path old.path.items) a)
-              (left_out (joined_path old.path.items) b)
+              ∙ (λ i. first.left_out i ++ left_out (joined_path (first.path i)) (found b))
+              ∙ append_assoc old.skipped.items (left_out (joined_path old.path.items) (found a))
+              (left_out (joined_path old.path.items) (found b))
               ∙ ap (λ (l : List (List ℕ)). old.skipped.items ++ l)
-              (sym (left_followed (joined_path old.path.items) a b));
+              (sym (ap (left_out (joined_path old.path.items)) (found_joined a b)
+              ∙ left_followed (joined_path old.path.items) (found a) (found b)));
+          failed =
+              then.failed
+              ∙ (λ i. first.failed i ++ failed_at (joined_path (first.path i)) b)
+              ∙ append_assoc old.failed.items (failed_at (joined_path old.path.items) a)
+              (failed_at (joined_path old.path.items) b)
+              ∙ ap (λ (l : List (List ℕ)). old.failed.items ++ l)
+              (sym (failed_joined (joined_path old.path.items) a b));
           path = then.path ∙ first.path;
           bsize = then.bsize ∙ first.bsize;
-          put = subst (PutsBlocks does s s') all_blocks_are
-              (puts_join does s mid s' (blocks_of score_of old.bsize x)
+          put = subst (PutsTried does score_of s s' old.bsize (joined a b)) all_blocks_are
+              (tried_join does score_of old.bsize s mid s' a b (blocks_of score_of old.bsize x)
               (blocks_of score_of old.bsize y) first.put
-              (subst (PutsBlocks does mid s') same_blocks then.put));
+              (subst (PutsTried does score_of mid s' old.bsize b) same_blocks
+              (subst (λ (n : ℕ). PutsTried does score_of mid s' n b
+              (blocks_of score_of half.bsize (archived_from half.qid b))) first.bsize then.put)));
         }
 
     -- the items behind them were given up
     pub part_then_given_up : (err : VacErr) → GivesUpPart does score_of mid s' half b err
-        → GivesUpPart does score_of s s' old (followed a b) err
+        → GivesUpPart does score_of s s' old (joined a b) err
     unfolding x
     part_then_given_up err then = record {
       cause = subst (IsGivenUpAs err) unfit_is then.cause;
-      given_up = subst (λ (bs : List Block). GivesUpBlocks does s s' bs err) all_blocks_are
-          (gives_later does s mid s' (blocks_of score_of old.bsize x)
+      given_up = subst (λ (bs : List Block). GivesUpTried does score_of s s' old.bsize (joined a b) bs
+          err) all_blocks_are
+          (tried_later does score_of old.bsize s mid s' a b (blocks_of score_of old.bsize x)
           (blocks_of score_of old.bsize y) err first.put
-          (subst (λ (bs : List Block). GivesUpBlocks does mid s' bs err) same_blocks
-          then.given_up));
+          (subst (λ (bs : List Block). GivesUpTried does score_of mid s' old.bsize b bs err)
+          same_blocks
+          (subst (λ (n : ℕ). GivesUpTried does score_of mid s' n b
+          (blocks_of score_of half.bsize (archived_from half.qid b)) err) first.bsize
+          then.given_up)));
     }
 
   -- items were given up, behind which others stand
-  pub part_given_up : (s s' : S) (old : Walk) (a b : Items Facts) (err : VacErr)
+  pub part_given_up : (s s' : S) (old : Walk) (a : Tried) (rest : Items Facts) (err : VacErr)
       → GivesUpPart does score_of s s' old a err
-      → GivesUpPart does score_of s s' old (followed a b) err
-  part_given_up s s' old a b err gave =
+      → GivesUpPart does score_of s s' old (joined a (as_read rest)) err
+  part_given_up s s' old a rest err gave =
       let p = old.path.items in
-      let n : ℕ = old.qid + count (numbered old.qid (kept a)) in
-      let blocks = ap (blocks_of score_of old.bsize) (archived_followed old.qid a b)
-      ∙ blocks_followed score_of old.bsize (numbered old.qid (kept a)) (numbered n (kept b)) in
+      let n : ℕ = old.qid + count (archived_from old.qid a) in
+      let found_are : found (joined a (as_read rest)) ≡ followed (found a) rest =
+      found_joined a (as_read rest) ∙ ap (followed (found a)) (found_read rest) in
+      let blocks = ap (blocks_of score_of old.bsize)
+      (ap (λ (items : Items Facts). numbered old.qid (kept items)) found_are
+      ∙ archived_followed old.qid (found a) rest)
+      ∙ blocks_followed score_of old.bsize (archived_from old.qid a) (numbered n (kept rest)) in
       record {
-        cause = as_unfit err (unfit_inside (length p) (joined_path p) a)
-            (unfit_inside (length p) (joined_path p) (followed a b))
-            (λ u is. unfit_followed (length p) (joined_path p) a b
-            ∙ or_front (unfit_inside (length p) (joined_path p) a)
-            (unfit_inside (length p) (joined_path p) b) u is) gave.cause;
-        given_up = subst (λ (bs : List Block). GivesUpBlocks does s s' bs err) (sym blocks)
-            (gives_front does s s' (blocks_of score_of old.bsize (numbered old.qid (kept a)))
-            (blocks_of score_of old.bsize (numbered n (kept b))) err gave.given_up);
+        cause = as_unfit err (unfit_inside (length p) (joined_path p) (found a))
+            (unfit_inside (length p) (joined_path p) (found (joined a (as_read rest))))
+            (λ u is. ap (unfit_inside (length p) (joined_path p)) found_are
+            ∙ unfit_followed (length p) (joined_path p) (found a) rest
+            ∙ or_front (unfit_inside (length p) (joined_path p) (found a))
+            (unfit_inside (length p) (joined_path p) rest) u is) gave.cause;
+        given_up = subst (λ (bs : List Block).
+            GivesUpTried does score_of s s' old.bsize (joined a (as_read rest)) bs err) (sym blocks)
+            (tried_front does score_of old.bsize s s' a rest
+            (blocks_of score_of old.bsize (archived_from old.qid a))
+            (blocks_of score_of old.bsize (numbered n (kept rest))) err gave.given_up);
       }

@@ -43,12 +43,6 @@ module _ {X : Type 0} (lt : X → X → Bool) (o : IsStrictWeakOrder lt) where
   pub rises_sorted : (ys : List X) → IsSortedBy lt ys → Rises ys
   rises_sorted ys sorted = rises_far ys (λ i j d le low. sorted_far lt o ys sorted i j d le low)
 
-  -- what is not less than one isn't less than what that isn't less than
-  pub none_lower : (x y : X) (ys : List X) → lt y x ≡ false → NoneBelow y ys → NoneBelow x ys
-  none_lower x y [] low none = tt
-  none_lower x y (z ∷ ys) low none =
-      (o.chain z y x none.0 low, none_lower x y ys low none.1)
-
   -- ---- ties
 
   never_less : (x : X) → lt x x ≡ false

@@ -25,7 +25,7 @@ use Rattle.vac_write.proofs.Listed.{bad_listed, first_bad_in, same_listing}
 -- ---- names that rise
 
 -- a name is above this one, if there is one
-abbrev Above : (last : Option (List ℕ)) → (name : List ℕ) → Type 0
+abbrev pub Above : (last : Option (List ℕ)) → (name : List ℕ) → Type 0
 Above None name = ⊤
 Above (Some last) name = Below last name
 
@@ -123,7 +123,7 @@ inside_above last n (folder about inside others) i rise found =
 inside_above last n (other about others) i rise found =
     below_below last about.name n rise.0 (inside_above about.name n others i rise.1 found)
 
-apart : (a n : List ℕ) → Below a n → bytes_eq a n ≡ false
+pub apart : (a n : List ℕ) → Below a n → bytes_eq a n ≡ false
 apart a n below = elim (cases_Bool (bytes_eq a n)) [
   | inr differ ↦ differ
   | inl same ↦

@@ -1,11 +1,13 @@
 -- What archiving a folder leaves (vac(1)).
-use Rattle.std.specs.Prelude.{ℕ, ◌≡◌, ◌<◌, ◌^◌, ⊤, Bool, true, false, IsTrue, Option, Some, None, List, [], ◌∷◌, ◌++◌, map}
+use Rattle.std.specs.Prelude.{ℕ, ◌≡◌, ◌+◌, ◌-◌, ◌<◌, ◌≤◌, ◌^◌, min, ⊤, Bool, true, false, IsTrue, Option, Some, None, Result, Ok, Err, List, [], ◌∷◌, ◌++◌, length, map}
+use Rattle.vt_base.specs.Faults.{HasRisen}
 use Rattle.vt_base.specs.Protocol.{Operation, sync as sync_all}
 use Rattle.vt_out.specs.declared.folder_item.Facts.{Facts}
 use Rattle.vt_out.specs.FolderItems.{Items}
 use Rattle.vt_out.specs.declared.files.OutErr.{OutErr}
 use Rattle.vt_out.specs.declared.files.OutErr.TheVariants.{Failed}
 use Rattle.vt_out.specs.declared.files.OutErr.TheVariants as outs
+use Rattle.vt_model.specs.History.{Block}
 use Rattle.vt_tree.specs.declared.error.BlockErr.{BlockErr}
 use Rattle.vt_tree.specs.declared.error.TreeErr.{TreeErr}
 use Rattle.vt_tree.specs.declared.error.TreeErr.TheVariants as trees
@@ -14,50 +16,73 @@ use Rattle.vt_tree.specs.Making.{Makes, EndsBy, after_all}
 use Rattle.vt_tree.specs.Maps.{Maps, with_blocks}
 use Rattle.vt_tree.specs.Reading.{refusal_in}
 use Rattle.vac_model.specs.Archives.{archive_of}
-use Rattle.vac_model.specs.Kept.{archived, count, skipped}
+use Rattle.vac_model.specs.Kept.{archived, count, in_order, skipped}
 use Rattle.vac_model.specs.Limits.{Unfit, bad_name, too_long, too_deep, first_unfit, HaveTimes}
 use Rattle.vac_model.specs.Trees.{IsTreeOf}
 use Rattle.vac_write.specs.declared.archived.Archived.{Archived}
 use Rattle.vac_write.specs.declared.error.VacErr.{VacErr}
 use Rattle.vac_write.specs.declared.error.VacErr.TheVariants.{FolderFault, Tree, BadName, TooDeep, NoMemory}
+use Rattle.vac_write.specs.Tried.{Tried, whole, found, failed_at, failures, begun_in, AreBegun, AreWoven}
 
--- what was listed and read of a folder is what it tells, if it does
-abbrev pub IsSeen : (tells : Bool) → (held : Items Facts) → (seen : Items Facts) → Type 0
-IsSeen tells held seen = IsTrue tells → seen ≡ held
+-- so many calls have failed; the count stands still at the end of its type
+abbrev pub HasRisenBy : (n old new : ℕ) → Type 0
+HasRisenBy n old new = new ≡ min (old + n) (2 ^ 64 - 1)
 
--- what is asked of a store for an archive: its blocks are put in order, and then it is synced
-abbrev pub asked_for_archive : (score_of : List ℕ → List ℕ) → (bsize : ℕ) → Items Facts
-    → List Operation
-asked_for_archive score_of bsize seen =
-    map write_of_block (archive_of score_of bsize seen).blocks ++ sync_all ∷ []
+-- as many have at least
+abbrev pub HasRisenAtLeast : (n old new : ℕ) → Type 0
+HasRisenAtLeast n old new = min (old + n) (2 ^ 64 - 1) ≤ new
 
--- A store that held these maps holds the blocks of an archive too, all of it is synced, and the
--- archive's score stands for its folder.
+-- What stands in a folder, in the order of names, is what it tells, if it does; and where so many of
+-- the files and folders in it are taken for ones of which a call has failed, as many calls have.
+abbrev pub IsSeen : (tells : Bool) → (held : Items Facts) → (faults faults' : ℕ) → (failed : ℕ)
+    → (seen : Items Facts) → Type 0
+IsSeen tells held faults faults' failed seen =
+    (IsTrue tells → seen ≡ in_order held) × HasRisenAtLeast failed faults faults'
+
+-- these blocks are put in order, and then all is synced
+abbrev pub asked_for_all : List Block → List Operation
+asked_for_all blocks = map write_of_block blocks ++ sync_all ∷ []
+
+-- What is put for an archive of what was found in a folder: the archive's blocks, in order, and
+-- between them the first blocks of each file of which a read has failed.
+pub record PutsFor (score_of : List ℕ → List ℕ) (bsize : ℕ) (tried : Tried) (all : List Block)
+    : Type 0 where
+  pub begun : AreBegun score_of bsize tried
+  pub woven : AreWoven (begun_in tried) (archive_of score_of bsize (found tried)).blocks all
+
+-- A store that held these maps holds these blocks too, among them those of an archive, all of it is
+-- synced, and the archive's score stands for its folder.
 pub record KeepsArchive {S : Type 0} (holds : S → Maps → Type 0) (score_of : List ℕ → List ℕ)
-    (s' : S) (m : Maps) (bsize : ℕ) (seen : Items Facts) : Type 0 where
+    (s' : S) (m : Maps) (bsize : ℕ) (all : List Block) (seen : Items Facts) : Type 0 where
   pub maps : Maps
-  pub held : maps.held ≡ with_blocks score_of (archive_of score_of bsize seen).blocks m.held
+  pub held : maps.held ≡ with_blocks score_of all m.held
   pub synced : maps.synced ≡ maps.held
   pub holds_them : holds s' maps
   pub tree : IsTreeOf maps.held (archive_of score_of bsize seen).score (archived seen)
 
--- A folder was archived: the blocks of its archive were put, each behind those that it names, the
--- store was synced behind them, and nothing else was asked for.
+-- A folder was archived, as far as it could be read: the blocks of the archive of what was found
+-- were put, each behind those that it names, the store was synced behind them, and nothing else was
+-- asked for but what was put of files of which a read has failed. What was skipped is told, and of
+-- what a call has failed.
 pub record WritesArchive {S : Type 0} (does : S → Call → S → Type 0) (holds : S → Maps → Type 0)
-    (score_of : List ℕ → List ℕ) (s s' : S) (bsize : ℕ) (is_seen : Items Facts → Type 0)
+    (score_of : List ℕ → List ℕ) (s s' : S) (bsize : ℕ)
+    (is_seen : (failed : ℕ) → Items Facts → Type 0)
     (a : Archived) : Type 0 where
-  pub seen : Items Facts
-  pub is : is_seen seen
-  pub fit : first_unfit seen ≡ None
-  pub few : count (archived seen) < 2 ^ 64
-  pub times : HaveTimes seen
-  pub score : a.score.0 ≡ (archive_of score_of bsize seen).score
-  pub left_out : a.skipped ≡ skipped seen
+  pub tried : Tried
+  pub is : is_seen (failures tried) (whole tried)
+  pub fit : first_unfit (found tried) ≡ None
+  pub few : count (archived (found tried)) < 2 ^ 64
+  pub times : HaveTimes (found tried)
+  pub score : a.score.0 ≡ (archive_of score_of bsize (found tried)).score
+  pub left_out : a.skipped ≡ skipped (found tried)
+  pub failed : a.failed ≡ failed_at [] tried
+  pub all : List Block
+  pub puts : PutsFor score_of bsize tried all
   pub calls : List Call
   pub made : Makes does s calls s'
   pub accepted : refusals_of calls ≡ []
-  pub asked : map asked_of calls ≡ asked_for_archive score_of bsize seen
-  pub keeps : (m : Maps) → holds s m → KeepsArchive holds score_of s' m bsize seen
+  pub asked : map asked_of calls ≡ asked_for_all all
+  pub keeps : (m : Maps) → holds s m → KeepsArchive holds score_of s' m bsize all (found tried)
 
 -- which refusal a folder is given up for, of which this is the first thing that is unfit
 abbrev pub IsGivenUpAs : VacErr → Option Unfit → Type 0
@@ -102,17 +127,32 @@ refusal_of (BadName path) = None
 refusal_of (TooDeep path) = None
 refusal_of NoMemory = None
 
--- Archiving was given up: of what is asked for the folder's archive the first was asked, and
--- nothing else. No call was refused but the last, where that is told.
+-- Archiving was given up: of what is asked for an archive of what was found until then, and of all
+-- that stands behind it, the first was asked, and nothing else. No call was refused but the last,
+-- where that is told. Where that is for a failed call of the folder,
+-- nothing was asked.
 pub record GivesUpArchive {S : Type 0} (does : S → Call → S → Type 0) (holds : S → Maps → Type 0)
-    (score_of : List ℕ → List ℕ) (s s' : S) (bsize : ℕ) (is_seen : Items Facts → Type 0)
+    (score_of : List ℕ → List ℕ) (s s' : S) (bsize : ℕ)
+    (is_seen : (failed : ℕ) → Items Facts → Type 0)
     (err : VacErr) : Type 0 where
-  pub seen : Items Facts
-  pub is : is_seen seen
-  pub cause : IsGivenUpAs err (first_unfit seen)
+  pub tried : Tried
+  pub is : is_seen (failures tried) (whole tried)
+  pub cause : IsGivenUpAs err (first_unfit (found tried))
+  pub all : List Block
+  pub puts : PutsFor score_of bsize tried all
   pub calls : List Call
   pub made : Makes does s calls s'
   pub refused : EndsBy (refusal_of err) calls
+  pub unlisted : is_folder_fault err ≡ true → calls ≡ []
   pub rest : List Operation
-  pub asked : map asked_of calls ++ rest ≡ asked_for_archive score_of bsize seen
+  pub asked : map asked_of calls ++ rest ≡ asked_for_all all
   pub keeps : (m : Maps) → holds s m → holds s' (after_all score_of calls m)
+
+-- ---- failed calls of the folder
+
+-- As many calls have failed as files and folders are told as those of which one has. Where it
+-- is given up for a failed call, that one alone has. Where it is for something else, some may have.
+abbrev pub CountsFailures : Result Archived VacErr → (old new : ℕ) → Type 0
+CountsFailures (Ok a) old new = HasRisenBy (length a.failed) old new
+CountsFailures (Err FolderFault) old new = HasRisen old new
+CountsFailures (Err err) old new = (n : ℕ) × HasRisenBy n old new

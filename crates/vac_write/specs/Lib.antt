@@ -3,4 +3,5 @@ pub mod Files
 pub mod Listing
 pub mod Puts
 pub mod Sources
+pub mod Tried
 pub mod Walking

@@ -10,6 +10,9 @@ pub struct Archived {
     pub score: Score,
     /// The paths of what is neither a file nor a folder, and isn't in the archive.
     pub skipped: Paths,
+    /// The paths of files that couldn't be read and folders that couldn't be listed. They aren't in
+    /// the archive either, and nor is what is in such a folder.
+    pub failed: Paths,
 }
 
 /// Paths in memory, which contracts see as a list.

@@ -8,7 +8,9 @@ use vt_tree::{BlockErr, TreeErr};
 /// Why a folder isn't archived. Some of its blocks may have been put.
 #[derive(Drop)]
 pub enum VacErr {
-    /// A call of the folder has failed, and its count of faults has risen.
+    /// A call of the folder has failed, and its count of faults has risen. Of `archive` it is told
+    /// where one has failed before anything was asked of the store: where the folder itself can't be
+    /// listed. Where another call fails the archiving goes on.
     FolderFault,
     /// What the store of blocks answered; or a file has more than 2^40 bytes, or a folder's
     /// metadata more than 2^24.

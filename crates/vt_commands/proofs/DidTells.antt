@@ -14,7 +14,7 @@ use Rattle.vt_remote.specs.declared.talk.RemoteError.TheVariants as remote
 use Rattle.run_base.specs.declared.error.CommandError.TheVariants.{BadWords, DiskFault, ReadFault, FileFault, FolderFault, WriteFault, NoMemory, Refused, Server}
 use Rattle.run_sessions.specs.Session.{DoesSession}
 use Rattle.run_sessions.specs.SessionConf.{DoesSessionConf}
-use Rattle.run_base.specs.Errors.{CommandOutcome, PartHasFailed, HasLinkFailed, server_status, status_of, outcome_line, line, HasCauseIn}
+use Rattle.run_base.specs.Errors.{CommandOutcome, HaveFailed, PartHasFailed, HasLinkFailed, server_status, status_of, outcome_line, line, HasCauseIn}
 use Rattle.run_base.specs.Members.{LinkOf}
 use Rattle.run_base.specs.Places.{EndsIdle, in_memory}
 use Rattle.vt_commands.specs.Run.{DoesCommand, DoesAsked, DoesWords}
@@ -82,7 +82,7 @@ module _ {R K I P D N L : Type 0} (disk : DiskOf D) (work : Work R K I P D N L) 
       → HasCauseIn (causes_of disk work) outcome
       → HasRisen work.source.faults work.source.faults'
       ⊎ HasRisen work.files.faults work.files.faults'
-      ⊎ HasRisen work.folders.faults work.folders.faults'
+      ⊎ HaveFailed work.folders.faults work.folders.faults'
       ⊎ HasRisen work.dialer.faults work.dialer.faults'
       ⊎ HasLinkFailed work.dialer.read_faults work.dialer
   read_risen (Err ReadFault) is cause = inl cause

@@ -33,7 +33,7 @@ ghost use Rattle.vac_store.specs.declared.outcome.ArchivedAt.{ArchivedAt};
 ghost use Rattle.vac_store.specs.Stored.{KeepsStored};
 ghost use Rattle.vac_write.specs.Archiving.{IsSeen};
 ghost use Rattle.run_base.specs.Formatting.{RefusesWord};
-ghost use Rattle.run_base.specs.Errors.{CommandOutcome, PartHasFailed, HasLinkFailed, status_of, line};
+ghost use Rattle.run_base.specs.Errors.{CommandOutcome, HaveFailed, PartHasFailed, HasLinkFailed, status_of, line};
 ghost use Rattle.run_base.specs.Places.{EndsIdle, NamesFile, in_memory};
 ghost use Rattle.vt_commands.specs.HandedIn.{IsWellHandedIn, NoneFails};
 ghost use Rattle.vt_commands.specs.Run.{Did, DoesCommand};
@@ -92,7 +92,7 @@ pub fn did_tells<R: Source, K: Sink, F: Sink, I: Files, P: Parts, N: Dialer>()
         → Did P.Disk.Disk N.Link.Link score words status work complaint → status ≡ 6
         → HasRisen work.source.faults work.source.faults'
         ⊎ HasRisen work.files.faults work.files.faults'
-        ⊎ HasRisen work.folders.faults work.folders.faults'
+        ⊎ HaveFailed work.folders.faults work.folders.faults'
         ⊎ HasRisen work.dialer.faults work.dialer.faults'
         ⊎ HasLinkFailed work.dialer.read_faults work.dialer }
     ensures write_fault { (score : List ℕ → List ℕ) (words : List (List ℕ)) (status : ℕ)
@@ -225,8 +225,8 @@ pub fn blocks_are_answered<R: Source, K: Sink, F: Sink, I: Files, P: Parts, N: D
 /// What a folder that is archived leaves of the store of a configuration, whatever calls failed,
 /// where all that is handed in tells what it holds, and every combination of the partitions' images
 /// stands for a prefix of one legal history: what a crash leaves stands for that, behind it for the
-/// first blocks of the folder's archive, and where a score is told for all of them. Where the store
-/// isn't opened, a crash loses nothing of it.
+/// first of the blocks that are put for the folder's archive, and where a score is told for all of
+/// them. Where the store isn't opened, a crash loses nothing of it.
 pub fn archives_keep_the_store<P: Parts, N: Dialer>()
     ensures { (score : List ℕ → List ℕ) (now : ℕ) (name : List ℕ) (conf : Conf) (bsize : ℕ)
         (result : Result ArchivedAt ArchiveError) (folders : FoldersChange)
@@ -236,8 +236,8 @@ pub fn archives_keep_the_store<P: Parts, N: Dialer>()
         parts dialer)
         → IsTrue parts.tells → IsTrue P.Disk.tells → AreUnder parts.old conf devices
         → IsLogOf score P.Disk.Disk tables devices c h g base
-        → WhereStored (KeepsStored score P.Disk.Disk conf bsize (IsSeen x.tells x.held) result
-        parts.new tables (record c { base = base }) g) ((back : PerDevice P.Disk)
+        → WhereStored (KeepsStored score P.Disk.Disk conf bsize (IsSeen x.tells x.held 0 x.risen)
+        result parts.new tables (record c { base = base }) g) ((back : PerDevice P.Disk)
         → AreUnder parts.new conf back → LeavesStanding score P.Disk.Disk tables devices back)
         result }
 {

@@ -380,8 +380,8 @@ const ROWS: [Row; 12] = [
         'v',
     ),
     (
-        "a call of the folder that fails",
-        (ALL + 4, b"", [4, NEVER, NEVER]),
+        "a folder that can't be listed",
+        (ALL + 4, b"", [0, NEVER, NEVER]),
         'f',
     ),
     ("a read that fails", (ALL + 4, b"", [NEVER, 20, NEVER]), 'r'),

@@ -2,29 +2,27 @@
 //! at a server.
 
 ghost use Rattle.std.specs.Prelude.{◌≡◌, ◌≤◌, ℕ, List, IsTrue, Ok, IfErr, IfOk};
-ghost use Rattle.vt_base.specs.Faults.{CountsFault};
 ghost use Rattle.vt_use.specs.Places.{CanBeOpened};
 ghost use Rattle.vac_model.specs.declared.TheConstants.{MIN_BLOCK_SIZE, MAX_BLOCK_SIZE};
-ghost use Rattle.vac_store.specs.Storing.{tells_folder_fault};
+ghost use Rattle.vac_store.specs.Storing.{CountsFailuresAt};
 ghost use Rattle.vac_write.specs.Archiving.{IsSeen};
 ghost use Rattle.run_base.specs.Change.{dialer_change, files_change, folders_change, parts_change, sink_change};
 ghost use Rattle.run_archives.specs.Vac.{Archives, ArchivesAt, ArchivesNone, AsksForNoSize, AsksForSize, DoesVac};
 ghost use Rattle.run_archives.specs.Vac.{IsArchiveRefusal, StoresFolder, StoresNone};
-ghost use Rattle.run_archives.specs.Vac.{archive_line, unfit_for};
+ghost use Rattle.run_archives.specs.Vac.{PrintsArchive, unfit_for};
 ghost use Rattle.run_base.specs.Errors.{HasCauseIn, no_cause, with_dialer, with_files, with_folders, with_parts, with_sink};
-ghost use Rattle.run_base.specs.Formatting.{Prints};
 ghost use Rattle.run_base.specs.Said.{Said};
-ghost use Rattle.run_archives.specs.Skipped.{skipped_lines};
+ghost use Rattle.run_archives.specs.Skipped.{left_out_lines};
 ghost use Rattle.run_archives.specs.Watched.{watched_folder};
 
-use crate::skipped::tell_skipped;
+use crate::skipped::tell_left_out;
 use crate::watched::Watched;
 use run_base::{CommandError, hexadecimal, print, store_at, told_at};
 use std::alloc::Global;
 use vac_model::{MAX_BLOCK_SIZE, MIN_BLOCK_SIZE};
 use vac_store::{ArchiveError, ArchiveFolder, ArchivedAt, archived_at};
 use vac_write::{Archived, VacErr};
-use vt_base::{Failed, Score, Scorer, Text};
+use vt_base::{Failed, Scorer, Text};
 use vt_conf::parse_number;
 use vt_dial::Dialer;
 use vt_out::{Files, Folder, Folders, OutErr, Sink};
@@ -37,8 +35,8 @@ use vt_use::{StoreAt, local_refusals_have_causes, use_at};
 const BLOCK_SIZE: u16 = 8192;
 
 /// Reads the word and finds the store, archives the folder of this name there, at this second, says on
-/// the fault sink what was left out, and prints what the archive is found by. Gives too whether the
-/// fault sink took that.
+/// the fault sink what was left out, and prints what the archive is found by. Where something couldn't
+/// be read, that is the outcome then. Gives too whether the fault sink took what was said.
 pub fn vac<I: Files, G: Folders, P: Parts, N: Dialer, K: Sink, F: Sink, T: Sink + Drop, S: Scorer>(
     alloc: Global,
     files: &mut I,
@@ -84,20 +82,27 @@ fn tell<K: Sink, F: Sink>(
     archived: &Archived,
 ) -> (Result<(), Failed>, Result<(), CommandError>)
     ensures said { Said result.0 (sink_change F.Sink fault_sink.old fault_sink.new)
-        (skipped_lines archived.now.skipped) }
-    ensures printed { Prints (archive_line archived.now.score.0) result.1
+        (left_out_lines archived.now) }
+    ensures printed { PrintsArchive archived.now result.1
         (sink_change K.Sink sink.old sink.new) }
 {
-    let said = tell_skipped(fault_sink, archived.skipped.as_slice());
-    (said, print_archive(sink, &archived.score))
+    let said = tell_left_out(fault_sink, archived);
+    (said, print_archive(sink, archived))
 }
 
-/// Prints what an archive is found by.
-fn print_archive<K: Sink>(sink: &mut K, score: &Score) -> Result<(), CommandError>
-    ensures { Prints (archive_line score.now.0) result (sink_change K.Sink sink.old sink.new) }
+/// Prints what an archive is found by. Where something couldn't be read, that is the outcome, once it
+/// is printed.
+fn print_archive<K: Sink>(sink: &mut K, archived: &Archived) -> Result<(), CommandError>
+    ensures { PrintsArchive archived.now result (sink_change K.Sink sink.old sink.new) }
 {
     let mut digits = [0; 40];
-    print(sink, &[b"vac:", hexadecimal(&mut digits, &score.0), b"\n"])
+    let score = hexadecimal(&mut digits, &archived.score.0);
+    print(sink, &[b"vac:", score, b"\n"])?;
+    if archived.failed.as_slice().is_empty() {
+        Ok(())
+    } else {
+        Err(CommandError::FolderFault)
+    }
 }
 
 /// Reads the word and finds the store, and archives the folder of this name there.
@@ -190,9 +195,10 @@ fn archive_watched<P: Parts, N: Dialer, F: Folder, T: Sink + Drop, S: Scorer>(
     requires least { MIN_BLOCK_SIZE ≤ bsize }
     requires most { bsize ≤ MAX_BLOCK_SIZE }
     ensures archives { ArchivesAt S.score_of P.Disk.Disk N.Link.Link at.now now bsize
-        (IsSeen F.tells (F.holds folder)) result.0 (parts_change P.Parts parts.old parts.new)
+        (IsSeen F.tells (F.holds folder) (F.faults folder) (F.faults result.1)) result.0
+        (parts_change P.Parts parts.old parts.new)
         (dialer_change N.Dialer N.Link.Link dialer.old dialer.new) }
-    ensures cause { CountsFault tells_folder_fault result.0 (F.faults folder) (F.faults result.1) }
+    ensures cause { CountsFailuresAt result.0 (F.faults folder) (F.faults result.1) }
     ensures stays { IsTrue F.tells → F.holds result.1 ≡ F.holds folder }
 {
     let mut watched = Watched::new(folder, terminal);

@@ -8,9 +8,9 @@ use Rattle.vac_store.proofs.Kept.{keeps_folder}
 use Rattle.vac_store.proofs.laws.archives_are_kept.Goals as goal
 
 pub returns : goal.returns
-returns g c score now bsize tells held answer said added closed h old new disk_tells sound x =
+returns g c score now bsize tells held faults faults' answer said added closed h old new disk_tells sound x =
     let disk = g.D.Disk in
-    let seen = IsSeen tells held in
+    let seen = IsSeen tells held faults faults' in
     let it = into score disk now bsize seen old new answer said added closed x in
     keeps_folder score disk now bsize seen h old new disk_tells sound
     (came_to answer (as_refused said) added (as_ended closed)) it

@@ -6,11 +6,12 @@ use Rattle.vt_part.specs.Table.{Table}
 use Rattle.vt_core.specs.Core.{devices_of}
 use Rattle.vt_core.specs.Mounting.{AllStandFor, EachStands}
 use Rattle.vt_use.specs.Places.{as_ended, as_refused}
+use Rattle.vac_write.specs.Tried.{found}
 use Rattle.vac_store.specs.Storing.{IsBecause, StandsIn, all_written, came_to}
 use Rattle.vac_store.proofs.laws.stores_keep_archives.Goals as goal
 
 pub returns : goal.returns
-returns g c score told conf now bsize tells held answer said added closed old new tables devices setup h
+returns g c score told conf now bsize tells held faults faults' answer said added closed old new tables devices setup h
     log base is_told disk_tells x under is_log =
     let disk = g.D.Disk in
     let result = came_to answer (as_refused said) added (as_ended closed) in
@@ -18,11 +19,13 @@ returns g c score told conf now bsize tells held answer said added closed old ne
     tables devices setup h log base is_told disk_tells x.opens under is_log in
     let tables_are = c.opened_stores_recall.ensures.tables score told conf 1 old x.during x.opened
     tables devices setup h log base is_told disk_tells x.opens under is_log in
-    let kept = c.archives_are_kept.ensures score now bsize tells held answer said added closed log
+    let kept = c.archives_are_kept.ensures score now bsize tells held faults faults' answer said added closed log
     x.opened x.left disk_tells recalls.sound x.does in
     record {
-      seen = kept.seen;
+      tried = kept.tried;
       is = kept.is;
+      all_blocks = kept.all;
+      puts = kept.puts;
       put = kept.put;
       rest = kept.rest;
       blocks = kept.blocks;
@@ -38,15 +41,15 @@ returns g c score told conf now bsize tells held answer said added closed old ne
           x.left.log.durable (devices_of x.left) kept.last) tables_are
           (subst (λ (e : Setup). EachStands score disk e x.opened.log.tables x.left.log.durable
           (devices_of x.left) kept.last) recalls.setup kept.stands);
-      because = subst (λ (e : Setup). IfErr result (IsBecause score e kept.last kept.rest kept.seen))
+      because = subst (λ (e : Setup). IfErr result (IsBecause score e kept.last kept.rest (found kept.tried)))
           recalls.setup kept.because;
       done = subst (λ (t : List Table). IfOk result (λ s. (kept.rest ≡ [])
-          × StandsIn score bsize kept.seen kept.last s.archived
+          × StandsIn score bsize kept.tried kept.last s.archived
           × (length kept.last ≡ length log + s.blocks)
           × AllStandFor score disk (record setup { base = base }) t (devices_of x.left) kept.last
           (length kept.last))) tables_are
           (subst (λ (e : Setup). IfOk result (λ s. (kept.rest ≡ [])
-          × StandsIn score bsize kept.seen kept.last s.archived
+          × StandsIn score bsize kept.tried kept.last s.archived
           × (length kept.last ≡ length log + s.blocks)
           × AllStandFor score disk e x.opened.log.tables (devices_of x.left) kept.last
           (length kept.last))) recalls.setup kept.done);

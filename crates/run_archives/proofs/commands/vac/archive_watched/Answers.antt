@@ -1,11 +1,10 @@
 -- what the use of the store tells of the folder within
 use Rattle.std.proofs.Common.{◌≡◌, ◌∙◌, true, ap, subst}
-use Rattle.vt_base.specs.Faults.{CountsFault}
 use Rattle.vt_out.specs.declared.folder_item.Facts.{Facts}
 use Rattle.vt_out.specs.FolderItems.{Items}
 use Rattle.vt_use.specs.Change.{dialer_change, parts_change}
 use Rattle.vt_use.specs.Places.{UsesAt}
-use Rattle.vac_store.specs.Storing.{ArchivesOrGivesUp, archived_at, tells_folder_fault}
+use Rattle.vac_store.specs.Storing.{ArchivesOrGivesUp, CountsFailuresAt, archived_at}
 use Rattle.vac_write.specs.Archiving.{IsSeen}
 use Rattle.run_archives.specs.Watched.{watched_folder}
 use Rattle.run_archives.proofs.ArchiveUsed.{archives_so, counts_so, stays_so}
@@ -19,16 +18,19 @@ returns-clause-archives g c =
     let folder = g.F.Folder in
     let parts = parts_change g.P.Parts c.args.parts.now c.use_at-used.new.parts in
     let dialer = dialer_change g.N.Dialer g.N.Link.Link c.args.dialer.now c.use_at-used.new.dialer in
+    let before = watched_folder c.new-watched.result in
+    let after = watched_folder c.use_at-used.new.beside in
+    let uses : UsesAt score disk link c.args.at.now c.args.now true
+    (λ answer S act holds calls from to. ArchivesOrGivesUp act holds score c.args.bsize
+    (IsSeen folder.tells (folder.holds before) (folder.faults before) (folder.faults after)) answer
+    calls from to) c.use_at-used.result parts dialer =
+    archives_so score disk link c.args.at.now c.args.now c.args.bsize parts dialer
+    c.new-watched.result c.use_at-used.new.beside folder.tells
+    (λ w. folder.holds (watched_folder w)) (λ w. folder.faults (watched_folder w))
+    c.use_at-used.result c.use_at-used.ensures.uses in
     record {
       used = c.use_at-used.result;
-      uses = subst (λ (held : Items Facts). UsesAt score disk link c.args.at.now c.args.now true
-          (λ answer S act holds calls from to. ArchivesOrGivesUp act holds score c.args.bsize
-          (IsSeen folder.tells held) answer calls from to) c.use_at-used.result parts dialer)
-          (ap folder.holds c.new-watched.ensures)
-          (archives_so score disk link c.args.at.now c.args.now c.args.bsize parts dialer
-          c.new-watched.result c.use_at-used.new.beside folder.tells
-          (λ w. folder.holds (watched_folder w)) (λ w. folder.faults (watched_folder w))
-          c.use_at-used.result c.use_at-used.ensures.uses);
+      uses = rw (c.into_parts-folder.ensures, c.show_end.ensures) (rw c.new-watched.ensures at uses);
       result_is = c.archived_at-stored.ensures;
     }
 
@@ -37,13 +39,14 @@ returns-clause-cause g c =
     let folder = g.F.Folder in
     let parts = parts_change g.P.Parts c.args.parts.now c.use_at-used.new.parts in
     let dialer = dialer_change g.N.Dialer g.N.Link.Link c.args.dialer.now c.use_at-used.new.dialer in
-    let counts : CountsFault tells_folder_fault (archived_at c.use_at-used.result)
+    let counts : CountsFailuresAt (archived_at c.use_at-used.result)
     (folder.faults (watched_folder c.new-watched.result))
     (folder.faults (watched_folder c.use_at-used.new.beside)) =
     counts_so g.S.Scorer.score_of g.P.Disk.Disk g.N.Link.Link c.args.at.now c.args.now c.args.bsize parts
     dialer c.new-watched.result c.use_at-used.new.beside folder.tells
     (λ w. folder.holds (watched_folder w)) (λ w. folder.faults (watched_folder w))
-    c.use_at-used.result c.use_at-used.ensures.uses c.use_at-used.ensures.untouched in
+    c.use_at-used.result c.use_at-used.ensures.uses c.use_at-used.ensures.untouched
+    (g.met.F.Folder.faults_fit (watched_folder c.new-watched.result)) in
     rw (c.archived_at-stored.ensures, c.into_parts-folder.ensures, c.show_end.ensures)
     (rw c.new-watched.ensures at counts)
 

@@ -1,13 +1,13 @@
 -- what was archived is told, or why nothing was
 use Rattle.std.proofs.Common.{inl, inr, refl, []}
-use Rattle.run_archives.specs.Skipped.{skipped_lines}
+use Rattle.run_archives.specs.Skipped.{left_out_lines}
 use Rattle.run_base.proofs.SaidBefore.{unsaid}
 use Rattle.run_archives.proofs.VacCauses.{vac_cause}
 use Rattle.run_archives.proofs.commands.vac.vac.Goals as goal
 
 pub returns-in-Ok-clause-does : goal.returns-in-Ok-clause-does
 returns-in-Ok-clause-does g c = (
-  skipped_lines c.in-Ok.stored.archived.skipped,
+  left_out_lines c.in-Ok.stored.archived,
   inr (record {
     stored = c.in-Ok.stored;
     archives = c.in-Ok.ensures.stored;
