@@ -27,11 +27,14 @@ TOP = os.path.dirname(os.path.realpath(__file__))
 PROGRAM = "vt_prog"
 FOLDER = os.path.join(TOP, "crates", PROGRAM)
 LOG = os.path.join(FOLDER, "out", "build.log")
-# GiB of memory: what the checks that go on at a time may take, what one takes at most, and what the large ones do.
-MEMORY, PEAK = 6.0, 1.5
+# GiB of memory: what the checks that go on at a time may take by the peaks of each, what one takes at most, and what the
+# large ones do. Peaks hardly come at one time: of 6.3 GiB by these peaks 5.0 were seen.
+MEMORY, PEAK = 6.8, 1.4
 PEAKS = {
-    "vt_core": 2.6, "vt_shard": 2.3, "vt_rehearse": 2.3, "vt_format": 2.2, "run_base": 2.2,
-    "run_stores": 2.0, "vt_use": 1.9, "vt_empty": 1.8, "vt_isect": 1.8, "vt_rebuild": 1.8,
+    "vt_core": 2.5, "vt_shard": 2.3, "vt_rehearse": 2.3, "vt_format": 2.2, "run_base": 2.2, "vt_use": 2.2,
+    "run_stores": 2.0, "vt_host": 2.0, "vt_empty": 2.0, "vt_isect": 1.8, "vt_rebuild": 1.8, "vt_recover": 1.8,
+    "vt_partitions": 1.8, "nine_view": 1.8, "vt_requests": 1.7, "vt_open": 1.7, "vt_log": 1.7, "run_archives": 1.7,
+    "vac_read": 1.7, "vt_lookup": 1.7, "vt_arena": 1.6, "vt_cli": 1.6, "vt_bloom": 1.5, "vt_tree": 1.5,
 }
 # What is called of the script rt, with arguments as they are given here; `share_work` only where there is one.
 CALLS = [
@@ -90,44 +93,54 @@ def ask_once(rt):
     rt.rtlib.Crate.stamp = stamp
 
 
+def peak(crate, jobs):
+    """GiB of memory that proving a crate by so many processes may take: each further one takes less than the first."""
+    return PEAKS.get(crate.name, PEAK) * (1 + 0.6 * (jobs - 1))
+
+
 def lines_of(rt, crate):
     return sum(rt.rtlib.text_of(it).count("\n") for it in rt.rtlib.files_of(crate.folder))
 
 
 class Jobs:
     """The crates below the program: which are left, under way and proved. Those come first that have the most lines in
-    the longest chain of crates that wait for them, their own among these."""
+    the longest chain of crates that wait for them, their own among these. A crate that little else can be proved beside
+    is given processors that would idle."""
 
     def __init__(self, rt, crates, log):
         self.log, self.lanes, self.memory, self.count = log, at_once(), memory(), len(crates) + 1
-        self.running, self.ended, behind = [], queue.Queue(), {}
+        self.running, self.ended, behind = {}, queue.Queue(), {}
         for it in reversed(crates):
             behind[it] = lines_of(rt, it) + max([behind[above] for above in behind if it in above.deps], default=0)
         self.done = {it for it in crates if it.is_built()}
         self.left = sorted({*crates} - self.done, key=lambda it: -behind[it])
 
-    def prove(self, crate):
+    def prove(self, crate, jobs):
         """Proves one crate, in a thread of its own, and keeps its library for those above."""
         status, crate.out = 1, io.StringIO()
         try:
-            status = crate.build_rlib(["--jobs", "1"], False)
+            status = crate.build_rlib(["--jobs", str(jobs)], False)
         finally:
             self.ended.put((crate, status))
 
-    def has_room(self, crate):
-        """Whether a crate can be proved beside those that are: there is a lane, and the memory that it may take."""
-        takes = sum(PEAKS.get(it.name, PEAK) for it in [*self.running, crate])
-        return not self.running or len(self.running) < self.lanes and takes <= self.memory
+    def has_room(self, crate, jobs):
+        """Whether a crate can be proved by so many processes beside those that are: there are lanes, and the memory that
+        it may take."""
+        takes = sum(peak(it, each) for it, each in [*self.running.items(), (crate, jobs)])
+        return sum(self.running.values()) + jobs <= self.lanes and takes <= self.memory
 
     def begin(self):
-        for crate in [it for it in self.left if self.done.issuperset(it.below())]:
-            if not self.has_room(crate):
+        ready = [it for it in self.left if self.done.issuperset(it.below())]
+        for at, crate in enumerate(ready):
+            if self.running and not self.has_room(crate, 1):
                 # (those behind it wait too: it would never find room beside them)
                 break
+            idle = (self.lanes - sum(self.running.values())) // (len(ready) - at)
+            jobs = next((it for it in range(idle, 1, -1) if self.has_room(crate, it)), 1)
             self.left.remove(crate)
-            self.running.append(crate)
+            self.running[crate] = jobs
             say(f"proving {crate.name}, {len(self.done) + len(self.running)} of {self.count}")
-            threading.Thread(target=self.prove, args=[crate], daemon=True).start()
+            threading.Thread(target=self.prove, args=[crate, jobs], daemon=True).start()
 
     def end(self):
         """Waits for a crate to end, and gives whether all is well. After a minute it says what is under way."""
@@ -137,7 +150,7 @@ class Jobs:
             names = " and ".join(it.name for it in self.running)
             say(f"proving {names}, {len(self.done)} of {self.count} are done")
             return True
-        self.running.remove(crate)
+        del self.running[crate]
         self.log.write(f"== {crate.name}\n{crate.out.getvalue()}")
         if status == 0:
             self.done.add(crate)
