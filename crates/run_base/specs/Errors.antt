@@ -15,7 +15,7 @@ use Rattle.vt_partitions.specs.Parts.{there, HandsOut}
 use Rattle.run_base.specs.declared.error.CommandError.{CommandError}
 use Rattle.run_base.specs.declared.error.CommandError.TheVariants.{BadWords, BadConf, NotFormatted, TooSmall, Disagree, SameName, DiskFault, BadNumber, BadName, BadScore, BadArchive, TooDeep, TooLong, Cut, Malformed, Spent, ReadFault, FileFault, FolderFault, WriteFault, NoMemory, Damaged, IndexFull, ArenasFull, Refused, NoBlock, Server}
 use Rattle.run_base.specs.Change.{StreamChange, DialerChange, FilesChange, FoldersChange, PartsChange}
-use Rattle.run_base.specs.Fields.{field_name, value_text}
+use Rattle.run_base.specs.Fields.{field_name, advice_on, value_text}
 use Rattle.vt_remote.specs.declared.talk.RemoteError.{RemoteError}
 use Rattle.vt_remote.specs.declared.talk.RemoteError.TheVariants as remote
 
@@ -100,7 +100,7 @@ outcome_line (Err (TooSmall file len need)) =
     line (file ∷ codes ": too small: " ∷ decimal len ∷ codes ", need " ∷ decimal need ∷ [])
 outcome_line (Err (Disagree file field found want)) =
     line (file ∷ codes ": " ∷ field_name field ∷ codes " is " ∷ decimal found ∷ codes ", want "
-    ∷ decimal want ∷ [])
+    ∷ decimal want ∷ advice_on field found ∷ [])
 outcome_line (Err (SameName file other)) = line (file ∷ codes ": name is that of " ∷ other ∷ [])
 outcome_line (Err DiskFault) = line (codes "disk fault" ∷ [])
 outcome_line (Err (BadNumber at)) = line (codes "bad number at " ∷ decimal at ∷ [])

@@ -1,5 +1,5 @@
 -- What a field of a partition is called in a line, and how a value is written there.
-use Rattle.std.specs.Prelude.{ℕ, List, codes, decimal}
+use Rattle.std.specs.Prelude.{ℕ, ◌==◌, if◌then◌else◌, List, [], codes, decimal}
 use Rattle.hex.specs.Hex.{encode_lower}
 use Rattle.vt_base.specs.declared.mount.MountField.{MountField}
 use Rattle.vt_base.specs.declared.mount.MountField.TheVariants.{Version, Number, Sealed, Used, Clumps, ArenaSize, Count, State, First, Total, Mark, M, K, Crowd, Arenas, Buckets}
@@ -24,6 +24,11 @@ field_name K = codes "k"
 field_name Crowd = codes "crowd"
 field_name Arenas = codes "arenas"
 field_name Buckets = codes "buckets"
+
+-- what is to be done where a field says this: a section in state 2 is half filled
+abbrev pub advice_on : MountField → (found : ℕ) → List ℕ
+advice_on State found = if found == 2 then codes ": run buildindex" else []
+advice_on field found = []
 
 -- a number in decimal digits, and a score or a magic number in hexadecimal ones
 abbrev pub value_text : FieldValue → List ℕ

@@ -7,7 +7,7 @@ ghost use Rattle.vt_conf.specs.Causes.{cause_text};
 ghost use Rattle.vt_out.specs.Streams.{AppendsPrefix};
 ghost use Rattle.run_base.specs.Change.{sink_change, Attempts};
 ghost use Rattle.run_base.specs.Errors.{line, outcome_line, server_error_line};
-ghost use Rattle.run_base.specs.Fields.{field_name, value_text};
+ghost use Rattle.run_base.specs.Fields.{field_name, advice_on, value_text};
 
 use crate::error::CommandError;
 use crate::printing::put_pieces;
@@ -149,7 +149,8 @@ fn complain_of_len<F: Sink>(sink: &mut F, file: &[u8], len: u64, need: u64)
 /// Writes a line on a field that is another than was wanted.
 fn complain_of_field<F: Sink>(sink: &mut F, file: &[u8], field: MountField, found: u128, want: u128)
     ensures { Attempts (sink_change F.Sink sink.old sink.new) (line (file.now ∷ codes ": "
-        ∷ field_name field ∷ codes " is " ∷ decimal found ∷ codes ", want " ∷ decimal want ∷ [])) }
+        ∷ field_name field ∷ codes " is " ∷ decimal found ∷ codes ", want " ∷ decimal want
+        ∷ advice_on field found ∷ [])) }
 {
     let mut found_digits = Buffer::new();
     let mut want_digits = Buffer::new();
@@ -163,8 +164,19 @@ fn complain_of_field<F: Sink>(sink: &mut F, file: &[u8], field: MountField, foun
             found_digits.format(found).as_bytes(),
             b", want ",
             want_digits.format(want).as_bytes(),
+            advice_on(field, found),
         ],
     );
+}
+
+/// What is to be done where a field says this, for the line's end.
+fn advice_on<'a>(field: MountField, found: u128) -> &'a [u8]
+    ensures { result.now ≡ advice_on field found }
+{
+    match field {
+        MountField::State if found == 2 => b": run buildindex",
+        _ => b"",
+    }
 }
 
 /// Writes a line on damage.

@@ -240,7 +240,7 @@ fn an_index_may_have_no_room(rt: HostRuntime) -> Result<(), Fail> {
 const FAILING: u64 = 39;
 
 /// What is told of a section that is being built.
-const STATE: &str = "venti: i.part: state is 2, want 1\n";
+const STATE: &str = "venti: i.part: state is 2, want 1: run buildindex\n";
 
 /// The score of `abc`, by SHA-1.
 const SCORE: &str = "a9993e364706816aba3e25717850c26c9cd0d89d";

@@ -39,7 +39,7 @@ fn short_rows(conf: &Conf) -> Rows {
     );
     rows.is(
         "the caches' sizes",
-        (conf.mem, conf.icmem) == (1_048_576, 1_048_576),
+        (conf.mem, conf.icmem) == (67_108_864, 1_048_576),
     );
     rows.is("no filter", conf.filter.is_none());
     rows.is("every host", conf.addr.host.is_none());
@@ -117,13 +117,17 @@ fn is_refused(alloc: Global, text: &[u8], line: usize, why: ConfCause) -> bool {
 }
 
 /// Each cause at its line, in the order of testing.
-const CAUSES: [(&[u8], usize, ConfCause); 27] = [
+const CAUSES: [(&[u8], usize, ConfCause); 31] = [
     (b"", 0, ConfCause::NoArenas),
     (b"# none\n \t\n", 0, ConfCause::NoArenas),
     (b"isect i\n", 0, ConfCause::NoArenas),
     (b"arenas a", 0, ConfCause::NoSections),
     (b"nonsense\n\n\xff", 3, ConfCause::NotUtf8),
     (b"\xc3\n\xa9", 1, ConfCause::NotUtf8),
+    (b"\xff\r\n", 1, ConfCause::NotUtf8),
+    (b"arenas a\r\nisect i\r\n", 1, ConfCause::CarriageReturn),
+    (b"nonsense\n\r\n\xff", 2, ConfCause::CarriageReturn),
+    (b"arenas a\nisect i # s\r", 2, ConfCause::CarriageReturn),
     (
         b"index main\narenas a.part\nisect i.part\nmem 1x\n",
         4,
@@ -149,9 +153,9 @@ const CAUSES: [(&[u8], usize, ConfCause); 27] = [
     (b"bloom b\nbloom b", 2, ConfCause::Repeated),
     (b"webroot a\rb\r c", 1, ConfCause::ExtraValue),
     (
-        b"index main\r\narenas a\nisect i\nmem 1\r",
+        b"index ma\rin\narenas a\nisect i\nmem 1\r",
         4,
-        ConfCause::BadSize,
+        ConfCause::CarriageReturn,
     ),
 ];
 

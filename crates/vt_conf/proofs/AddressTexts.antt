@@ -1,5 +1,5 @@
 -- The parts of an address are told apart by their bytes.
-use Rattle.std.proofs.Common.{◌≡◌, ◌≢◌, ℕ, suc, ◌+◌, ◌^◌, ◌<◌, ◌≤◌, ⊎_elim, Bool, true, false, cond, List, [], ◌∷◌, ◌++◌, Option, Some, None, Bor, length, get_or, take, drop, decimal, refl, sym, ◌∙◌, ap, subst, arith, add-one, length-append, drop-cons, codes}
+use Rattle.std.proofs.Common.{◌≡◌, ◌≢◌, ℕ, suc, ◌+◌, ◌^◌, ◌<◌, ◌≤◌, ⊎_elim, Bool, true, false, cond, List, ◌∷◌, ◌++◌, Option, Some, None, Bor, length, get_or, take, drop, decimal, refl, sym, ◌∙◌, ap, subst, arith, add-one, length-append, drop-cons, codes}
 use Rattle.std.specs.Prelude.{◌==◌, not, nat_lt}
 use Rattle.std.specs.Int.{IsInRange}
 use Rattle.std.specs.List.{All, position, position_or_len}

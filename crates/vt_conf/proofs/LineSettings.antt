@@ -1,26 +1,25 @@
 -- The settings of the lines so far.
-use Rattle.std.proofs.Common.{◌≡◌, ℕ, ◌+◌, ◌<◌, ◌≤◌, inl, inr, ⊎_elim, Bool, true, false, cond, List, [], ◌∷◌, ◌++◌, Option, Some, None, length, get_or, take, refl, sym, ◌∙◌, ap, subst, arith, append_assoc, length-append}
-use Rattle.std.specs.Prelude.{◌==◌, ◌⊎◌, All, MatchOption, filter, find, map, unwrap_or, if◌then◌else◌}
+use Rattle.std.proofs.Common.{◌≡◌, ℕ, ◌+◌, ◌<◌, ◌≤◌, ⊎_elim, Bool, true, false, cond, List, [], ◌∷◌, ◌++◌, Option, Some, None, length, get_or, refl, sym, ◌∙◌, ap, subst, arith, append_assoc, length-append}
+use Rattle.std.specs.Prelude.{◌==◌, All, MatchOption, find, map, unwrap_or, if◌then◌else◌}
 use Rattle.std.proofs.lemmas.Bool.{cases_Bool, eqb-true}
-use Rattle.std.proofs.lemmas.List.{append-nil, map-append}
-use Rattle.std.proofs.lemmas.List.Elements.{All-nil, All-cons, All-filter, filter-append, filter_more, filter_passes}
+use Rattle.std.proofs.lemmas.List.{append-nil}
+use Rattle.std.proofs.lemmas.List.Elements.{All-nil, All-cons, All-filter, filter-append, filter_passes}
 use Rattle.vt_conf.specs.declared.address.Address.{Address}
-use Rattle.vt_conf.specs.declared.conf.PartFile.{PartFile}
 use Rattle.vt_conf.specs.declared.keyword.Keyword.{Keyword}
 use Rattle.vt_conf.specs.declared.keyword.Keyword.TheVariants.{Index, Arenas, Isect, Bloom, Mem, Icmem, Bcmem, Httpaddr, Webroot, Queuewrites, Addr}
 use Rattle.vt_conf.specs.declared.setting.Setting.{Setting}
 use Rattle.vt_conf.specs.declared.error.ConfErr.{ConfErr}
 use Rattle.vt_conf.specs.declared.error.ConfErr.TheVariants.{Bad, NoMemory}
 use Rattle.vt_conf.specs.declared.error.ConfCause.{ConfCause}
-use Rattle.vt_conf.specs.declared.error.ConfCause.TheVariants.{NotUtf8, TooLong, UnknownName, MissingValue, ExtraValue, BadSize, BadAddress, Repeated, TooMany, NoArenas, NoSections}
+use Rattle.vt_conf.specs.declared.error.ConfCause.TheVariants.{NotUtf8, CarriageReturn, TooLong, UnknownName, MissingValue, ExtraValue, BadSize, BadAddress, Repeated, TooMany, NoArenas, NoSections}
 use Rattle.vt_conf.specs.Configuration.{file_of, IsSizeIn, IsAddressIn, Entry, entry_at, entries_from, line_entries, SetsSetting, AreSet, is_of, said, AreFew, IsConfText, AreSettings, Exceeds, RefusesLine, IsFirstRefused, IsFirstCause}
 use Rattle.vt_conf.specs.Addresses.{SpellsAddress}
 use Rattle.vt_conf.specs.Sizes.{SpellsSize}
 use Rattle.vt_conf.specs.Exceeding.{exceeded_by}
 use Rattle.vt_conf.specs.Keywords.{is_file, takes_size, keyword_number, same_keyword, most_lines}
-use Rattle.vt_conf.specs.Lines.{lines_of, words_of_line}
+use Rattle.vt_conf.specs.Lines.{words_of_line}
 use Rattle.vt_conf.specs.Parsing.{lines_left, line_entry, AddsLine, IsBad, IsBadLine, HaveValues}
-use Rattle.vt_conf.specs.Settings.{IsSettingRead, IsValue, Misreads, LacksValue}
+use Rattle.vt_conf.specs.Settings.{IsValue, Misreads}
 use Rattle.vt_conf.proofs.TextLines.{line_at, all_left, none_left, next_left, line_within}
 
 -- ---- keywords
@@ -246,6 +245,7 @@ refused_is_cause text line BadAddress h = h
 refused_is_cause text line Repeated h = h
 refused_is_cause text line TooMany h = h
 refused_is_cause text line NotUtf8 h = absurd (not_by_line h.settings h.entry NotUtf8 h.refused (λ name values bad. bad.4) (λ e. cc) (λ e. cc))
+refused_is_cause text line CarriageReturn h = absurd (not_by_line h.settings h.entry CarriageReturn h.refused (λ name values bad. bad.4) (λ e. cc) (λ e. cc))
 refused_is_cause text line TooLong h = absurd (not_by_line h.settings h.entry TooLong h.refused (λ name values bad. bad.4) (λ e. cc) (λ e. cc))
 refused_is_cause text line NoArenas h = absurd (not_by_line h.settings h.entry NoArenas h.refused (λ name values bad. bad.4) (λ e. cc) (λ e. cc))
 refused_is_cause text line NoSections h = absurd (not_by_line h.settings h.entry NoSections h.refused (λ name values bad. bad.4) (λ e. cc) (λ e. cc))
@@ -287,12 +287,12 @@ none_said k settings is =
 
 pub size_of_first : (k : Keyword) (settings : List Setting) (s : Setting) (o : Option ℕ) (r default : ℕ) → HaveValues settings
     → takes_size k ≡ true → Some s ≡ find (is_of k) settings → ((n : ℕ) → SpellsSize n s.value → o ≡ Some n)
-    → r ≡ unwrap_or o default → IsSizeIn r (said k settings)
+    → r ≡ unwrap_or o default → IsSizeIn r default (said k settings)
 size_of_first k settings s o r default values takes is only at =
     let first = first_said k settings s is in
     let size = (first_has_value k settings first.0 s values first.1).size takes in
     let found : r ≡ size.0 = at ∙ ap (λ (q : Option ℕ). unwrap_or q default) (only size.0 size.1) in
-    subst (IsSizeIn r) (sym first.1) (subst (λ (n : ℕ). SpellsSize n s.value) (sym found) size.1)
+    subst (IsSizeIn r default) (sym first.1) (subst (λ (n : ℕ). SpellsSize n s.value) (sym found) size.1)
 
 pub address_of_first : (settings : List Setting) (s : Setting) (o : Option Address) (r default : Address) → HaveValues settings
     → Some s ≡ find (is_of Addr) settings → ((a : Address) → SpellsAddress a s.value → o ≡ Some a)

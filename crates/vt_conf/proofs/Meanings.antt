@@ -1,8 +1,7 @@
 -- A text has one meaning.
-use Rattle.std.proofs.Common.{◌≡◌, ℕ, zero, suc, ◌+◌, ◌*◌, ◌^◌, ◌<◌, ◌≤◌, inl, inr, ⊎_elim, Bool, true, false, cond, List, [], ◌∷◌, ◌++◌, Option, Some, None, length, get_or, take, drop, decimal, refl, sym, ◌∙◌, ap, subst, arith, length-append, codes}
-use Rattle.std.specs.Prelude.{◌==◌, ◌⊎◌, All, filter, map}
+use Rattle.std.proofs.Common.{◌≡◌, ℕ, ◌*◌, ◌≤◌, ⊎_elim, Bool, true, false, cond, List, [], ◌∷◌, ◌++◌, Option, Some, None, length, take, drop, refl, sym, ◌∙◌, ap, subst, arith, length-append, codes}
+use Rattle.std.specs.Prelude.{◌==◌, ◌⊎◌, All, map}
 use Rattle.std.specs.List.{position}
-use Rattle.std.specs.Str.{IsUtf8}
 use Rattle.std.proofs.Math.Nat.{mul-le-mul_left, mul-one}
 use Rattle.std.proofs.Math.Seq.{get_or-append_seam}
 use Rattle.std.proofs.lemmas.Bool.{cases_Bool}
@@ -16,11 +15,10 @@ use Rattle.vt_conf.specs.declared.keyword.Keyword.{Keyword}
 use Rattle.vt_conf.specs.declared.keyword.Keyword.TheVariants.{Index, Arenas, Isect, Bloom, Mem, Icmem, Addr}
 use Rattle.vt_conf.specs.declared.setting.Setting.{Setting}
 use Rattle.vt_conf.specs.declared.error.ConfCause.{ConfCause}
-use Rattle.vt_conf.specs.declared.error.ConfCause.TheVariants.{NotUtf8, TooLong, UnknownName, MissingValue, ExtraValue, BadSize, BadAddress, Repeated, TooMany, NoArenas, NoSections}
-use Rattle.vt_conf.specs.Addresses.{IsPort, SpellsParts, SpellsAddress}
-use Rattle.vt_conf.specs.Configuration.{Entry, line_entries, SetsSetting, AreSet, is_of, said, AreFew, file_of, first_part_file, name_in, IsSizeIn, IsAddressIn, SameConf, AreSettings, Configures, Exceeds, IsFirstRefused, IsFirstWrong, IsFirstCause}
+use Rattle.vt_conf.specs.declared.error.ConfCause.TheVariants.{NotUtf8, CarriageReturn, TooLong, UnknownName, MissingValue, ExtraValue, BadSize, BadAddress, Repeated, TooMany, NoArenas, NoSections}
+use Rattle.vt_conf.specs.Addresses.{IsPort, SpellsAddress}
+use Rattle.vt_conf.specs.Configuration.{Entry, line_entries, SetsSetting, AreSet, is_of, said, AreFew, file_of, first_part_file, name_in, IsSizeIn, IsAddressIn, SameConf, Configures, Exceeds, IsFirstRefused, IsFirstWrong, IsPlainLine, IsFirstCause}
 use Rattle.vt_conf.specs.Keywords.{keyword_of, takes_value, takes_size, takes_address, most_lines}
-use Rattle.vt_conf.specs.Lines.{lines_of}
 use Rattle.vt_conf.specs.Settings.{IsSizeText, IsAddress, IsValue, IsSettingRead, Misreads, values_of, value_count}
 use Rattle.vt_conf.specs.Sizes.{SpellsSize, unit_of}
 use Rattle.vt_conf.proofs.AddressTexts.{host_ends, same_address, venti_is_no_number}
@@ -131,9 +129,9 @@ same_settings (e ∷ es) (s ∷ ss) (t ∷ ts) one other =
 
 -- ---- configurations
 
-same_size_in : (a b : ℕ) (settings : List Setting) → IsSizeIn a settings → IsSizeIn b settings → a ≡ b
-same_size_in a b [] one other = one ∙ sym other
-same_size_in a b (s ∷ settings) one other = same_size s.value a b one other
+same_size_in : (a b default : ℕ) (settings : List Setting) → IsSizeIn a default settings → IsSizeIn b default settings → a ≡ b
+same_size_in a b default [] one other = one ∙ sym other
+same_size_in a b default (s ∷ settings) one other = same_size s.value a b one other
 
 same_address_in : (a b : Address) (settings : List Setting) → IsAddressIn a settings → IsAddressIn b settings → a ≡ b
 same_address_in a b [] one other = one ∙ sym other
@@ -149,8 +147,8 @@ same_conf text a b one other =
       arenas = x.arenas ∙ ap (λ (l : List Setting). map file_of (said Arenas l)) same ∙ sym y.arenas;
       sections = x.sections ∙ ap (λ (l : List Setting). map file_of (said Isect l)) same ∙ sym y.sections;
       filter = x.filter ∙ ap (λ (l : List Setting). first_part_file (map file_of (said Bloom l))) same ∙ sym y.filter;
-      mem = same_size_in a.mem b.mem (said Mem other.settings) (subst (λ (l : List Setting). IsSizeIn a.mem (said Mem l)) same x.mem) y.mem;
-      icmem = same_size_in a.icmem b.icmem (said Icmem other.settings) (subst (λ (l : List Setting). IsSizeIn a.icmem (said Icmem l)) same x.icmem) y.icmem;
+      mem = same_size_in a.mem b.mem _ (said Mem other.settings) (subst (λ (l : List Setting). IsSizeIn a.mem _ (said Mem l)) same x.mem) y.mem;
+      icmem = same_size_in a.icmem b.icmem _ (said Icmem other.settings) (subst (λ (l : List Setting). IsSizeIn a.icmem _ (said Icmem l)) same x.icmem) y.icmem;
       addr = same_address_in a.addr b.addr (said Addr other.settings) (subst (λ (l : List Setting). IsAddressIn a.addr (said Addr l)) same x.addr) y.addr;
     }
 
@@ -200,6 +198,7 @@ no_cause name values k v BadAddress is at fits bad =
     let value : bad.2 ≡ v = one_value k v bad.2 (sym bad.3 ∙ at) in
     bad.4.1 (subst IsAddress (sym value) (fits.address (ap takes_address same ∙ bad.4.0)))
 no_cause name values k v NotUtf8 is at fits bad = bad.4
+no_cause name values k v CarriageReturn is at fits bad = bad.4
 no_cause name values k v TooLong is at fits bad = bad.4
 no_cause name values k v Repeated is at fits bad = bad.4
 no_cause name values k v TooMany is at fits bad = bad.4
@@ -235,11 +234,18 @@ no_refusal text conf line why h r =
     (subst (λ (t : Setting). most_lines t.keyword ≤ length (said t.keyword r.settings)) same set.2.full))
     r.refused
 
+-- a line of a configuration is plain
+wrong_is_plain : (text : List ℕ) (conf : Conf) (line : ℕ) (why : ConfCause) → Configures text conf
+    → (cause : IsFirstWrong text line why) → IsPlainLine cause.wrong
+wrong_is_plain text conf line why h cause =
+    let all : All IsPlainLine (cause.before ++ cause.wrong ∷ cause.behind) = subst (All IsPlainLine) cause.split h.are.is_text.plain in
+    subst IsPlainLine (get_or-append_seam cause.before cause.wrong cause.behind [])
+    (all (length cause.before) [] (omega (arith, length-append cause.before (cause.wrong ∷ cause.behind))))
+
 pub no_cause_of_conf : (text : List ℕ) (conf : Conf) (line : ℕ) (why : ConfCause) → Configures text conf → IsFirstCause text line why → ⊥
-no_cause_of_conf text conf line NotUtf8 h cause =
-    let all : All IsUtf8 (cause.before ++ cause.wrong ∷ cause.behind) = subst (All IsUtf8) cause.split h.are.is_text.utf8 in
-    cause.no_utf8 (subst IsUtf8 (get_or-append_seam cause.before cause.wrong cause.behind [])
-    (all (length cause.before) [] (omega (arith, length-append cause.before (cause.wrong ∷ cause.behind)))))
+no_cause_of_conf text conf line NotUtf8 h cause = cause.is_wrong (wrong_is_plain text conf line NotUtf8 h cause).utf8
+no_cause_of_conf text conf line CarriageReturn h cause =
+    let no : false ≡ true = sym (wrong_is_plain text conf line CarriageReturn h cause).unreturned ∙ cause.is_wrong.1 in cc
 no_cause_of_conf text conf line TooLong h cause = omega (arith, h.are.is_text.most, cause.2)
 no_cause_of_conf text conf line NoArenas h cause =
     let same : h.settings ≡ cause.1 = same_settings (line_entries text) h.settings cause.1 h.are.set cause.2.set in

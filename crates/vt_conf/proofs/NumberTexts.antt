@@ -1,13 +1,13 @@
 -- The decimal digits of a number are read, and nothing else is taken for them.
-use Rattle.std.proofs.Common.{◌≡◌, ℕ, ◌+◌, ◌^◌, ◌<◌, ◌≤◌, inl, inr, ⊎_elim, Bool, true, false, cond, List, [], ◌∷◌, Result, Ok, Err, Some, None, Bor, length, get_or, decimal, refl, sym, ◌∙◌, ap, subst, arith, lit<}
-use Rattle.std.specs.Prelude.{◌==◌, ◌&&◌, nat_le, slice_index, IfSome}
+use Rattle.std.proofs.Common.{◌≡◌, ℕ, ◌^◌, ◌<◌, ◌≤◌, ⊎_elim, Bool, true, false, cond, List, [], ◌∷◌, Result, Ok, Err, Some, None, Bor, length, get_or, decimal, sym, ◌∙◌, ap, subst, arith, lit<}
+use Rattle.std.specs.Prelude.{◌==◌, nat_le, slice_index, IfSome}
 use Rattle.std.specs.Result.{result_ok, is_err, MatchResult}
 use Rattle.std.specs.Str.{IsUtf8, IsAscii, IsValidUpTo, valid_up_to}
 use Rattle.std.specs.declared.str.Utf8Error.{Utf8Error}
 use Rattle.std.specs.Char.{is_ascii_digit}
 use Rattle.std.specs.Int.{IsInRange}
 use Rattle.std.specs.List.{prefix_len}
-use Rattle.std.specs.Str.Parse.{ParsesUnsigned, digits_value, AllDigits, IsNumeral}
+use Rattle.std.specs.Str.Parse.{ParsesUnsigned, digits_value, IsNumeral}
 use Rattle.std.proofs.lemmas.Bool.{cases_Bool, and_parts, eqb-true, leb-true, cases_lt}
 use Rattle.std.proofs.lemmas.Bool.Decides.{nat_tests}
 use Rattle.std.proofs.lemmas.List.Sums.{prefix_len_passes, prefix_len_is}

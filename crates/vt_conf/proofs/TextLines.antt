@@ -1,14 +1,14 @@
 -- The lines of a text, one after another.
-use Rattle.std.proofs.Common.{◌≡◌, ℕ, ◌+◌, ◌<◌, ◌≤◌, ⊎_elim, Bool, true, false, cond, List, [], ◌∷◌, ◌++◌, length, get_or, take, drop, refl, sym, ◌∙◌, ap, subst, arith, append_assoc, length-append, length-drop}
-use Rattle.std.specs.Prelude.{◌==◌, not, nat_le, All}
-use Rattle.std.specs.List.{position_or_len, slice_split, before_first, after_first}
-use Rattle.std.specs.Str.{IsUtf8}
+use Rattle.std.proofs.Common.{◌≡◌, ℕ, ◌+◌, ◌<◌, ◌≤◌, ⊎_elim, Bool, true, false, cond, List, [], ◌∷◌, ◌++◌, length, get_or, drop, refl, sym, ◌∙◌, ap, subst, arith, append_assoc, length-append, length-drop}
+use Rattle.std.specs.Prelude.{◌==◌, not, All}
+use Rattle.std.specs.List.{position_or_len, before_first, after_first}
 use Rattle.std.proofs.lemmas.Bool.{cases_Bool, cases_lt, le-leb, lt-leb}
-use Rattle.std.proofs.lemmas.List.{append-nil, drop-drop, drop_all, length-take-le, take_all}
+use Rattle.std.proofs.lemmas.List.{append-nil, drop-drop, length-take-le, take_all}
 use Rattle.std.proofs.lemmas.List.Elements.{All-nil, All-push}
 use Rattle.std.proofs.lemmas.List.Splits.{slice_split_none, slice_split_first}
 use Rattle.std.proofs.lemmas.List.Sums.{prefix_len_passes, prefix_len-le-length}
-use Rattle.vt_conf.specs.Configuration.{IsFirstWrong}
+use Rattle.vt_conf.specs.declared.error.ConfCause.{ConfCause}
+use Rattle.vt_conf.specs.Configuration.{IsFirstWrong, IsPlainLine, IsWrongLine}
 use Rattle.vt_conf.specs.Lines.{lines_of}
 use Rattle.vt_conf.specs.Parsing.{lines_left}
 
@@ -61,12 +61,12 @@ next_left text start next within is =
     ∙ ap (λ (ls : List (List ℕ)). line_at text start ∷ ls) (sym none))
     (cases_lt n (length rest))
 
--- the lines so far are UTF-8
+-- the lines so far are plain
 pub record HasPassed (text : List ℕ) (start number : ℕ) : Type 0 where
   pub passed : List (List ℕ)
   pub split : lines_of text ≡ passed ++ lines_left text start
   pub count : number ≡ length passed
-  pub utf8 : All IsUtf8 passed
+  pub plain : All IsPlainLine passed
   pub low : number ≤ start
   pub high : start ≤ length text + 1
 
@@ -75,7 +75,7 @@ none_passed text = record {
   passed = [];
   split = sym (all_left text);
   count = refl;
-  utf8 = All-nil IsUtf8;
+  plain = All-nil IsPlainLine;
   low = omega arith;
   high = omega arith;
 }
@@ -88,32 +88,32 @@ line_within text start within =
     omega (arith, length-drop start text, length-take-le n rest most)
 
 pub one_passed : (text line : List ℕ) (start number next : ℕ) → HasPassed text start number → start ≤ length text
-    → line ≡ line_at text start → next ≡ start + (length line + 1) → IsUtf8 line → HasPassed text next (number + 1)
-one_passed text line start number next h within is at utf8 =
+    → line ≡ line_at text start → next ≡ start + (length line + 1) → IsPlainLine line → HasPassed text next (number + 1)
+one_passed text line start number next h within is at plain =
     let at' : next ≡ start + (length (line_at text start) + 1) = at ∙ ap (λ (l : List ℕ). start + (length l + 1)) is in
     record {
       passed = h.passed ++ line ∷ [];
       split = h.split ∙ ap (λ (ls : List (List ℕ)). h.passed ++ ls) (next_left text start next within at' ∙ ap (λ (l : List ℕ). l ∷ lines_left text next) (sym is))
           ∙ sym (append_assoc h.passed (line ∷ []) (lines_left text next));
       count = omega (arith, h.count, length-append h.passed (line ∷ []));
-      utf8 = All-push IsUtf8 h.passed line h.utf8 utf8;
+      plain = All-push IsPlainLine h.passed line h.plain plain;
       low = omega (arith, h.low, at');
       high = omega (arith, line_within text start within, at');
     }
 
-pub all_passed : (text : List ℕ) (start number : ℕ) → HasPassed text start number → length text < start → All IsUtf8 (lines_of text)
+pub all_passed : (text : List ℕ) (start number : ℕ) → HasPassed text start number → length text < start → All IsPlainLine (lines_of text)
 all_passed text start number h behind =
-    subst (All IsUtf8) (sym (h.split ∙ ap (λ (ls : List (List ℕ)). h.passed ++ ls) (none_left text start behind) ∙ append-nil h.passed)) h.utf8
+    subst (All IsPlainLine) (sym (h.split ∙ ap (λ (ls : List (List ℕ)). h.passed ++ ls) (none_left text start behind) ∙ append-nil h.passed)) h.plain
 
-pub first_wrong : (text line : List ℕ) (start number : ℕ) → HasPassed text start number → start ≤ length text
-    → line ≡ line_at text start → ¬ (IsUtf8 line) → IsFirstWrong text (number + 1)
-first_wrong text line start number h within is wrong = record {
+pub first_wrong : (text line : List ℕ) (start number : ℕ) (why : ConfCause) → HasPassed text start number → start ≤ length text
+    → line ≡ line_at text start → IsWrongLine why line → IsFirstWrong text (number + 1) why
+first_wrong text line start number why h within is wrong = record {
   before = h.passed;
   wrong = line;
   behind = lines_left text (start + (length (line_at text start) + 1));
   split = h.split ∙ ap (λ (ls : List (List ℕ)). h.passed ++ ls)
       (next_left text start (start + (length (line_at text start) + 1)) within refl ∙ ap (λ (l : List ℕ). l ∷ lines_left text (start + (length (line_at text start) + 1))) (sym is));
   line_is = omega (arith, h.count);
-  utf8 = h.utf8;
-  no_utf8 = wrong;
+  plain = h.plain;
+  is_wrong = wrong;
 }

@@ -1,5 +1,5 @@
 -- Addresses as text (venti.conf(6)): `tcp!HOST!PORT`.
-use Rattle.std.specs.Prelude.{ℕ, ◌≡◌, ◌≢◌, ◌≤◌, ◌<◌, ◌^◌, ◌⊎◌, Option, Some, None, List, [], ◌∷◌, ◌++◌, length, codes, decimal}
+use Rattle.std.specs.Prelude.{ℕ, ◌≡◌, ◌≢◌, ◌≤◌, ◌<◌, ◌^◌, ◌⊎◌, Option, Some, None, List, ◌∷◌, ◌++◌, length, codes, decimal}
 use Rattle.std.specs.List.{All}
 use Rattle.vt_conf.specs.declared.address.Address.{Address}
 use Rattle.vt_conf.specs.declared.address.TheConstants.{VENTI_PORT}

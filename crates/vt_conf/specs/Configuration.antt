@@ -1,21 +1,21 @@
 -- What a configuration says, and why one is refused (venti.conf(6)).
-use Rattle.std.specs.Prelude.{ℕ, ◌≡◌, ◌<◌, ◌≤◌, ◌+◌, ◌^◌, ◌⊎◌, ⊤, Bool, All, List, [], ◌∷◌, ◌++◌, Option, Some, None, length, map, filter, codes}
+use Rattle.std.specs.Prelude.{ℕ, ◌≡◌, ◌<◌, ◌≤◌, ◌+◌, ◌⊎◌, ⊤, Bool, true, false, All, List, [], ◌∷◌, ◌++◌, Option, Some, None, length, map, filter, codes}
 use Rattle.std.specs.Str.{IsUtf8}
 use Rattle.vt_conf.specs.declared.TheConstants.{MAX_CONF}
 use Rattle.vt_conf.specs.declared.address.TheConstants.{VENTI_PORT}
 use Rattle.vt_conf.specs.declared.address.Address.{Address}
 use Rattle.vt_conf.specs.declared.conf.Conf.{Conf}
 use Rattle.vt_conf.specs.declared.conf.PartFile.{PartFile}
-use Rattle.vt_conf.specs.declared.conf.TheConstants.{DEFAULT_MEM}
+use Rattle.vt_conf.specs.declared.conf.TheConstants.{DEFAULT_MEM, DEFAULT_ICMEM}
 use Rattle.vt_conf.specs.declared.keyword.Keyword.{Keyword}
 use Rattle.vt_conf.specs.declared.keyword.Keyword.TheVariants.{Index, Arenas, Isect, Bloom, Mem, Icmem, Addr}
 use Rattle.vt_conf.specs.declared.setting.Setting.{Setting}
 use Rattle.vt_conf.specs.declared.error.ConfCause.{ConfCause}
-use Rattle.vt_conf.specs.declared.error.ConfCause.TheVariants.{NotUtf8, TooLong, UnknownName, MissingValue, ExtraValue, BadSize, BadAddress, Repeated, TooMany, NoArenas, NoSections}
+use Rattle.vt_conf.specs.declared.error.ConfCause.TheVariants.{NotUtf8, CarriageReturn, TooLong, NoArenas, NoSections}
 use Rattle.vt_conf.specs.Addresses.{SpellsAddress}
 use Rattle.vt_conf.specs.Exceeding.{exceeded_by}
 use Rattle.vt_conf.specs.Keywords.{most_lines, same_keyword}
-use Rattle.vt_conf.specs.Lines.{lines_of, words_of_line}
+use Rattle.vt_conf.specs.Lines.{lines_of, words_of_line, ends_in_return}
 use Rattle.vt_conf.specs.Settings.{IsSettingRead, Misreads}
 use Rattle.vt_conf.specs.Sizes.{SpellsSize}
 
@@ -78,9 +78,9 @@ name_in [] = codes "main"
 name_in (setting ∷ settings) = setting.value
 
 -- the size that the first of these settings spells, or the default where there is none
-abbrev pub IsSizeIn : (size : ℕ) → List Setting → Type 0
-IsSizeIn size [] = size ≡ DEFAULT_MEM
-IsSizeIn size (setting ∷ settings) = SpellsSize size setting.value
+abbrev pub IsSizeIn : (size default : ℕ) → List Setting → Type 0
+IsSizeIn size default [] = size ≡ default
+IsSizeIn size default (setting ∷ settings) = SpellsSize size setting.value
 
 -- the address that the first of these settings spells, or every host at Venti's port where there is
 -- none
@@ -94,8 +94,8 @@ pub record ComeTo (settings : List Setting) (conf : Conf) : Type 0 where
   pub arenas : conf.arenas.items ≡ map file_of (said Arenas settings)
   pub sections : conf.sections.items ≡ map file_of (said Isect settings)
   pub filter : conf.filter ≡ first_part_file (map file_of (said Bloom settings))
-  pub mem : IsSizeIn conf.mem (said Mem settings)
-  pub icmem : IsSizeIn conf.icmem (said Icmem settings)
+  pub mem : IsSizeIn conf.mem DEFAULT_MEM (said Mem settings)
+  pub icmem : IsSizeIn conf.icmem DEFAULT_ICMEM (said Icmem settings)
   pub addr : IsAddressIn conf.addr (said Addr settings)
 
 -- two configurations say the same
@@ -108,9 +108,14 @@ pub record SameConf (a b : Conf) : Type 0 where
   pub icmem : a.icmem ≡ b.icmem
   pub addr : a.addr ≡ b.addr
 
--- each line is UTF-8, and they are not too many bytes
+-- the line is UTF-8, and no carriage return ends it
+pub record IsPlainLine (line : List ℕ) : Type 0 where
+  pub utf8 : IsUtf8 line
+  pub unreturned : ends_in_return line ≡ false
+
+-- each line is plain, and they are not too many bytes
 pub record IsConfText (text : List ℕ) : Type 0 where
-  pub utf8 : All IsUtf8 (lines_of text)
+  pub plain : All IsPlainLine (lines_of text)
   pub most : length text ≤ MAX_CONF
 
 -- each line sets something, and no keyword stands on too many lines
@@ -150,21 +155,29 @@ pub record IsFirstRefused (text : List ℕ) (line : ℕ) (why : ConfCause) : Typ
   pub few : AreFew settings
   pub refused : RefusesLine settings entry why
 
--- the first line that isn't UTF-8
-pub record IsFirstWrong (text : List ℕ) (line : ℕ) : Type 0 where
+-- why the line isn't plain: the first of the two tests that fails
+abbrev pub IsWrongLine : ConfCause → (line : List ℕ) → Type 0
+IsWrongLine NotUtf8 line = ¬ IsUtf8 line
+IsWrongLine CarriageReturn line = IsUtf8 line × (ends_in_return line ≡ true)
+IsWrongLine why line = ⊥
+
+-- the first line that isn't plain, and why it isn't
+pub record IsFirstWrong (text : List ℕ) (line : ℕ) (why : ConfCause) : Type 0 where
   pub before : List (List ℕ)
   pub wrong : List ℕ
   pub behind : List (List ℕ)
   pub split : lines_of text ≡ before ++ wrong ∷ behind
   pub line_is : line ≡ length before + 1
-  pub utf8 : All IsUtf8 before
-  pub no_utf8 : ¬ IsUtf8 wrong
+  pub plain : All IsPlainLine before
+  pub is_wrong : IsWrongLine why wrong
 
--- The first test that fails: whether the lines are UTF-8, and not too many bytes; each line, in
--- order; and that there are files of arenas and of sections.
+-- The first test that fails: whether the lines are UTF-8 and end without a carriage return, and
+-- are not too many bytes; each line, in order; and that there are files of arenas and of sections.
 abbrev pub IsFirstCause : (text : List ℕ) → (line : ℕ) → ConfCause → Type 0
-IsFirstCause text line NotUtf8 = IsFirstWrong text line
-IsFirstCause text line TooLong = (line ≡ 0) × All IsUtf8 (lines_of text) × (MAX_CONF < length text)
+IsFirstCause text line NotUtf8 = IsFirstWrong text line NotUtf8
+IsFirstCause text line CarriageReturn = IsFirstWrong text line CarriageReturn
+IsFirstCause text line TooLong = (line ≡ 0) × All IsPlainLine (lines_of text)
+    × (MAX_CONF < length text)
 IsFirstCause text line NoArenas = (line ≡ 0)
     × (settings : List Setting) × AreSettings text settings × (said Arenas settings ≡ [])
 IsFirstCause text line NoSections = (line ≡ 0)

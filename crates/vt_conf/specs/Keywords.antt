@@ -1,5 +1,5 @@
 -- The first words of lines (venti.conf(6)).
-use Rattle.std.specs.Prelude.{ℕ, ◌==◌, Bool, true, false, not, if◌then◌else◌, List, Option, Some, None, codes}
+use Rattle.std.specs.Prelude.{ℕ, ◌==◌, Bool, true, false, if◌then◌else◌, List, Option, Some, None, codes}
 use Rattle.std.specs.Str.{bytes_eq}
 use Rattle.vt_conf.specs.declared.TheConstants.{MAX_FILES}
 use Rattle.vt_conf.specs.declared.keyword.Keyword.{Keyword}

@@ -1,10 +1,14 @@
 -- The lines of a configuration and their words (venti.conf(6)).
-use Rattle.std.specs.Prelude.{ℕ, ◌==◌, ◌||◌, not, Bool, List, [], ◌∷◌, slice_index, length, nat_lt, filter, take_while}
+use Rattle.std.specs.Prelude.{ℕ, ◌==◌, ◌-◌, ◌||◌, ◌&&◌, not, Bool, List, slice_index, length, nat_lt, filter, take_while}
 use Rattle.std.specs.List.{slice_split}
 
 -- a line ends with a newline or with the text
 abbrev pub lines_of : List ℕ → List (List ℕ)
 lines_of text = slice_split (λ b. b == 10) text
+
+-- a byte 13 is the last of the line, as it is where lines end as those of DOS do
+abbrev pub ends_in_return : List ℕ → Bool
+ends_in_return line = nat_lt 0 (length line) && (slice_index line (length line - 1) == 13)
 
 -- a space or a tab
 abbrev pub is_blank : ℕ → Bool

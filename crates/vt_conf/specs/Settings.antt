@@ -1,6 +1,6 @@
 -- What a line of a configuration sets (venti.conf(6)): its first word is a keyword, and the next
 -- one its value, if it takes one.
-use Rattle.std.specs.Prelude.{ℕ, ◌≡◌, ◌<◌, ◌⊎◌, ⊤, if◌then◌else◌, Bool, true, List, [], ◌∷◌, Option, Some, None, length}
+use Rattle.std.specs.Prelude.{ℕ, ◌≡◌, ◌<◌, ◌⊎◌, if◌then◌else◌, true, List, [], ◌∷◌, Some, None, length}
 use Rattle.vt_conf.specs.declared.address.Address.{Address}
 use Rattle.vt_conf.specs.declared.keyword.Keyword.{Keyword}
 use Rattle.vt_conf.specs.declared.error.ConfCause.{ConfCause}

@@ -1,6 +1,6 @@
 -- Sizes as text (venti.conf(6)): a number of bytes, or of 1,024 bytes, the square or the cube of
 -- that, where a letter stands behind it.
-use Rattle.std.specs.Prelude.{ℕ, ◌≡◌, ◌==◌, ◌||◌, ◌*◌, ◌<◌, ◌^◌, ◌⊎◌, if◌then◌else◌, Option, Some, None, List, [], ◌∷◌, ◌++◌, decimal}
+use Rattle.std.specs.Prelude.{ℕ, ◌≡◌, ◌==◌, ◌||◌, ◌*◌, ◌<◌, ◌^◌, if◌then◌else◌, Option, Some, None, List, [], ◌∷◌, ◌++◌, decimal}
 
 -- what a letter stands for: k, m or g, in either case
 abbrev pub unit_of : ℕ → Option ℕ

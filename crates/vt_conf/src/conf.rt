@@ -3,8 +3,11 @@
 use crate::Address;
 use vt_base::Text;
 
-/// How many bytes each cache has where a configuration doesn't say it.
-pub const DEFAULT_MEM: u64 = 1 << 20;
+/// How many bytes the cache of blocks has where a configuration doesn't say it: room for 1,170 of
+/// the largest, so that reading a folder of some thousand files finds the blocks above them here.
+pub const DEFAULT_MEM: u64 = 64 << 20;
+/// How many bytes the cache of index entries has where a configuration doesn't say it.
+pub const DEFAULT_ICMEM: u64 = 1 << 20;
 
 /// A file that a configuration names, and the line that names it, counted from 1.
 #[derive(Drop)]

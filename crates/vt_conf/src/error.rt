@@ -10,6 +10,8 @@ use std::alloc::{AllocError, AllocFailed};
 pub enum ConfCause {
     /// The line isn't UTF-8.
     NotUtf8,
+    /// The line ends with a carriage return, as those of a text with DOS line ends do.
+    CarriageReturn,
     /// More than 65,536 bytes.
     TooLong,
     /// The line's first word is none of those known.
@@ -91,6 +93,7 @@ pub fn conf_text(why: &ConfCause) -> &'static str
 {
     match why {
         ConfCause::NotUtf8 => "not utf-8",
+        ConfCause::CarriageReturn => "ends with a carriage return",
         ConfCause::TooLong => "too long",
         ConfCause::UnknownName => "unknown name",
         ConfCause::MissingValue => "missing value",

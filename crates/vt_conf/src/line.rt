@@ -2,7 +2,7 @@
 
 ghost use Rattle.std.specs.Prelude.{◌≡◌, ◌<◌, ◌≤◌, false, [], ◌∷◌, length, slice_index, IfSome, IfNone};
 ghost use Rattle.std.specs.List.{prefix_len, position_or_len};
-ghost use Rattle.vt_conf.specs.Lines.{words_of_line, is_blank};
+ghost use Rattle.vt_conf.specs.Lines.{words_of_line, ends_in_return, is_blank};
 
 /// The first word of a line, and what stands behind it. Spaces and tabs separate words. A word that
 /// begins with `#` is none: it and all behind it is a comment.
@@ -16,6 +16,13 @@ pub(crate) fn next_word(line: &[u8]) -> Option<(&[u8], &[u8])>
         return None;
     }
     Some(line.split_at(word_len(line)))
+}
+
+/// Whether a carriage return is the line's last byte.
+pub(crate) fn ends_in_return(line: &[u8]) -> bool
+    ensures { result ≡ ends_in_return line.now }
+{
+    !line.is_empty() && line[line.len() - 1] == b'\r'
 }
 
 /// A line without the blanks at its front.

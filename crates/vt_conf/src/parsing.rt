@@ -2,14 +2,14 @@
 
 ghost use Rattle.std.specs.Prelude.{◌≡◌, ◌≤◌, ◌==◌, length, All, IfErr, IfOk, OnOk};
 ghost use Rattle.std.specs.List.{before_first, position_or_len};
-ghost use Rattle.std.specs.Str.{IsUtf8};
-ghost use Rattle.vt_conf.specs.Configuration.{Configures, IsFirstCause, IsFirstWrong, IsConfText};
+ghost use Rattle.vt_conf.specs.Configuration.{Configures, IsFirstCause, IsFirstWrong, IsConfText, IsPlainLine, IsWrongLine};
 ghost use Rattle.vt_conf.specs.Configuration.{AreSettings};
 ghost use Rattle.vt_conf.specs.Lines.{lines_of};
 ghost use Rattle.vt_conf.specs.Parsing.{AddsLine, IsBad, IsBadLine};
 
 use crate::conf::Conf;
 use crate::error::{ConfBad, ConfCause, ConfErr};
+use crate::line::ends_in_return;
 use crate::said::{conf_of, count};
 use crate::setting::{Setting, read_line};
 use crate::{Keyword, MAX_CONF};
@@ -47,31 +47,42 @@ fn test_text(text: &[u8]) -> Result<(), ConfBad>
     ensures ok { OnOk result (IsConfText text.now) }
     ensures bad { IfErr result (λ bad. IsFirstCause text.now bad.line bad.why) }
 {
-    test_utf8(text)?;
+    test_lines(text)?;
     if text.len() > MAX_CONF {
         return Err(whole(ConfCause::TooLong));
     }
     Ok(())
 }
 
-/// Whether each line of a text is UTF-8. The first that isn't is refused with its number.
-fn test_utf8(text: &[u8]) -> Result<(), ConfBad>
-    ensures ok { OnOk result (All IsUtf8 (lines_of text.now)) }
-    ensures bad { IfErr result (λ bad. (bad.why ≡ ConfCause.NotUtf8)
-        × IsFirstWrong text.now bad.line) }
+/// Whether each line of a text is UTF-8, and none ends with a carriage return. The first that isn't
+/// so is refused with its number.
+fn test_lines(text: &[u8]) -> Result<(), ConfBad>
+    ensures ok { OnOk result (All IsPlainLine (lines_of text.now)) }
+    ensures bad { IfErr result (λ bad. IsFirstWrong text.now bad.line bad.why) }
 {
     let mut number = 0;
     let mut start = 0;
     while start <= text.len() {
         let line = first_line(&text[start..]);
         number += 1;
-        if str::from_utf8(line).is_err() {
-            return Err(ConfBad {
-                line: number,
-                why: ConfCause::NotUtf8,
-            });
+        if let Err(why) = test_line(line) {
+            return Err(ConfBad { line: number, why });
         }
         start += line.len() + 1;
+    }
+    Ok(())
+}
+
+/// Whether a line is UTF-8 and ends without a carriage return: one would be part of a file's name.
+fn test_line(line: &[u8]) -> Result<(), ConfCause>
+    ensures ok { OnOk result (IsPlainLine line.now) }
+    ensures bad { IfErr result (λ why. IsWrongLine why line.now) }
+{
+    if str::from_utf8(line).is_err() {
+        return Err(ConfCause::NotUtf8);
+    }
+    if ends_in_return(line) {
+        return Err(ConfCause::CarriageReturn);
     }
     Ok(())
 }

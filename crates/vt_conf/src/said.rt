@@ -7,7 +7,7 @@ ghost use Rattle.vt_conf.specs.Configuration.{first_part_file, is_of};
 ghost use Rattle.vt_conf.specs.Keywords.{takes_size};
 ghost use Rattle.vt_conf.specs.Parsing.{HaveValues};
 
-use crate::conf::{Conf, DEFAULT_MEM, PartFile};
+use crate::conf::{Conf, DEFAULT_ICMEM, DEFAULT_MEM, PartFile};
 use crate::setting::Setting;
 use crate::{Address, Keyword, VENTI_PORT, parse_address, parse_size};
 use std::alloc::{AllocError, Global};
@@ -23,8 +23,8 @@ pub(crate) fn conf_of(alloc: Global, settings: &[Setting]) -> Result<Conf, Alloc
         arenas: files_of(alloc, settings, Keyword::Arenas)?,
         sections: files_of(alloc, settings, Keyword::Isect)?,
         filter: first_file(alloc, settings, Keyword::Bloom)?,
-        mem: size_in(settings, Keyword::Mem),
-        icmem: size_in(settings, Keyword::Icmem),
+        mem: size_in(settings, Keyword::Mem, DEFAULT_MEM),
+        icmem: size_in(settings, Keyword::Icmem, DEFAULT_ICMEM),
         addr: address_in(alloc, settings)?,
     })
 }
@@ -96,15 +96,15 @@ fn name_in(alloc: Global, settings: &[Setting]) -> Result<Text, AllocError>
     }
 }
 
-/// The size that the settings of a keyword say.
-fn size_in(settings: &[Setting], keyword: Keyword) -> u64
+/// The size that the settings of a keyword say, or the default where they say none.
+fn size_in(settings: &[Setting], keyword: Keyword, default: u64) -> u64
     requires values { HaveValues settings.now }
     requires size { takes_size keyword ≡ true }
-    ensures { IsSizeIn result (said keyword settings.now) }
+    ensures { IsSizeIn result default (said keyword settings.now) }
 {
     match first(settings, keyword) {
-        Some(setting) => parse_size(setting.value.as_slice()).unwrap_or(DEFAULT_MEM),
-        None => DEFAULT_MEM,
+        Some(setting) => parse_size(setting.value.as_slice()).unwrap_or(default),
+        None => default,
     }
 }
 

@@ -1,4 +1,3 @@
-use Rattle.std.proofs.Common.{◌≡◌}
 use Rattle.vt_conf.proofs.AddressTexts.{yes_address, no_address}
 use Rattle.vt_conf.proofs.address.is_address.Goals as goal
 

@@ -1,4 +1,3 @@
-use Rattle.std.proofs.Common.{◌≡◌}
 use Rattle.vt_conf.proofs.AddressTexts.{same_address}
 use Rattle.vt_conf.proofs.address.parse_address.Goals as goal
 

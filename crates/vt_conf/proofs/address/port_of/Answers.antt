@@ -1,4 +1,4 @@
-use Rattle.std.proofs.Common.{◌≡◌, ℕ, List, Some, ⊎_elim, length, arith, ap, sym, ◌∙◌, codes}
+use Rattle.std.proofs.Common.{◌≡◌, Some, ⊎_elim, ap, sym, ◌∙◌, codes}
 use Rattle.std.proofs.lemmas.Slice.Eq.{bytes_eq-Decides}
 use Rattle.vt_conf.proofs.AddressTexts.{venti_is_no_number}
 use Rattle.vt_conf.proofs.address.port_of.Goals as goal

@@ -1,10 +1,10 @@
-use Rattle.std.proofs.Common.{◌≡◌, ℕ, List, Some, None, ⊎_elim, ◌∷◌, ◌++◌, ◌+◌, ◌-◌, length, take, drop, arith, ap, subst, sym, ◌∙◌, codes}
+use Rattle.std.proofs.Common.{◌≡◌, ℕ, List, Some, None, ◌∷◌, ◌++◌, ◌+◌, ◌-◌, length, take, drop, arith, ap, subst, sym, ◌∙◌, codes}
 use Rattle.std.proofs.lemmas.Bool.Decides.{Decides-eqb}
 use Rattle.std.proofs.lemmas.List.{take_rest, append_cancel_left}
 use Rattle.std.proofs.lemmas.Slice.Eq.{strip_prefix_is}
 use Rattle.std.proofs.lemmas.Bool.{eqb-true}
 use Rattle.std.proofs.lemmas.Option.{same_Some}
-use Rattle.vt_conf.specs.Addresses.{SpellsParts, IsPort}
+use Rattle.vt_conf.specs.Addresses.{IsPort}
 use Rattle.vt_conf.proofs.AddressTexts.{EndsAt, ends_at, no_end, cut_at_mark, drop-drop_more, parts_of}
 use Rattle.vt_conf.proofs.address.split_address.Goals as goal
 

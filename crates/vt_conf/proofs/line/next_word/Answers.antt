@@ -1,6 +1,6 @@
-use Rattle.std.proofs.Common.{◌≡◌, ℕ, ◌∷◌, List, [], drop, take, length, get_or, ap, arith, ◌∙◌, sym, eqb-true}
+use Rattle.std.proofs.Common.{◌≡◌, ℕ, ◌∷◌, List, drop, take, ap, ◌∙◌, sym}
 use Rattle.std.specs.List.{position_or_len}
-use Rattle.vt_conf.specs.Lines.{words_of_line, is_blank, is_comment}
+use Rattle.vt_conf.specs.Lines.{words_of_line, is_blank}
 use Rattle.vt_conf.proofs.LineWords.{first_word, no_words, no_words_in_comment}
 use Rattle.vt_conf.proofs.line.next_word.Goals as goal
 use Rattle.vt_conf.proofs.line.next_word.Goals.{then-is_empty-via-then-is_empty, then-is_empty-via-else-is_empty+then-line-eq35}

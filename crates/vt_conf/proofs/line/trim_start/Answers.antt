@@ -1,7 +1,5 @@
-use Rattle.std.proofs.Common.{◌≡◌, ℕ, ◌+◌, ◌<◌, List, false, drop, length, get_or, ap, subst, arith, ◌∙◌, sym, add-zero, length-drop}
-use Rattle.std.specs.List.{prefix_len}
-use Rattle.std.proofs.lemmas.List.{take_rest, get_or-drop}
-use Rattle.std.proofs.lemmas.List.Sums.{prefix_len_stops}
+use Rattle.std.proofs.Common.{◌≡◌, ℕ, ◌<◌, List, false, drop, length, get_or, ap, subst, ◌∙◌, sym}
+use Rattle.std.proofs.lemmas.List.{take_rest}
 use Rattle.vt_conf.specs.Lines.{words_of_line, is_blank}
 use Rattle.vt_conf.proofs.LineWords.{words_behind_blanks, starts_plain}
 use Rattle.vt_conf.proofs.line.trim_start.Goals as goal

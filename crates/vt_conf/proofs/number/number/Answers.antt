@@ -1,6 +1,5 @@
-use Rattle.std.proofs.Common.{◌≡◌, ℕ, Some, None, decimal, length, ap, subst, arith, ◌∙◌, sym, refl}
+use Rattle.std.proofs.Common.{◌≡◌, decimal, length, ap, subst, arith, ◌∙◌, sym}
 use Rattle.std.specs.Prelude.{IfSome}
-use Rattle.std.specs.Str.{IsUtf8}
 use Rattle.vt_conf.specs.Numbers.{number_len}
 use Rattle.vt_conf.proofs.NumberTexts.{parsed_is, number_is_parsed, len_of_digits, is_text, text_is}
 use Rattle.vt_conf.proofs.number.number.Goals as goal

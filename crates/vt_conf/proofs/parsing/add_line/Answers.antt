@@ -1,4 +1,4 @@
-use Rattle.std.proofs.Common.{◌≡◌, ◌≤◌, ℕ, List, inr, length, refl, ap, arith, subst}
+use Rattle.std.proofs.Common.{◌≡◌, ◌≤◌, List, inr, length, refl, ap, arith, subst}
 use Rattle.std.specs.Prelude.{IfSome}
 use Rattle.vt_conf.specs.declared.setting.Setting.{Setting}
 use Rattle.vt_conf.specs.Configuration.{said}

@@ -1,4 +1,4 @@
-use Rattle.std.proofs.Common.{◌≡◌, List, sym, subst}
+use Rattle.std.proofs.Common.{List, sym, subst}
 use Rattle.vt_conf.specs.declared.setting.Setting.{Setting}
 use Rattle.vt_conf.specs.Configuration.{line_entries}
 use Rattle.vt_conf.specs.Parsing.{HaveValues}

@@ -1,4 +1,4 @@
-use Rattle.std.proofs.Common.{◌≡◌, ℕ, Some, None, refl, subst, ap, sym, ◌∙◌}
+use Rattle.std.proofs.Common.{None, refl, subst, ap, sym, ◌∙◌}
 use Rattle.std.specs.Option.{option_copied}
 use Rattle.vt_conf.specs.declared.keyword.Keyword.TheVariants.{Addr}
 use Rattle.vt_conf.specs.Configuration.{IsAddressIn}

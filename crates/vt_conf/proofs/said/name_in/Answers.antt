@@ -1,4 +1,4 @@
-use Rattle.std.proofs.Common.{◌≡◌, List, ℕ, subst, ap, sym, ◌∙◌, codes}
+use Rattle.std.proofs.Common.{◌≡◌, List, ℕ, subst, ap, sym, ◌∙◌}
 use Rattle.std.specs.Prelude.{IfOk}
 use Rattle.std.specs.Option.{option_copied}
 use Rattle.vt_conf.specs.declared.keyword.Keyword.TheVariants.{Index}

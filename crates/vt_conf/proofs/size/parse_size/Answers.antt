@@ -1,4 +1,4 @@
-use Rattle.std.proofs.Common.{◌≡◌, ℕ, Some, None, arith, ap, ◌∙◌, sym}
+use Rattle.std.proofs.Common.{Some, ap, ◌∙◌, sym}
 use Rattle.vt_conf.proofs.SizeTexts.{no_size_of_none, size_with_letter, size_without_letter}
 use Rattle.vt_conf.proofs.size.parse_size.Goals as goal
 

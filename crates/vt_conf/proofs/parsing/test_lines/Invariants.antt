@@ -1,6 +1,6 @@
 use Rattle.std.proofs.Common.{◌+◌, ◌-◌, length}
 use Rattle.vt_conf.proofs.TextLines.{HasPassed}
-use Rattle.vt_conf.proofs.parsing.test_utf8.Given as goal
+use Rattle.vt_conf.proofs.parsing.test_lines.Given as goal
 
 abbrev pub invariant-loop-start : goal.invariant-loop-start
 invariant-loop-start l = HasPassed l.text l.start l.number
