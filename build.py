@@ -29,12 +29,12 @@ FOLDER = os.path.join(TOP, "crates", PROGRAM)
 LOG = os.path.join(FOLDER, "out", "build.log")
 # GiB of memory: what the checks that go on at a time may take by the peaks of each, what one takes at most, and what the
 # large ones do. Peaks hardly come at one time: of 6.3 GiB by these peaks 5.0 were seen.
-MEMORY, PEAK = 6.8, 1.4
+MEMORY, PEAK = 7.2, 1.4
 PEAKS = {
-    "vt_core": 2.5, "vt_shard": 2.3, "vt_rehearse": 2.3, "vt_format": 2.2, "run_base": 2.2, "vt_use": 2.2,
-    "run_stores": 2.0, "vt_host": 2.0, "vt_empty": 2.0, "vt_isect": 1.8, "vt_rebuild": 1.8, "vt_recover": 1.8,
-    "vt_partitions": 1.8, "nine_view": 1.8, "vt_requests": 1.7, "vt_open": 1.7, "vt_log": 1.7, "run_archives": 1.7,
-    "vac_read": 1.7, "vt_lookup": 1.7, "vt_arena": 1.6, "vt_cli": 1.6, "vt_bloom": 1.5, "vt_tree": 1.5,
+    "run_archives": 2.7, "run_base": 2.6, "vt_core": 2.6, "run_sessions": 2.5, "vt_rehearse": 2.4, "vt_use": 2.3,
+    "vt_shard": 2.2, "vt_format": 2.2, "run_stores": 2.0, "vt_host": 2.0, "vt_empty": 2.0, "vt_recover": 1.8,
+    "vt_rebuild": 1.8, "vt_partitions": 1.8, "nine_view": 1.8, "vt_maintain": 1.7, "vac_read": 1.7, "vt_cli": 1.7,
+    "vt_isect": 1.7, "vt_log": 1.6, "vt_requests": 1.6, "vt_open": 1.6, "vt_tree": 1.6, "vt_arena": 1.6, "vt_bloom": 1.5,
 }
 # What is called of the script rt, with arguments as they are given here; `share_work` only where there is one.
 CALLS = [
@@ -94,8 +94,8 @@ def ask_once(rt):
 
 
 def peak(crate, jobs):
-    """GiB of memory that proving a crate by so many processes may take: each further one takes less than the first."""
-    return PEAKS.get(crate.name, PEAK) * (1 + 0.6 * (jobs - 1))
+    """GiB of memory that proving a crate by so many processes may take."""
+    return PEAKS.get(crate.name, PEAK) * jobs
 
 
 def lines_of(rt, crate):
