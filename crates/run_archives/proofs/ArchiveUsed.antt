@@ -3,7 +3,7 @@ use Rattle.std.proofs.Common.{◌≡◌, ℕ, ◌<◌, ◌^◌, Bool, true, List
 use Rattle.std.specs.Prelude.{IfOk, IsTrue, OnErr}
 use Rattle.vt_disk.specs.Members.{DiskOf}
 use Rattle.vt_out.specs.declared.folder_item.Facts.{Facts}
-use Rattle.vt_out.specs.FolderItems.{Items}
+use Rattle.vt_out.specs.FolderItems.{FailingPaths, Items}
 use Rattle.vt_use.specs.Change.{DialerChange, PartsChange}
 use Rattle.vt_use.specs.Members.{LinkOf}
 use Rattle.vt_use.specs.Places.{Doing, UsesAt}
@@ -13,29 +13,38 @@ use Rattle.vt_use.specs.declared.used_at.UsedAt.{UsedAt}
 use Rattle.vt_use.proofs.Narrower.{told_beside, uses_less}
 use Rattle.vac_write.specs.declared.archived.Archived.{Archived}
 use Rattle.vac_write.specs.declared.error.VacErr.{VacErr}
-use Rattle.vac_write.specs.Archiving.{CountsFailures, IsSeen}
+use Rattle.vac_write.specs.Archiving.{CountsFailures, FolderRead}
 use Rattle.vac_store.specs.Storing.{ArchivesOrGivesUp, CountsFailuresAt, archived_at}
 use Rattle.vac_store.proofs.Into.{came_failures}
 
 module _ {P D N L W : Type 0} (score : List ℕ → List ℕ) (disk : DiskOf D) (link : LinkOf L)
     (at : StoreAt) (now bsize : ℕ) (parts : PartsChange P D) (dialer : DialerChange N L)
-    (before after : W) (tells : Bool) (held : W → Items Facts) (faults : W → ℕ) where
+    (before after : W) (tells : Bool) (held : W → Items Facts) (failing : W → FailingPaths)
+    (faults : W → ℕ) where
+  -- the folder, as it was read
+  abbrev seen : FolderRead
+  seen = record {
+    tells = tells;
+    held = held before;
+    failing = failing before;
+    faults = faults before;
+    faults' = faults after;
+  }
+
   -- it stays, where that is told, and its count tells of its failed calls
   abbrev Stays : Result Archived VacErr → Type 0
   Stays answer = CountsFailures answer (faults before) (faults after)
-      × (IsTrue tells → held after ≡ held before)
+      × (IsTrue tells → (held after ≡ held before) × (failing after ≡ failing before))
 
   abbrev Archives : Result Archived VacErr → Doing
   Archives answer = λ S act holds calls from to.
-      ArchivesOrGivesUp act holds score bsize (IsSeen tells (held before) (faults before)
-      (faults after)) answer calls from to
+      ArchivesOrGivesUp act holds score bsize seen answer calls from to
 
   abbrev Job : Result Archived VacErr → Doing
   Job answer = λ S act holds calls from to.
-      ArchivesOrGivesUp act holds score bsize (IsSeen tells (held before) (faults before)
-      (faults after)) answer calls from to
+      ArchivesOrGivesUp act holds score bsize seen answer calls from to
       × CountsFailures answer (faults before) (faults after)
-      × (IsTrue tells → held after ≡ held before)
+      × (IsTrue tells → (held after ≡ held before) × (failing after ≡ failing before))
 
   module _ (used : Result (UsedAt (Result Archived VacErr)) StoreError)
       (x : UsesAt score disk link at now true Job used parts dialer) where
@@ -58,11 +67,12 @@ module _ {P D N L W : Type 0} (score : List ℕ → List ℕ) (disk : DiskOf D) 
             u.blocks u.closed told.0
         of (Err bad) told same = (0, omega (arith, fits, ap faults same))
 
-    pub stays_so : OnErr used (after ≡ before) → IsTrue tells → held after ≡ held before
+    pub stays_so : OnErr used (after ≡ before) → IsTrue tells
+        → (held after ≡ held before) × (failing after ≡ failing before)
     stays_so same told = of used beside same
       where
         of : (used : Result (UsedAt (Result Archived VacErr)) StoreError)
             → IfOk used (λ u. Stays u.output) → OnErr used (after ≡ before)
-            → held after ≡ held before
+            → (held after ≡ held before) × (failing after ≡ failing before)
         of (Ok u) it same = it.1 told
-        of (Err bad) it same = ap held same
+        of (Err bad) it same = (ap held same, ap failing same)

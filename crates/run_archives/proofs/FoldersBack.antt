@@ -4,7 +4,7 @@ use Rattle.std.specs.Prelude.{bytes_eq, min}
 use Rattle.std.proofs.lemmas.Bool.{cases_Bool}
 use Rattle.std.proofs.lemmas.Slice.Eq.{bytes_eq-Decides}
 use Rattle.vt_out.specs.declared.folder_item.Facts.{Facts}
-use Rattle.vt_out.specs.FolderItems.{Items}
+use Rattle.vt_out.specs.FolderItems.{FailingPaths, Items}
 use Rattle.vt_out.specs.FolderStanding.{Standing, lent, there}
 use Rattle.vac_write.specs.declared.error.VacErr.TheVariants as vac
 use Rattle.vac_store.specs.declared.outcome.ArchiveError.{ArchiveError}
@@ -26,13 +26,13 @@ same_everywhere old new name here apart other = ⊎_elim
 
 -- one that is back with what it held
 pub back_again : (old mid new : List ℕ → Standing) (name : List ℕ) (held left : Items Facts)
-    → old name ≡ there held → mid name ≡ lent → (mid name ≡ lent → new name ≡ there left)
-    → left ≡ held
+    (failing behind : FailingPaths) → old name ≡ there held failing → mid name ≡ lent
+    → (mid name ≡ lent → new name ≡ there left behind) → left ≡ held → behind ≡ failing
     → ((other : List ℕ) → other ≢ name → mid other ≡ old other)
     → ((other : List ℕ) → other ≢ name → new other ≡ mid other) → (other : List ℕ)
     → new other ≡ old other
-back_again old mid new name held left was out back same apart apart' = same_everywhere old new name
-    (back out ∙ ap there same ∙ sym was)
+back_again old mid new name held left failing behind was out back same paths apart apart' =
+    same_everywhere old new name (back out ∙ (λ i. there (same i) (paths i)) ∙ sym was)
     (λ other differs. apart' other differs ∙ apart other differs)
 
 -- its failed calls count among those of the folders

@@ -4,5 +4,6 @@ pub mod ArchiveUsed
 pub mod ArchiveDone
 pub mod ArchivePrinted
 pub mod PutBehind
+pub mod Quoted
 pub mod ViewCauses
 pub mod ViewMade

@@ -10,7 +10,7 @@ use Rattle.vt_tree.specs.declared.error.TreeErr.TheVariants as trees
 use Rattle.vac_write.specs.declared.archived.Archived.{Archived}
 use Rattle.vac_write.specs.declared.error.VacErr.{VacErr}
 use Rattle.vac_write.specs.declared.error.VacErr.TheVariants as vac
-use Rattle.vac_write.specs.Archiving.{HasRisenBy, IsSeen}
+use Rattle.vac_write.specs.Archiving.{HasRisenBy}
 use Rattle.vac_store.specs.declared.outcome.ArchiveError.{ArchiveError}
 use Rattle.vac_store.specs.declared.outcome.ArchiveError.TheVariants as bads
 use Rattle.vac_store.specs.Storing.{ArchivesOrGivesUp, archived_at, came_to}
@@ -133,8 +133,8 @@ module _ {I P D N L K : Type 0} (score : List ℕ → List ℕ) (disk : DiskOf D
         as_told causes failure (unfit_for err) told (unfit_cause err x)
     refusal (bads.Store bad) failure x told = used_cause
         (λ answer S act holds calls from to.
-        ArchivesOrGivesUp act holds score bsize (IsSeen x.tells x.held 0 x.risen) answer calls from to) bad
-        failure told x.archives.used x.archives.uses x.archives.result_is
+        ArchivesOrGivesUp act holds score bsize x.folder answer calls from to) bad failure told
+        x.archives.used x.archives.uses x.archives.result_is
 
     stored_cause : (failure : CommandError)
         → StoresNone score disk link now store name at bsize failure folders parts dialer

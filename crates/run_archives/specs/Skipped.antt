@@ -1,5 +1,5 @@
 -- What is left out of an archive, and how its path is told.
-use Rattle.std.specs.Prelude.{ℕ, ◌+◌, ◌/◌, ◌%◌, ◌==◌, ◌||◌, nat_lt, is_some, position, Bool, if◌then◌else◌, List, [], ◌∷◌, ◌++◌, codes, map}
+use Rattle.std.specs.Prelude.{ℕ, ◌+◌, ◌/◌, ◌%◌, ◌==◌, ◌||◌, nat_lt, is_some, position, Bool, false, if◌then◌else◌, List, [], ◌∷◌, ◌++◌, codes, map}
 use Rattle.std.specs.List.{concat}
 use Rattle.vac_write.specs.declared.archived.Archived.{Archived}
 
@@ -24,9 +24,18 @@ escaped b = if is_control b
 abbrev pub in_quotes : (path : List ℕ) → List ℕ
 in_quotes path = 34 ∷ (concat (map escaped path) ++ 34 ∷ [])
 
--- a path as it is told: in quotes, where it holds a control character
+-- whether a path begins with a quote
+abbrev pub begins_with_quote : (path : List ℕ) → Bool
+begins_with_quote [] = false
+begins_with_quote (b ∷ path) = b == 34
+
+-- whether it has to be told in quotes: else it wouldn't stay in its line, or were told as one in quotes
+abbrev pub wants_quotes : (path : List ℕ) → Bool
+wants_quotes path = begins_with_quote path || is_some (position is_control path)
+
+-- a path as it is told: in quotes, where it begins with a quote or holds a control character
 abbrev pub quoted : (path : List ℕ) → List ℕ
-quoted path = if is_some (position is_control path) then in_quotes path else path
+quoted path = if wants_quotes path then in_quotes path else path
 
 -- ---- lines
 

@@ -1,18 +1,16 @@
 -- The command `vac STORE FOLDER`, with `-b BSIZE`: archives a folder into the store of a configuration,
 -- or at a server, and prints what the archive is found by (vac(1)).
-use Rattle.std.specs.Prelude.{ℕ, ◌≡◌, ◌⊎◌, ◌≤◌, ◌++◌, Bool, true, IsTrue, Option, Some, None, List, [], ◌∷◌, Result, Ok, Err, codes, decimal}
+use Rattle.std.specs.Prelude.{ℕ, ◌≡◌, ◌⊎◌, ◌≤◌, ◌++◌, true, IsTrue, Option, Some, None, List, [], ◌∷◌, Result, Ok, Err, codes, decimal}
 use Rattle.hex.specs.Hex.{encode_lower}
 use Rattle.vt_base.specs.Faults.{HasRisen}
 use Rattle.vt_conf.specs.Numbers.{wrong_digit}
 use Rattle.vt_disk.specs.Members.{DiskOf}
-use Rattle.vt_out.specs.declared.folder_item.Facts.{Facts}
-use Rattle.vt_out.specs.FolderItems.{Items}
 use Rattle.vt_out.specs.FolderStanding.{there}
 use Rattle.vt_tree.specs.declared.error.TreeErr.TheVariants as trees
 use Rattle.vac_model.specs.declared.TheConstants.{MIN_BLOCK_SIZE, MAX_BLOCK_SIZE}
 use Rattle.vac_write.specs.declared.error.VacErr.{VacErr}
 use Rattle.vac_write.specs.declared.error.VacErr.TheVariants as vac
-use Rattle.vac_write.specs.Archiving.{HasRisenBy, IsSeen}
+use Rattle.vac_write.specs.Archiving.{FolderRead, HasRisenBy}
 use Rattle.vt_use.specs.Places.{UsesAt}
 use Rattle.vt_use.specs.declared.used_at.StoreAt.{StoreAt}
 use Rattle.vt_use.specs.declared.used_at.StoreError.{StoreError}
@@ -87,16 +85,15 @@ abbrev pub StandAgain : FoldersChange → Type 0
 StandAgain folders =
     IsTrue folders.tells → (name : List ℕ) → folders.new name ≡ folders.old name
 
--- A folder of which this was seen was archived into the store at this place, with this result; or that
+-- This folder was archived into the store at this place, with this result; or that
 -- wasn't used, for its cause.
 pub record ArchivesAt {P D N L : Type 0} (score : List ℕ → List ℕ) (disk : DiskOf D)
     (link : LinkOf L) (at : StoreAt) (now bsize : ℕ)
-    (is_seen : (failed : ℕ) → Items Facts → Type 0)
-    (result : Result ArchivedAt ArchiveError) (parts : PartsChange P D) (dialer : DialerChange N L)
-    : Type 0 where
+    (folder : FolderRead) (result : Result ArchivedAt ArchiveError) (parts : PartsChange P D)
+    (dialer : DialerChange N L) : Type 0 where
   pub used : Result (UsedAt (Result Archived VacErr)) StoreError
   pub uses : UsesAt score disk link at now true (λ answer S act holds calls from to.
-      ArchivesOrGivesUp act holds score bsize is_seen answer calls from to) used parts dialer
+      ArchivesOrGivesUp act holds score bsize folder answer calls from to) used parts dialer
   pub result_is : result ≡ archived_at used
 
 -- The folder of this name was archived into the store at this place, with this result, and is back. The
@@ -106,16 +103,14 @@ pub record StoresFolder {P D N L : Type 0} (score : List ℕ → List ℕ) (disk
     (link : LinkOf L) (now : ℕ) (name : List ℕ) (at : StoreAt) (bsize : ℕ)
     (result : Result ArchivedAt ArchiveError) (folders : FoldersChange) (parts : PartsChange P D)
     (dialer : DialerChange N L) : Type 0 where
-  -- what the folder holds, if it tells it
-  pub tells : Bool
-  pub held : Items Facts
-  pub handed_out : IsTrue folders.tells → IsTrue tells × (folders.old name ≡ there held)
+  -- the folder that stood there, of which no call had failed before
+  pub folder : FolderRead
+  pub handed_out : IsTrue folders.tells
+      → IsTrue folder.tells × (folders.old name ≡ there folder.held folder.failing)
+  pub fresh : folder.faults ≡ 0
   pub back : StandAgain folders
-  -- how many of its calls have failed
-  pub risen : ℕ
-  pub rose : HasRisenBy risen folders.faults folders.faults'
-  pub archives : ArchivesAt score disk link at now bsize (IsSeen tells held 0 risen) result parts
-      dialer
+  pub rose : HasRisenBy folder.faults' folders.faults folders.faults'
+  pub archives : ArchivesAt score disk link at now bsize folder result parts dialer
   pub counted : CountsFailuresAt result folders.faults folders.faults'
 
 -- why no folder was handed out: a call failed, as where there is none, or memory ran out

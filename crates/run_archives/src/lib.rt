@@ -9,3 +9,4 @@ mod watched;
 
 pub use commands::vac::vac;
 pub use commands::vacfs::vacfs;
+pub use skipped::paths_are_told_apart;

@@ -1,11 +1,12 @@
 //! What is left out of an archive.
 // Tests: crates/run_tests_archives/src/vac.rt.
 
-ghost use Rattle.std.specs.Prelude.{◌≡◌, ◌++◌, IsTrue, OnErr, OnOk, is_some, map, position};
+ghost use Rattle.std.specs.Prelude.{◌≡◌, ◌++◌, ℕ, List, IsTrue, OnErr, OnOk, map, position};
 ghost use Rattle.std.specs.List.{concat};
 ghost use Rattle.vt_base.specs.Faults.{HasCause};
 ghost use Rattle.vt_out.specs.Streams.{AppendsPrefix};
-ghost use Rattle.run_archives.specs.Skipped.{escaped, in_quotes, is_control, is_quote, quoted};
+ghost use Rattle.run_archives.specs.Skipped.{begins_with_quote, escaped, in_quotes, is_control, is_quote};
+ghost use Rattle.run_archives.specs.Skipped.{quoted, wants_quotes};
 ghost use Rattle.run_archives.specs.Skipped.{left_out_lines, path_line, path_lines};
 
 use vac_write::Archived;
@@ -53,7 +54,8 @@ fn tell_path<F: Sink>(sink: &mut F, words: &[u8], path: &[u8]) -> Result<(), Fai
     sink.put(b"\n")
 }
 
-/// Puts a path, in quotes where it holds a control character, so that it stays in its line.
+/// Puts a path, in quotes where it holds a control character, so that it stays in its line, and
+/// where it begins with a quote, so that no other path is put so.
 fn put_path<F: Sink>(sink: &mut F, path: &[u8]) -> Result<(), Failed>
     ensures appended { OnOk result (IsTrue F.tells → F.written sink.new
         ≡ F.written sink.old ++ quoted path.now) }
@@ -61,18 +63,28 @@ fn put_path<F: Sink>(sink: &mut F, path: &[u8]) -> Result<(), Failed>
         (F.written sink.new) (quoted path.now)) }
     ensures cause { HasCause result (F.faults sink.old) (F.faults sink.new) }
 {
-    if has_control(path) {
+    if wants_quotes(path) {
         put_quoted(sink, path)
     } else {
         sink.put(path)
     }
 }
 
-/// Whether a path holds a control character.
-fn has_control(path: &[u8]) -> bool
-    ensures { result ≡ is_some (position is_control path.now) }
+/// Whether a path begins with a quote, or holds a control character.
+fn wants_quotes(path: &[u8]) -> bool
+    ensures { result ≡ wants_quotes path.now }
 {
-    first_control(path).is_some()
+    begins_with_quote(path) || first_control(path).is_some()
+}
+
+/// Whether a path begins with a quote.
+fn begins_with_quote(path: &[u8]) -> bool
+    ensures { result ≡ begins_with_quote path.now }
+{
+    match path {
+        [] => false,
+        [first, _rest @ ..] => *first == b'"',
+    }
 }
 
 /// The place of the first control character of a path.
@@ -139,3 +151,8 @@ fn is_quote(b: u8) -> bool
 {
     b == b'"' || b == b'\\'
 }
+
+/// Two paths that are told alike are the same.
+pub fn paths_are_told_apart()
+    ensures { (p q : List ℕ) → quoted p ≡ quoted q → p ≡ q }
+{}

@@ -103,6 +103,8 @@ impl<F: Folder, K: Sink + Drop> Folder for Watched<F, K> {
 
     ghost holds = { λ watched. F.holds (watched_folder watched) };
 
+    ghost may_fail = { λ watched. F.may_fail (watched_folder watched) };
+
     ghost faults = { λ watched. F.faults (watched_folder watched) };
 
     ghost holds_bytes = { λ watched. F.holds_bytes (watched_folder watched) };

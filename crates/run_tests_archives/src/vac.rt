@@ -56,7 +56,7 @@ type Archived = (
 );
 
 /// Scores by the formats alone, from another encoder.
-const ARCHIVED: [Archived; 15] = [
+const ARCHIVED: [Archived; 16] = [
     (VAC, b"a", &[], 0, LINE, SKIPPED),
     (VAC, b"a", &[], 0, LINE, SKIPPED),
     (
@@ -124,6 +124,14 @@ const ARCHIVED: [Archived; 15] = [
         6,
         WITHOUT_A,
         b"venti: skipped d/l\xff\nventi: can't read \"a\\012\\\"\\\\\"\nventi: read fault\n",
+    ),
+    (
+        VAC,
+        b"\"a",
+        &[1],
+        6,
+        WITHOUT_A,
+        b"venti: skipped d/l\xff\nventi: can't read \"\\\"a\"\nventi: read fault\n",
     ),
     (
         VAC,

@@ -3,8 +3,6 @@ use Rattle.std.proofs.Common.{◌≡◌, ℕ, ◌-◌, true, Option, Some, None,
 use Rattle.std.specs.Prelude.{IfErr, IfOk}
 use Rattle.vt_base.specs.declared.why.Why.{Why}
 use Rattle.vt_disk.specs.Members.{DiskOf}
-use Rattle.vt_out.specs.declared.folder_item.Facts.{Facts}
-use Rattle.vt_out.specs.FolderItems.{Items}
 use Rattle.vt_core.specs.Core.{CoreState, history_len}
 use Rattle.vt_requests.specs.Driven.{DrivenState}
 use Rattle.vt_blocks.specs.Local.{DoesLocal, HoldsLocal, LocalState}
@@ -20,21 +18,21 @@ use Rattle.vt_use.specs.declared.used_at.StoreError.{StoreError}
 use Rattle.vac_write.specs.declared.archived.Archived.{Archived}
 use Rattle.vac_write.specs.declared.error.VacErr.{VacErr}
 use Rattle.vac_write.specs.declared.error.VacErr.TheVariants.{FolderFault, Tree, BadName, TooDeep, NoMemory}
-use Rattle.vac_write.specs.Archiving.{CountsFailures, WritesArchive, GivesUpArchive}
+use Rattle.vac_write.specs.Archiving.{FolderRead, CountsFailures, WritesArchive, GivesUpArchive}
 use Rattle.vac_store.specs.declared.outcome.ArchivedAt.{ArchivedAt}
 use Rattle.vac_store.specs.declared.outcome.ArchiveError.{ArchiveError}
 use Rattle.vac_store.specs.Storing.{ArchivesByJob, ArchivesOrGivesUp, CountsFailuresAt, came_to, told}
 
 -- A folder was archived into a store, or that was given up, and the store's use was then ended.
 pub record ArchivesInto {D : Type 0} (score : List ℕ → List ℕ) (disk : DiskOf D) (now bsize : ℕ)
-    (is_seen : (failed : ℕ) → Items Facts → Type 0) (result : Result ArchivedAt ArchiveError)
+    (folder : FolderRead) (result : Result ArchivedAt ArchiveError)
     (old new : CoreState D) : Type 0 where
   pub answer : Result Archived VacErr
   pub kept : LocalState (DrivenState D)
   pub archives : IfOk answer (WritesArchive (DoesLocal (store_on score disk))
-      (HoldsLocal (store_on score disk) score) score (new_local (at_time now old)) kept bsize is_seen)
+      (HoldsLocal (store_on score disk) score) score (new_local (at_time now old)) kept bsize folder)
   pub gives_up : IfErr answer (GivesUpArchive (DoesLocal (store_on score disk))
-      (HoldsLocal (store_on score disk) score) score (new_local (at_time now old)) kept bsize is_seen)
+      (HoldsLocal (store_on score disk) score) score (new_local (at_time now old)) kept bsize folder)
   pub exchanges : List Exchange
   pub closed : Result (Unit {0}) Why
   pub asks : AsksAndEnds score disk now true exchanges closed old kept.store.core new
@@ -42,31 +40,31 @@ pub record ArchivesInto {D : Type 0} (score : List ℕ → List ℕ) (disk : Dis
       (history_len new - history_len old) (as_ended closed)
 
 module _ {D : Type 0} (score : List ℕ → List ℕ) (disk : DiskOf D) (now bsize : ℕ)
-    (is_seen : (failed : ℕ) → Items Facts → Type 0) (old new : CoreState D) where
+    (folder : FolderRead) (old new : CoreState D) where
   abbrev State : Type 0
   State = LocalState (DrivenState D)
 
   abbrev By : Result Archived VacErr → List Call → State → State → Type 0
   By answer = ArchivesOrGivesUp (DoesLocal (store_on score disk)) (HoldsLocal (store_on score disk) score)
-      score bsize is_seen answer
+      score bsize folder answer
 
   wrote_by : (answer : Result Archived VacErr) (calls : List Call) (l l' : State)
       → By answer calls l l' → IfOk answer (WritesArchive (DoesLocal (store_on score disk))
-      (HoldsLocal (store_on score disk) score) score l l' bsize is_seen)
+      (HoldsLocal (store_on score disk) score) score l l' bsize folder)
   wrote_by (Ok a) calls l l' it = it.archives.0
   wrote_by (Err err) calls l l' it = tt
 
   gave_by : (answer : Result Archived VacErr) (calls : List Call) (l l' : State)
       → By answer calls l l' → IfErr answer (GivesUpArchive (DoesLocal (store_on score disk))
-      (HoldsLocal (store_on score disk) score) score l l' bsize is_seen)
+      (HoldsLocal (store_on score disk) score) score l l' bsize folder)
   gave_by (Ok a) calls l l' it = tt
   gave_by (Err err) calls l l' it = it.gives_up.0
 
   -- a use of the store, by a job that archives
   pub into : (answer : Result Archived VacErr) (said : Option Why) (added : ℕ)
       (closed : Result (Unit {0}) Why)
-      → ArchivesByJob score disk now bsize is_seen answer said added closed old new
-      → ArchivesInto score disk now bsize is_seen
+      → ArchivesByJob score disk now bsize folder answer said added closed old new
+      → ArchivesInto score disk now bsize folder
       (came_to answer (as_refused said) added (as_ended closed)) old new
   into answer said added closed x =
       let d = x.does in
@@ -114,13 +112,13 @@ module _ (before after : ℕ) where
 -- ---- of any store of blocks
 
 module _ {S : Type 0} (act : S → Call → S → Type 0) (holds : S → Maps → Type 0)
-    (score_of : List ℕ → List ℕ) (bsize : ℕ) (is_seen : (failed : ℕ) → Items Facts → Type 0) (s s' : S) where
+    (score_of : List ℕ → List ℕ) (bsize : ℕ) (folder : FolderRead) (s s' : S) where
   -- its calls are those that are told
   pub archived_by : (answer : Result Archived VacErr)
-      → IfOk answer (WritesArchive act holds score_of s s' bsize is_seen)
-      → IfErr answer (GivesUpArchive act holds score_of s s' bsize is_seen)
+      → IfOk answer (WritesArchive act holds score_of s s' bsize folder)
+      → IfErr answer (GivesUpArchive act holds score_of s s' bsize folder)
       → (calls : List Call) × Makes act s calls s'
-      × ArchivesOrGivesUp act holds score_of bsize is_seen answer calls s s'
+      × ArchivesOrGivesUp act holds score_of bsize folder answer calls s s'
   archived_by (Ok a) wrote gave =
       (wrote.calls, wrote.made, record { archives = (wrote, refl); gives_up = tt })
   archived_by (Err err) wrote gave =

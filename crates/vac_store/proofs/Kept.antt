@@ -29,8 +29,8 @@ use Rattle.vac_model.specs.Trees.{IsTreeOf}
 use Rattle.vac_write.specs.declared.archived.Archived.{Archived}
 use Rattle.vac_write.specs.declared.error.VacErr.{VacErr}
 use Rattle.vac_write.specs.declared.error.VacErr.TheVariants.{FolderFault, Tree, BadName, TooDeep, NoMemory}
-use Rattle.vac_write.specs.Archiving.{KeepsArchive, PutsFor, WritesArchive, GivesUpArchive, IsGivenUpAs, refusal_of}
-use Rattle.vac_write.specs.Tried.{Tried, failures, whole, found}
+use Rattle.vac_write.specs.Archiving.{IsUnlisted, FolderRead, KeepsArchive, PutsFor, WritesArchive, GivesUpArchive, IsGivenUpAs, refusal_of, IsSeen}
+use Rattle.vac_write.specs.Tried.{Tried, whole, found}
 use Rattle.vac_model.specs.Limits.{first_unfit}
 use Rattle.vac_store.specs.declared.outcome.ArchiveError.{ArchiveError}
 use Rattle.vac_store.specs.declared.outcome.ArchivedAt.{ArchivedAt}
@@ -43,20 +43,21 @@ use Rattle.vac_store.proofs.Written.{Holds, IsOwnRefusal, puts_so}
 
 -- what the store said no for is told of a refusal of its, and nothing else
 told_because : (score : List ℕ → List ℕ) (c : Setup) (last : History) (rest : List Block)
-    (seen : Items Facts) (err : VacErr) (refused : Option Why) → IsGivenUpAs err (first_unfit seen)
+    (folder : FolderRead) (seen : Items Facts) (err : VacErr) (refused : Option Why)
+    → IsGivenUpAs (IsUnlisted folder) err (first_unfit seen)
     → IfSome (refusal_of err) (λ e. IsOwnRefusal score c last rest refused)
-    → IsBecause score c last rest seen (told err (as_refused refused))
-told_because score c last rest seen FolderFault refused cause because = cause
-told_because score c last rest seen (Tree (trees.Block err)) None cause because = absurd because
-told_because score c last rest seen (Tree (trees.Block err)) (Some why) cause because = because
-told_because score c last rest seen (Tree trees.SourceFault) refused cause because = cause
-told_because score c last rest seen (Tree (trees.BadEntry bad)) refused cause because = cause
-told_because score c last rest seen (Tree (trees.BadBlock depth len)) refused cause because = cause
-told_because score c last rest seen (Tree trees.TooLong) refused cause because = cause
-told_because score c last rest seen (Tree trees.NoMemory) refused cause because = cause
-told_because score c last rest seen (BadName path) refused cause because = cause
-told_because score c last rest seen (TooDeep path) refused cause because = cause
-told_because score c last rest seen NoMemory refused cause because = cause
+    → IsBecause score c last rest folder seen (told err (as_refused refused))
+told_because score c last rest folder seen FolderFault refused cause because = cause
+told_because score c last rest folder seen (Tree (trees.Block err)) None cause because = absurd because
+told_because score c last rest folder seen (Tree (trees.Block err)) (Some why) cause because = because
+told_because score c last rest folder seen (Tree trees.SourceFault) refused cause because = cause
+told_because score c last rest folder seen (Tree (trees.BadEntry bad)) refused cause because = cause
+told_because score c last rest folder seen (Tree (trees.BadBlock depth len)) refused cause because = cause
+told_because score c last rest folder seen (Tree trees.TooLong) refused cause because = cause
+told_because score c last rest folder seen (Tree trees.NoMemory) refused cause because = cause
+told_because score c last rest folder seen (BadName path) refused cause because = cause
+told_because score c last rest folder seen (TooDeep path) refused cause because = cause
+told_because score c last rest folder seen NoMemory refused cause because = cause
 
 -- the end of the store's use fails for a failure
 end_fails : {D : Type 0} (disk : DiskOf D) (why : Why) (kept new : CoreState D)
@@ -82,7 +83,7 @@ all_put put rest blocks are none =
     sym (append-nil put) ∙ ap (λ (l : List Block). put ++ l) (sym none) ∙ are
 
 module _ {D : Type 0} (score : List ℕ → List ℕ) (disk : DiskOf D)
-    (now bsize : ℕ) (is_seen : (failed : ℕ) → Items Facts → Type 0) (h : History) (old new : CoreState D)
+    (now bsize : ℕ) (folder : FolderRead) (h : History) (old new : CoreState D)
     (tells : IsTrue disk.tells) (sound : IsSound score disk old h) where
   abbrev Does : LocalState (DrivenState D) → Call → LocalState (DrivenState D) → Type 0
   Does = DoesLocal (store_on score disk)
@@ -112,7 +113,7 @@ module _ {D : Type 0} (score : List ℕ → List ℕ) (disk : DiskOf D)
   }
 
   module _ (result : Result ArchivedAt ArchiveError)
-      (it : ArchivesInto score disk now bsize is_seen result old new)
+      (it : ArchivesInto score disk now bsize folder result old new)
       (leave : (last : History) → IsSound score disk it.kept.store.core last
       → LeftByUse score disk true it.closed last old it.kept.store.core new) where
     module _ (tried : Tried) (all : List Block) (none_left : Type 0) (err : Option BlockErr)
@@ -133,10 +134,10 @@ module _ {D : Type 0} (score : List ℕ → List ℕ) (disk : DiskOf D)
       grown : length last ≡ length h + (history_len new - history_len old)
       grown = omega (arith, sound.log.front, leaves.sound.log.front, leaves.keeps.store.len)
 
-      keeps_so : (is : is_seen (failures tried) (whole tried)) → PutsFor score bsize tried all
-          → IfErr result (IsBecause score (setup_of old) last so.rest (found tried))
+      keeps_so : (is : IsSeen folder tried) → PutsFor score bsize tried all
+          → IfErr result (IsBecause score (setup_of old) last so.rest folder (found tried))
           → IfOk result Stored
-          → KeepsFolder score disk bsize is_seen result h old new
+          → KeepsFolder score disk bsize folder result h old new
       keeps_so is puts because done = record {
         tried = tried;
         is = is;
@@ -156,7 +157,7 @@ module _ {D : Type 0} (score : List ℕ → List ℕ) (disk : DiskOf D)
 
     -- it was archived
     module _ (a : Archived)
-        (w : WritesArchive Does Has score start it.kept bsize is_seen a) where
+        (w : WritesArchive Does Has score start it.kept bsize folder a) where
       abbrev blocks : List Block
       blocks = w.all
 
@@ -190,7 +191,7 @@ module _ {D : Type 0} (score : List ℕ → List ℕ) (disk : DiskOf D)
       -- nothing is left but the end of the store's use
       because : (closed : Result (Unit {0}) Why) → it.closed ≡ closed
           → IfErr (came_to (Ok a) (as_refused it.kept.refused) added (as_ended closed))
-          (IsBecause score (setup_of old) behind so.rest (found w.tried))
+          (IsBecause score (setup_of old) behind so.rest folder (found w.tried))
       because (Ok end) is = tt
       because (Err why) is = subst (λ (bs : List Block). IsRefusedFor score (setup_of old) behind bs
           why) (sym (so.whole refl)) (
@@ -219,25 +220,25 @@ module _ {D : Type 0} (score : List ℕ → List ℕ) (disk : DiskOf D)
       )
 
       wrote_so : result ≡ came_to (Ok a) (as_refused it.kept.refused) added (as_ended it.closed)
-          → KeepsFolder score disk bsize is_seen result h old new
+          → KeepsFolder score disk bsize folder result h old new
       wrote_so is = keeps_so w.tried w.all all_asked None so w.is w.puts
           (subst (λ (r : Result ArchivedAt ArchiveError). IfErr r
-          (IsBecause score (setup_of old) behind so.rest (found w.tried))) (sym is)
+          (IsBecause score (setup_of old) behind so.rest folder (found w.tried))) (sym is)
           (because it.closed refl))
           (subst (λ (r : Result ArchivedAt ArchiveError). IfOk r
           (Stored w.tried w.all all_asked None so)) (sym is) (done it.closed refl))
 
     -- it was given up
     gave_so : (err : VacErr)
-        → GivesUpArchive Does Has score start it.kept bsize is_seen err
+        → GivesUpArchive Does Has score start it.kept bsize folder err
         → result ≡ Err (told err (as_refused it.kept.refused))
-        → KeepsFolder score disk bsize is_seen result h old new
+        → KeepsFolder score disk bsize folder result h old new
     gave_so err gave is = keeps_so gave.tried gave.all (gave.rest ≡ []) (refusal_of err) so gave.is
         gave.puts
         (subst (λ (r : Result ArchivedAt ArchiveError). IfErr r (IsBecause score (setup_of old)
-        (all_written score (setup_of old) h so.put) so.rest (found gave.tried))) (sym is)
+        (all_written score (setup_of old) h so.put) so.rest folder (found gave.tried))) (sym is)
         (told_because score (setup_of old) (all_written score (setup_of old) h so.put) so.rest
-        (found gave.tried) err it.kept.refused gave.cause so.because))
+        folder (found gave.tried) err it.kept.refused gave.cause so.because))
         (subst (λ (r : Result ArchivedAt ArchiveError). IfOk r
         (Stored gave.tried gave.all (gave.rest ≡ []) (refusal_of err) so)) (sym is) tt)
       where
@@ -245,14 +246,14 @@ module _ {D : Type 0} (score : List ℕ → List ℕ) (disk : DiskOf D)
         so = puts_so score disk tells (refusal_of err) gave.rest gave.all gave.calls h start it.kept
             sound refl gave.made gave.refused gave.asked
 
-    pub keeps_folder : KeepsFolder score disk bsize is_seen result h old new
+    pub keeps_folder : KeepsFolder score disk bsize folder result h old new
     keeps_folder = of it.answer it.archives it.gives_up it.result_is
       where
         of : (answer : Result Archived VacErr)
-            → IfOk answer (WritesArchive Does Has score start it.kept bsize is_seen)
-            → IfErr answer (GivesUpArchive Does Has score start it.kept bsize is_seen)
+            → IfOk answer (WritesArchive Does Has score start it.kept bsize folder)
+            → IfErr answer (GivesUpArchive Does Has score start it.kept bsize folder)
             → result ≡ came_to answer (as_refused it.kept.refused)
             (history_len new - history_len old) (as_ended it.closed)
-            → KeepsFolder score disk bsize is_seen result h old new
+            → KeepsFolder score disk bsize folder result h old new
         of (Ok a) w gave is = wrote_so a w is
         of (Err err) w gave is = gave_so err gave is

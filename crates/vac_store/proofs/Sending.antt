@@ -4,8 +4,6 @@ use Rattle.vt_base.specs.Protocol.{TMessage, RMessage, t_ask, r_sync, r_write, s
 use Rattle.vt_client.specs.Clients.{ClientState}
 use Rattle.vt_client.specs.Exchanges.{traffic_of}
 use Rattle.vt_client.specs.Stores.{DoesAsClient}
-use Rattle.vt_out.specs.declared.folder_item.Facts.{Facts}
-use Rattle.vt_out.specs.FolderItems.{Items}
 use Rattle.vt_model.specs.History.{Block}
 use Rattle.vt_tree.specs.Calls.{Call, get, put, sync, asked_of, refusal_of, refusals_of, write_of_block}
 use Rattle.vt_use.specs.Members.{LinkOf}
@@ -13,7 +11,7 @@ use Rattle.vt_use.specs.Places.{holds_nothing}
 use Rattle.vt_remote.specs.Exchanged.{Exchanged, exchange_of, sent_behind}
 use Rattle.vt_remote.proofs.Calling.{accepted_first}
 use Rattle.vac_write.specs.declared.archived.Archived.{Archived}
-use Rattle.vac_write.specs.Archiving.{WritesArchive}
+use Rattle.vac_write.specs.Archiving.{FolderRead, WritesArchive}
 use Rattle.vac_store.specs.Sent.{IsSent, all_taken_in, as_messages, counted_blocks}
 
 -- ---- the calls of an archive
@@ -102,14 +100,14 @@ sent_are (b ∷ blocks) (call ∷ calls) n accepted asked fits =
 -- ---- what was told
 
 module _ {L : Type 0} (link : LinkOf L) (score_of : List ℕ → List ℕ) (bsize : ℕ)
-    (is_seen : (failed : ℕ) → Items Facts → Type 0) (archived : Archived) (c c' : ClientState L) (back : L)
-    (w : WritesArchive (DoesAsClient link score_of) holds_nothing score_of c c' bsize is_seen archived)
+    (folder : FolderRead) (archived : Archived) (c c' : ClientState L) (back : L)
+    (w : WritesArchive (DoesAsClient link score_of) holds_nothing score_of c c' bsize folder archived)
   where
     pub is_sent : (calls : List Call) → w.calls ≡ calls
         → (refusals_of calls ≡ []
         → Exchanged (map (exchange_of score_of) calls) (traffic_of link back))
         → c'.sent ≡ sent_behind calls 0
-        → IsSent score_of bsize is_seen (record { archived = archived; blocks = c'.sent })
+        → IsSent score_of bsize folder (record { archived = archived; blocks = c'.sent })
         (traffic_of link back)
     is_sent calls are exchanged sent = record {
       tried = w.tried;

@@ -3,8 +3,6 @@
 use Rattle.std.specs.Prelude.{ℕ, ◌≡◌, ◌-◌, ◌<◌, ◌^◌, ⊤, min, None, List, [], ◌∷◌, ◌++◌, length, map}
 use Rattle.vt_base.specs.Protocol.{Operation, RMessage, TMessage, r_sync, r_write, sync, t_ask}
 use Rattle.vt_client.specs.Exchanges.{Traffic}
-use Rattle.vt_out.specs.declared.folder_item.Facts.{Facts}
-use Rattle.vt_out.specs.FolderItems.{Items}
 use Rattle.vt_model.specs.History.{Block}
 use Rattle.vt_remote.specs.Exchanged.{Exchanged}
 use Rattle.vt_tree.specs.declared.error.TreeErr.TheVariants as trees
@@ -14,8 +12,8 @@ use Rattle.vac_model.specs.Kept.{archived, count, skipped}
 use Rattle.vac_model.specs.Limits.{HaveTimes, first_unfit}
 use Rattle.vac_write.specs.declared.error.VacErr.{VacErr}
 use Rattle.vac_write.specs.declared.error.VacErr.TheVariants.{FolderFault, Tree, BadName, TooDeep, NoMemory}
-use Rattle.vac_write.specs.Archiving.{IsGivenUpAs, PutsFor}
-use Rattle.vac_write.specs.Tried.{Tried, whole, found, failed_at, failures}
+use Rattle.vac_write.specs.Archiving.{FolderRead, IsGivenUpAs, IsSeen, IsUnlisted, PutsFor}
+use Rattle.vac_write.specs.Tried.{Tried, found, failed_at}
 use Rattle.vac_store.specs.declared.outcome.ArchivedAt.{ArchivedAt}
 
 -- ---- an archive that was sent
@@ -40,10 +38,10 @@ counted_blocks n = min n (2 ^ 64 - 1)
 -- of which it tells what was skipped, and of what a call has failed; each block that is put for it was
 -- written, in order, and taken in with its own score, and behind them the server has committed; it is
 -- told how many these are; and nothing else was asked for over the link.
-pub record IsSent (score_of : List ℕ → List ℕ) (bsize : ℕ) (is_seen : (failed : ℕ) → Items Facts → Type 0)
+pub record IsSent (score_of : List ℕ → List ℕ) (bsize : ℕ) (folder : FolderRead)
     (sent : ArchivedAt) (back : Traffic) : Type 0 where
   pub tried : Tried
-  pub is : is_seen (failures tried) (whole tried)
+  pub is : IsSeen folder tried
   pub fit : first_unfit (found tried) ≡ None
   pub few : count (archived (found tried)) < 2 ^ 64
   pub times : HaveTimes (found tried)
@@ -70,9 +68,9 @@ IsOfFolder (BadName path) = ⊤
 IsOfFolder (TooDeep path) = ⊤
 IsOfFolder NoMemory = ⊤
 
--- what was found in a folder is unfit so, a call of it failed, or memory ran out
-pub record IsUnfitFor (is_seen : (failed : ℕ) → Items Facts → Type 0) (err : VacErr) : Type 0 where
+-- what was found in a folder is unfit so, the folder itself may fail to be listed, or memory ran out
+pub record IsUnfitFor (folder : FolderRead) (err : VacErr) : Type 0 where
   pub tried : Tried
-  pub is : is_seen (failures tried) (whole tried)
-  pub cause : IsGivenUpAs err (first_unfit (found tried))
+  pub is : IsSeen folder tried
+  pub cause : IsGivenUpAs (IsUnlisted folder) err (first_unfit (found tried))
   pub of_folder : IsOfFolder err

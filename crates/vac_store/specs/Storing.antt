@@ -31,8 +31,8 @@ use Rattle.vac_model.specs.Trees.{IsTreeOf}
 use Rattle.vac_write.specs.declared.archived.Archived.{Archived}
 use Rattle.vac_write.specs.declared.error.VacErr.{VacErr}
 use Rattle.vac_write.specs.declared.error.VacErr.TheVariants.{FolderFault, Tree}
-use Rattle.vac_write.specs.Archiving.{HasRisenBy, PutsFor, WritesArchive, GivesUpArchive, IsGivenUpAs}
-use Rattle.vac_write.specs.Tried.{Tried, whole, found, failed_at, failures}
+use Rattle.vac_write.specs.Archiving.{FolderRead, HasRisenBy, IsSeen, IsUnlisted, PutsFor, WritesArchive, GivesUpArchive, IsGivenUpAs}
+use Rattle.vac_write.specs.Tried.{Tried, found, failed_at}
 use Rattle.vac_store.specs.declared.outcome.ArchiveError.{ArchiveError}
 use Rattle.vac_store.specs.declared.outcome.ArchiveError.TheVariants.{Store, Folder}
 use Rattle.vac_store.specs.declared.outcome.ArchivedAt.{ArchivedAt}
@@ -70,21 +70,21 @@ CountsFailuresAt (Err bad) old new = (n : ℕ) × HasRisenBy n old new
 
 -- A folder was archived so into a store of blocks, by these calls, or that was given up.
 pub record ArchivesOrGivesUp {S : Type 0} (does : S → Call → S → Type 0) (holds : S → Maps → Type 0)
-    (score_of : List ℕ → List ℕ) (bsize : ℕ) (is_seen : (failed : ℕ) → Items Facts → Type 0)
+    (score_of : List ℕ → List ℕ) (bsize : ℕ) (folder : FolderRead)
     (answer : Result Archived VacErr) (calls : List Call) (old new : S) : Type 0 where
   pub archives : IfOk answer (λ a.
-      (w : WritesArchive does holds score_of old new bsize is_seen a) × (w.calls ≡ calls))
+      (w : WritesArchive does holds score_of old new bsize folder a) × (w.calls ≡ calls))
   pub gives_up : IfErr answer (λ err.
-      (w : GivesUpArchive does holds score_of old new bsize is_seen err) × (w.calls ≡ calls))
+      (w : GivesUpArchive does holds score_of old new bsize folder err) × (w.calls ≡ calls))
 
 -- so a store on devices is used by the job that archives a folder
 abbrev pub ArchivesByJob : {D : Type 0} → (List ℕ → List ℕ) → DiskOf D → (now bsize : ℕ)
-    → (is_seen : (failed : ℕ) → Items Facts → Type 0) → (answer : Result Archived VacErr) → (said : Option Why)
+    → (folder : FolderRead) → (answer : Result Archived VacErr) → (said : Option Why)
     → (added : ℕ) → (closed : Result (Unit {0}) Why) → (old new : CoreState D) → Type 0
-ArchivesByJob score disk now bsize is_seen answer said added closed old new =
+ArchivesByJob score disk now bsize folder answer said added closed old new =
     UsesCore score disk now true (DoesOnStore (store_on score disk)
     (ArchivesOrGivesUp (DoesLocal (store_on score disk)) (HoldsLocal (store_on score disk) score) score
-    bsize is_seen answer) said) added closed old new
+    bsize folder answer) said) added closed old new
 
 -- ---- what follows
 
@@ -104,10 +104,10 @@ pub record StandsIn (score : List ℕ → List ℕ) (bsize : ℕ) (tried : Tried
   pub failed : a.failed ≡ failed_at [] tried
   pub tree : IsTreeOf (held score last) a.score.0 (archived (found tried))
 
--- which refusal a folder is given up for, of which this is the first thing that is unfit
-abbrev pub IsUnfitAs : VacErr → Option Unfit → Type 0
-IsUnfitAs (Tree (trees.Block err)) unfit = ⊥
-IsUnfitAs err unfit = IsGivenUpAs err unfit
+-- which refusal this folder is given up for, of which this is the first thing that is unfit
+abbrev pub IsUnfitAs : FolderRead → VacErr → Option Unfit → Type 0
+IsUnfitAs folder (Tree (trees.Block err)) unfit = ⊥
+IsUnfitAs folder err unfit = IsGivenUpAs (IsUnlisted folder) err unfit
 
 -- the model refuses so the next of these blocks, or the store failed
 abbrev pub IsRefusedFor : (List ℕ → List ℕ) → Setup → History → (rest : List Block) → Why → Type 0
@@ -116,21 +116,21 @@ IsRefusedFor score c last (b ∷ rest) why =
     IsAnswer score c last (write b.kind b.bytes) (Err why)
 
 -- why there is no archive, of which these blocks aren't in the history
-abbrev pub IsBecause : (List ℕ → List ℕ) → Setup → History → (rest : List Block)
+abbrev pub IsBecause : (List ℕ → List ℕ) → Setup → History → (rest : List Block) → FolderRead
     → (seen : Items Facts) → ArchiveError → Type 0
-IsBecause score c last rest seen (Folder err) = IsUnfitAs err (first_unfit seen)
-IsBecause score c last rest seen (Store (Refused why)) = IsRefusedFor score c last rest why
-IsBecause score c last rest seen (Store (Unopened bad)) = ⊥
-IsBecause score c last rest seen (Store (Server bad)) = ⊥
+IsBecause score c last rest folder seen (Folder err) = IsUnfitAs folder err (first_unfit seen)
+IsBecause score c last rest folder seen (Store (Refused why)) = IsRefusedFor score c last rest why
+IsBecause score c last rest folder seen (Store (Unopened bad)) = ⊥
+IsBecause score c last rest folder seen (Store (Server bad)) = ⊥
 
 -- What the devices hold then: the history, and of the blocks that are put for the folder's archive the
 -- first, each if the model adds it. A crash leaves a prefix of that with all that is durable. Where a
 -- score is told, these are all of them, it is told how many are new, and no crash takes one away.
 pub record KeepsFolder {D : Type 0} (score : List ℕ → List ℕ) (disk : DiskOf D) (bsize : ℕ)
-    (is_seen : (failed : ℕ) → Items Facts → Type 0) (result : Result ArchivedAt ArchiveError) (h : History)
+    (folder : FolderRead) (result : Result ArchivedAt ArchiveError) (h : History)
     (old new : CoreState D) : Type 0 where
   pub tried : Tried
-  pub is : is_seen (failures tried) (whole tried)
+  pub is : IsSeen folder tried
   pub all : List Block
   pub puts : PutsFor score bsize tried all
   pub put : List Block
@@ -142,7 +142,7 @@ pub record KeepsFolder {D : Type 0} (score : List ℕ → List ℕ) (disk : Disk
   pub keeps : KeepsAll disk old new
   pub stands : EachStands score disk (setup_of old) old.log.tables new.log.durable (devices_of new)
       last
-  pub because : IfErr result (IsBecause score (setup_of old) last rest (found tried))
+  pub because : IfErr result (IsBecause score (setup_of old) last rest folder (found tried))
   pub done : IfOk result (λ s. (rest ≡ []) × StandsIn score bsize tried last s.archived
       × (length last ≡ length h + s.blocks)
       × AllStandFor score disk (setup_of old) old.log.tables (devices_of new) last (length last))

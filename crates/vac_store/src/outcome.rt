@@ -17,7 +17,7 @@ pub struct ArchivedAt {
 pub enum ArchiveError {
     /// The store wasn't opened, or not reached, or it said no, or failed.
     Store(StoreError),
-    /// A call of the folder failed before anything was asked, as its listing, it has something that
-    /// can't be archived, or memory ran out.
+    /// The folder itself couldn't be listed, it has something that can't be archived, or memory ran
+    /// out.
     Folder(VacErr),
 }

@@ -2,7 +2,6 @@
 
 ghost use Rattle.std.specs.Prelude.{◌≡◌, ◌≤◌, IsTrue};
 ghost use Rattle.vac_model.specs.declared.TheConstants.{MIN_BLOCK_SIZE, MAX_BLOCK_SIZE};
-ghost use Rattle.vac_write.specs.Archiving.{IsSeen};
 ghost use Rattle.vac_store.specs.Storing.{archived_at, came_to, told};
 
 use crate::{ArchiveError, ArchivedAt};
@@ -21,16 +20,18 @@ pub struct ArchiveFolder {
 impl<F: Folder> BlockJob<F> for ArchiveFolder {
     ghost use Rattle.std.specs.Prelude.{true};
     ghost use Rattle.vac_store.specs.Storing.{ArchivesOrGivesUp};
-    ghost use Rattle.vac_write.specs.Archiving.{CountsFailures};
+    ghost use Rattle.vac_write.specs.Archiving.{CountsFailures, folder_read};
 
     type Output = Result<Archived, VacErr>;
 
     ghost fits = { λ it folder. (MIN_BLOCK_SIZE ≤ it.bsize) × (it.bsize ≤ MAX_BLOCK_SIZE) };
 
     ghost does = { λ S act holds score_of it output before after calls old new.
-        ArchivesOrGivesUp act holds score_of it.bsize (IsSeen F.tells (F.holds before) (F.faults before) (F.faults after)) output calls old new
+        ArchivesOrGivesUp act holds score_of it.bsize (folder_read F.Folder before after) output
+        calls old new
         × CountsFailures output (F.faults before) (F.faults after)
-        × (IsTrue F.tells → F.holds after ≡ F.holds before) };
+        × (IsTrue F.tells → (F.holds after ≡ F.holds before)
+        × (F.may_fail after ≡ F.may_fail before)) };
 
     ghost writes = { λ it. true };
 

@@ -496,11 +496,13 @@ struct Growing {
 impl Folder for Growing {
     ghost use Rattle.std.specs.Prelude.{false};
     ghost use Rattle.std.proofs.Common.{arith};
-    ghost use Rattle.vt_out.specs.FolderItems.{none};
+    ghost use Rattle.vt_out.specs.FolderItems.{all_paths, none};
 
     ghost tells = { false };
 
     ghost holds = { λ _. none };
+
+    ghost may_fail = { λ _. all_paths };
 
     ghost faults = { λ _. 0 };
 

@@ -1,10 +1,12 @@
 -- When a fault of the folder is told.
 use Rattle.std.proofs.Common.{◌≡◌, ℕ, ◌<◌, ◌^◌, Bool, false, IfErr, Result, Ok, Err, refl, sym, ap, subst, arith}
-use Rattle.std.specs.Prelude.{MatchBool}
+use Rattle.std.specs.Prelude.{⊤, MatchBool, Option}
 use Rattle.vt_base.specs.Faults.{HasRisen}
+use Rattle.vt_tree.specs.declared.error.TreeErr.TheVariants as trees
+use Rattle.vac_model.specs.Limits.{Unfit}
 use Rattle.vac_write.specs.declared.error.VacErr.{VacErr}
 use Rattle.vac_write.specs.declared.error.VacErr.TheVariants.{FolderFault, Tree, BadName, TooDeep, NoMemory}
-use Rattle.vac_write.specs.Archiving.{CountsFailures, HasRisenAtLeast, HasRisenBy, is_folder_fault}
+use Rattle.vac_write.specs.Archiving.{CountsFailures, HasRisenAtLeast, HasRisenBy, IsGivenUpAs, is_folder_fault}
 use Rattle.vac_write.specs.Puts.{IsOfStore}
 use Rattle.vac_write.specs.Walking.{IsHandedOn}
 
@@ -15,6 +17,20 @@ of_store_goes_on (Tree err) own = refl
 of_store_goes_on (BadName path) own = absurd own
 of_store_goes_on (TooDeep path) own = absurd own
 of_store_goes_on NoMemory own = refl
+
+-- where it isn't for a failed call, nothing has to hold of such a call
+pub given_up_as : (failed : Type 0) (err : VacErr) (unfit : Option Unfit)
+    → is_folder_fault err ≡ false → IsGivenUpAs ⊤ err unfit → IsGivenUpAs failed err unfit
+given_up_as failed FolderFault unfit goes_on cause = let never : ⊥ = cc in absurd never
+given_up_as failed (Tree (trees.Block err)) unfit goes_on cause = tt
+given_up_as failed (Tree trees.SourceFault) unfit goes_on cause = cause
+given_up_as failed (Tree (trees.BadEntry bad)) unfit goes_on cause = cause
+given_up_as failed (Tree (trees.BadBlock depth len)) unfit goes_on cause = cause
+given_up_as failed (Tree trees.TooLong) unfit goes_on cause = cause
+given_up_as failed (Tree trees.NoMemory) unfit goes_on cause = tt
+given_up_as failed (BadName path) unfit goes_on cause = cause
+given_up_as failed (TooDeep path) unfit goes_on cause = cause
+given_up_as failed NoMemory unfit goes_on cause = tt
 
 pub memory_goes_on : {X : Type 0} (r : Result X VacErr) → IfErr r (λ err. err ≡ NoMemory)
     → IfErr r (λ err. is_folder_fault err ≡ false)

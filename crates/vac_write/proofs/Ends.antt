@@ -1,11 +1,12 @@
 -- A folder's archive, written or given up.
 use Rattle.std.proofs.Common.{◌≡◌, ℕ, ◌<◌, ◌≤◌, ◌^◌, Bool, false, IsTrue, Option, Some, None, Ok, Err, List, [], ◌∷◌, ◌++◌, length, map, refl, sym, ◌∙◌, ap, subst, arith, append_assoc, append-nil}
+use Rattle.std.specs.Prelude.{⊤}
 use Rattle.std.specs.Option.{option_or}
 use Rattle.std.proofs.lemmas.Bool.{false≢true}
 use Rattle.std.proofs.lemmas.List.{map-append}
 use Rattle.vt_base.specs.Protocol.{Operation, sync as sync_all}
 use Rattle.vt_out.specs.declared.folder_item.Facts.{Facts}
-use Rattle.vt_out.specs.FolderItems.{Items, folder_at}
+use Rattle.vt_out.specs.FolderItems.{FailingPaths, Items, folder_at}
 use Rattle.vt_model.specs.History.{Block}
 use Rattle.vt_tree.specs.declared.error.BlockErr.{BlockErr}
 use Rattle.vt_tree.specs.declared.error.TreeErr.TheVariants as trees
@@ -29,14 +30,15 @@ use Rattle.vac_write.specs.declared.archiving.Walk.{Walk}
 use Rattle.vac_write.specs.declared.error.VacErr.{VacErr}
 use Rattle.vac_write.specs.declared.error.VacErr.TheVariants.{FolderFault, Tree, BadName, TooDeep, NoMemory}
 use Rattle.vac_write.specs.declared.streams.FolderEntries.{FolderEntries}
-use Rattle.vac_write.specs.Archiving.{HasRisenAtLeast, HasRisenBy, IsSeen, IsGivenUpAs, KeepsArchive, PutsFor, WritesArchive, GivesUpArchive, asked_for_all, is_folder_fault, refusal_of}
+use Rattle.vac_write.specs.Archiving.{FolderRead, HasRisenAtLeast, HasRisenBy, IsSeen, IsUnlisted, IsGivenUpAs, KeepsArchive, PutsFor, WritesArchive, GivesUpArchive, asked_for_all, is_folder_fault, refusal_of}
 use Rattle.vac_write.specs.Listing.{IsNotListed, IsUnfitAt, joined_path}
 use Rattle.vac_write.specs.Puts.{PutsBlocks, GivesUpBlocks, IsOfStore}
-use Rattle.vac_write.specs.Tried.{Tried, whole, found, failed_at, failures, begun_in, AreWoven}
+use Rattle.vac_write.specs.Tried.{Tried, whole, found, failed_at, failures, LacksOnly, begun_in, AreWoven}
 use Rattle.vac_write.specs.Walking.{all_blocks, archived_from, top_of, root_blocks, unfit_at, IsWholeFolder, PutsTried, GivesUpTried, ArchivesItems, GivesUpItems}
-use Rattle.vac_write.proofs.Causes.{at_least, of_store_goes_on}
+use Rattle.vac_write.proofs.Causes.{at_least, given_up_as, of_store_goes_on}
+use Rattle.vac_write.proofs.Failing.{top_fails}
 use Rattle.vac_write.proofs.Parts.{of_store_as}
-use Rattle.vac_write.proofs.Tried.{as_read, whole_read, found_read, begun_read, are_begun_read, failures_read, found_in_order, many_failed, woven_hold}
+use Rattle.vac_write.proofs.Tried.{as_read, whole_read, found_read, lacks_read, begun_read, are_begun_read, failures_read, found_in_order, many_failed, woven_hold}
 use Rattle.vac_write.proofs.TriedPuts.{tried_last, tried_more, tried_then}
 use Rattle.vac_write.proofs.Wholly.{unlisted_own}
 
@@ -75,30 +77,42 @@ module _ (tells : Bool) (held : Items Facts) (path : List (List ℕ)) (no_path :
       ∙ ap (λ (items : Items Facts). numbered 1 (kept items)) (sym same_order)
 
 module _ {S : Type 0} (does : S → Call → S → Type 0) (holds : S → Maps → Type 0)
-    (score_of : List ℕ → List ℕ) (tells : Bool) (held : Items Facts)
+    (score_of : List ℕ → List ℕ) (tells : Bool) (held : Items Facts) (failing : FailingPaths)
     (law : (s s' : S) (call : Call) (m : Maps) → does s call s' → holds s m
     → TellsOfMap score_of m.held call × holds s' (after score_of call m)) where
+  -- the folder, of which so many calls had failed before and behind
+  abbrev seeing : (f f' : ℕ) → FolderRead
+  seeing f f' = record {
+    tells = tells;
+    held = held;
+    failing = failing;
+    faults = f;
+    faults' = f';
+  }
+
   -- the folder couldn't be listed, or isn't fit, or memory is short before it is known
   pub top_not_listed : (s : S) (f f' bsize : ℕ) (err : VacErr) → HasRisenAtLeast 0 f f'
-      → IsNotListed tells held [] err
-      → GivesUpArchive does holds score_of s s bsize (IsSeen tells held f f') err
+      → IsNotListed tells held failing [] err
+      → GivesUpArchive does holds score_of s s bsize (seeing f f') err
   top_not_listed s f f' bsize err rose cause =
-      of err cause (unlisted_own tells held [] err cause)
+      of err cause (unlisted_own tells held failing [] err cause)
     where
       so : (err : VacErr) (there : Items Facts) → (IsTrue tells → there ≡ held)
-          → IsGivenUpAs err (unfit_at [] (in_order there)) → refusal_of err ≡ None
-          → GivesUpArchive does holds score_of s s bsize (IsSeen tells held f f') err
+          → IsGivenUpAs (IsUnlisted (seeing f f')) err (unfit_at [] (in_order there))
+          → refusal_of err ≡ None
+          → GivesUpArchive does holds score_of s s bsize (seeing f f') err
       so err there is cause own =
           let inside : Items Facts = in_order there in
           let tried : Tried = as_read inside in
           let blocks : List Block = (archive_of score_of bsize (found tried)).blocks in
           record {
             tried = tried;
-            is = (
-              (λ telling. whole_read inside ∙ ap in_order (is telling)),
-              subst (λ (n : ℕ). HasRisenAtLeast n f f') (sym (failures_read inside)) rose,
-            );
-            cause = subst (IsGivenUpAs err)
+            is = record {
+              all = λ telling. whole_read inside ∙ ap in_order (is telling);
+              lacks = λ telling. lacks_read failing [] inside;
+              counted = subst (λ (n : ℕ). HasRisenAtLeast n f f') (sym (failures_read inside)) rose;
+            };
+            cause = subst (IsGivenUpAs (IsUnlisted (seeing f f')) err)
                 (ap (unfit_at []) (sym (found_read inside))
                 ∙ unfit_so tells there [] refl tried (record {
                   seen = there;
@@ -121,9 +135,10 @@ module _ {S : Type 0} (does : S → Call → S → Type 0) (holds : S → Maps �
           }
 
       unfit : (err : VacErr) (why : Unfit)
-          → ((o : Option Unfit) → o ≡ Some why → IsGivenUpAs err o) → refusal_of err ≡ None
+          → ((o : Option Unfit) → o ≡ Some why → IsGivenUpAs (IsUnlisted (seeing f f')) err o)
+          → refusal_of err ≡ None
           → IsUnfitAt tells held [] why
-          → GivesUpArchive does holds score_of s s bsize (IsSeen tells held f f') err
+          → GivesUpArchive does holds score_of s s bsize (seeing f f') err
       unfit err why tells_it own it =
           so err it.seen
           (λ telling. let two : Some held ≡ Some it.seen = it.is telling in cc)
@@ -131,9 +146,10 @@ module _ {S : Type 0} (does : S → Call → S → Type 0) (holds : S → Maps �
           (ap (λ (o : Option Unfit). option_or o (unfit_inside 0 [] (in_order it.seen))) it.unfit))
           own
 
-      of : (err : VacErr) → IsNotListed tells held [] err → refusal_of err ≡ None
-          → GivesUpArchive does holds score_of s s bsize (IsSeen tells held f f') err
-      of FolderFault cause own = so FolderFault held (λ telling. refl) tt own
+      of : (err : VacErr) → IsNotListed tells held failing [] err → refusal_of err ≡ None
+          → GivesUpArchive does holds score_of s s bsize (seeing f f') err
+      of FolderFault cause own =
+          so FolderFault held (λ telling. refl) (λ told. top_fails failing held (cause told)) own
       of (Tree (trees.Block err)) cause own = absurd cause
       of (Tree trees.SourceFault) cause own = absurd cause
       of (Tree (trees.BadEntry bad)) cause own = absurd cause
@@ -146,15 +162,15 @@ module _ {S : Type 0} (does : S → Call → S → Type 0) (holds : S → Maps �
 
   -- of an archive's blocks the first were put
   blocks_given_up : (s s' : S) (f f' bsize : ℕ) (tried : Tried) (err : VacErr)
-      → IsSeen tells held f f' (failures tried) (whole tried) → IsGivenUpAs err (first_unfit (found tried))
+      → IsSeen (seeing f f') tried → IsGivenUpAs ⊤ err (first_unfit (found tried))
       → is_folder_fault err ≡ false
       → GivesUpTried does score_of s s' bsize tried
       (archive_of score_of bsize (found tried)).blocks err
-      → GivesUpArchive does holds score_of s s' bsize (IsSeen tells held f f') err
+      → GivesUpArchive does holds score_of s s' bsize (seeing f f') err
   blocks_given_up s s' f f' bsize tried err is cause goes_on gave = record {
     tried = tried;
     is = is;
-    cause = cause;
+    cause = given_up_as (IsUnlisted (seeing f f')) err (first_unfit (found tried)) goes_on cause;
     all = gave.all;
     puts = record { begun = gave.begun; woven = gave.woven };
     calls = gave.given_up.calls;
@@ -173,16 +189,21 @@ module _ {S : Type 0} (does : S → Call → S → Type 0) (holds : S → Maps �
   -- the folder's items were given up
   pub walk_given_up : (s s' : S) (f f' bsize : ℕ) (old : Walk) (err : VacErr)
       → old.path.items ≡ [] → old.qid ≡ 1 → old.bsize ≡ bsize → is_folder_fault err ≡ false
-      → GivesUpItems does score_of s s' tells held f f' old err
-      → GivesUpArchive does holds score_of s s' bsize (IsSeen tells held f f') err
+      → GivesUpItems does score_of s s' tells held failing f f' old err
+      → GivesUpArchive does holds score_of s s' bsize (seeing f f') err
   walk_given_up s s' f f' bsize old err no_path first size goes_on gave =
       let t : Tried = gave.tried in
       let top : List Block = root_blocks score_of bsize
       (top_bytes score_of bsize (archived (found t))) in
       let numbers = archived_so tells held old.path.items no_path t gave.is old.qid first in
       blocks_given_up s s' f f' bsize t err
-      (seen_is tells held old.path.items no_path t gave.is, at_least (failures t) f f' gave.counted)
-      (subst (IsGivenUpAs err) (unfit_so tells held old.path.items no_path t gave.is) gave.cause)
+      (record {
+        all = seen_is tells held old.path.items no_path t gave.is;
+        lacks = λ told.
+            subst (λ (p : List (List ℕ)). LacksOnly failing p t) no_path (gave.lacks told);
+        counted = at_least (failures t) f f' gave.counted;
+      })
+      (subst (IsGivenUpAs ⊤ err) (unfit_so tells held old.path.items no_path t gave.is) gave.cause)
       goes_on
       (subst (λ (n : ℕ). GivesUpTried does score_of s s' n t
       (archive_of score_of bsize (found t)).blocks err) size
@@ -193,13 +214,16 @@ module _ {S : Type 0} (does : S → Call → S → Type 0) (holds : S → Maps �
 
   module _ (s mid top end : S) (f f' bsize : ℕ) (old new : Walk) (e : FolderEntries)
       (no_path : old.path.items ≡ []) (first : old.qid ≡ 1) (size : old.bsize ≡ bsize)
-      (a : ArchivesItems does score_of s mid tells held f f' old new e) where
+      (a : ArchivesItems does score_of s mid tells held failing f f' old new e) where
     abbrev t : Tried
     t = a.tried
 
-    seen : IsSeen tells held f f' (failures t) (whole t)
-    seen =
-        (seen_is tells held old.path.items no_path t a.is, at_least (failures t) f f' a.counted)
+    seen : IsSeen (seeing f f') t
+    seen = record {
+      all = seen_is tells held old.path.items no_path t a.is;
+      lacks = λ told. subst (λ (p : List (List ℕ)). LacksOnly failing p t) no_path (a.lacks told);
+      counted = at_least (failures t) f f' a.counted;
+    }
 
     fit : first_unfit (found t) ≡ None
     fit = sym (unfit_so tells held old.path.items no_path t a.is) ∙ a.fit
@@ -248,7 +272,7 @@ module _ {S : Type 0} (does : S → Call → S → Type 0) (holds : S → Maps �
       puts_for = record { begun = all_put.begun; woven = all_put.woven }
 
       pub sync_refused : (err : BlockErr) → does top (sync (Err err)) end
-          → GivesUpArchive does holds score_of s end bsize (IsSeen tells held f f')
+          → GivesUpArchive does holds score_of s end bsize (seeing f f')
           (Tree (trees.Block err))
       sync_refused err done = record {
         tried = t;
@@ -315,7 +339,7 @@ module _ {S : Type 0} (does : S → Call → S → Type 0) (holds : S → Maps �
             ≡ score_of (root_bytes (root_of score_of bsize (top_of e)))
             → old.skipped.items ≡ [] → result.skipped ≡ new.skipped.items
             → old.failed.items ≡ [] → result.failed ≡ new.failed.items
-            → WritesArchive does holds score_of s end bsize (IsSeen tells held f f') result
+            → WritesArchive does holds score_of s end bsize (seeing f f') result
         archive_written result scored none_skipped noted none_failed told_failed = record {
           tried = t;
           is = seen;
@@ -352,7 +376,7 @@ module _ {S : Type 0} (does : S → Call → S → Type 0) (holds : S → Maps �
     -- the root, or the block that it names, wasn't put
     pub root_given_up : (err : VacErr) → IsOfStore err
         → GivesUpBlocks does mid end (root_blocks score_of bsize (top_of e)) err
-        → GivesUpArchive does holds score_of s end bsize (IsSeen tells held f f') err
+        → GivesUpArchive does holds score_of s end bsize (seeing f f') err
     root_given_up err own gave =
         blocks_given_up s end f f' bsize t err seen
         (of_store_as err (first_unfit (found t)) own) (of_store_goes_on err own)

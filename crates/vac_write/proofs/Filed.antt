@@ -1,11 +1,13 @@
 -- A file that was written as a stream, and bytes in memory.
-use Rattle.std.proofs.Common.{◌≡◌, ℕ, ◌≤◌, ◌^◌, Bool, true, false, List, ◌++◌, length, drop, refl, sym, ◌∙◌, ap, subst, arith, append-nil}
+use Rattle.std.proofs.Common.{◌≡◌, ℕ, ◌≤◌, ◌^◌, Bool, true, false, List, [], ◌∷◌, ◌++◌, length, map, drop, refl, sym, ◌∙◌, ap, subst, arith, append-nil}
+use Rattle.vt_base.specs.Protocol.{Operation}
 use Rattle.vt_out.specs.declared.folder_item.Facts.{Facts}
 use Rattle.vt_out.specs.FolderItems.{Items}
+use Rattle.vt_model.specs.History.{Block}
 use Rattle.vt_tree.specs.declared.entry.Entry.{Entry}
 use Rattle.vt_tree.specs.declared.error.TreeErr.{TreeErr}
 use Rattle.vt_tree.specs.declared.error.TreeErr.TheVariants as trees
-use Rattle.vt_tree.specs.Calls.{Call}
+use Rattle.vt_tree.specs.Calls.{Call, write_of_block}
 use Rattle.vt_tree.specs.Making.{EndsBy}
 use Rattle.vt_tree.specs.Maps.{Maps}
 use Rattle.vt_tree.specs.Reading.{refusal_in}
@@ -15,6 +17,41 @@ use Rattle.vac_write.specs.Archiving.{of_stream, refusal_of, is_folder_fault}
 use Rattle.vac_write.specs.Files.{IsWholeFile, IsStreamGivenUpFor, GivesUpTree}
 use Rattle.vac_write.specs.Puts.{PutsBlocks, GivesUpBlocks, IsOfStore}
 use Rattle.vac_write.specs.Sources.{or_none, bytes_at_path}
+
+-- ---- the first blocks of a file's tree
+
+-- what was asked for is a write of each of the first blocks
+pub record Front (asked : List Operation) (rest blocks : List Block) : Type 0 where
+  pub put : List Block
+  pub behind : List Block
+  pub is : asked ≡ map write_of_block put
+  pub are : put ++ behind ≡ blocks
+
+pub front_of : (asked : List Operation) (rest blocks : List Block)
+    → asked ++ map write_of_block rest ≡ map write_of_block blocks → Front asked rest blocks
+front_of [] rest blocks is = record {
+  put = [];
+  behind = blocks;
+  is = refl;
+  are = refl;
+}
+front_of (m ∷ asked) rest [] is =
+    let e : m ∷ (asked ++ map write_of_block rest) ≡ [] = is in
+    let never : ⊥ = cc in absurd never
+front_of (m ∷ asked) rest (b ∷ blocks) is =
+    let e : m ∷ (asked ++ map write_of_block rest)
+    ≡ write_of_block b ∷ map write_of_block blocks = is in
+    let first : m ≡ write_of_block b = cc in
+    let others : asked ++ map write_of_block rest ≡ map write_of_block blocks = cc in
+    let more = front_of asked rest blocks others in
+    record {
+      put = b ∷ more.put;
+      behind = more.behind;
+      is = λ i. first i ∷ more.is i;
+      are = ap (λ (l : List Block). b ∷ l) more.are;
+    }
+
+-- ---- a file
 
 -- what was taken whole of a file is the file
 pub whole_file : (tells : Bool) (held : Items Facts) (path : List (List ℕ)) (new bytes : List ℕ)
@@ -35,13 +72,14 @@ all_file tells held path bytes all = record {
       sym (ap or_none there) ∙ all.front telling ∙ append-nil bytes;
 }
 
-cause_of : (err : TreeErr) (n : ℕ) → IsGivenUpFor err n → IsStreamGivenUpFor (of_stream err) n
-cause_of (trees.Block err) n cause = tt
-cause_of trees.SourceFault n cause = tt
-cause_of (trees.BadEntry bad) n cause = cause
-cause_of (trees.BadBlock depth len) n cause = cause
-cause_of trees.TooLong n cause = cause
-cause_of trees.NoMemory n cause = tt
+cause_of : (failed : Type 0) (err : TreeErr) (n : ℕ) → (is_source_fault err ≡ true → failed)
+    → IsGivenUpFor err n → IsStreamGivenUpFor failed (of_stream err) n
+cause_of failed (trees.Block err) n fault cause = tt
+cause_of failed trees.SourceFault n fault cause = fault refl
+cause_of failed (trees.BadEntry bad) n fault cause = cause
+cause_of failed (trees.BadBlock depth len) n fault cause = cause
+cause_of failed trees.TooLong n fault cause = cause
+cause_of failed trees.NoMemory n fault cause = tt
 
 ends_of : (err : TreeErr) (calls : List Call) → EndsBy (refusal_in err) calls
     → EndsBy (refusal_of (of_stream err)) calls
@@ -113,14 +151,14 @@ module _ {S : Type 0} (does : S → Call → S → Type 0) (holds : S → Maps �
     }
 
     -- a file that was given up
-    pub file_given_up : (err : TreeErr)
+    pub file_given_up : (failed : Type 0) (err : TreeErr) → (is_source_fault err ≡ true → failed)
         → GivesUpStream does holds score_of s s' shape
         (IsAll tells (drop 0 (bytes_at_path path held))) err
-        → GivesUpTree does score_of s s' shape (IsWholeFile tells held path) (of_stream err)
-    file_given_up err gave = record {
+        → GivesUpTree does score_of s s' shape (IsWholeFile tells held path) failed (of_stream err)
+    file_given_up failed err fault gave = record {
       bytes = gave.bytes;
       is = all_file tells held path gave.bytes gave.is;
-      cause = cause_of err (length gave.bytes) gave.cause;
+      cause = cause_of failed err (length gave.bytes) fault gave.cause;
       given_up = gave_up_blocks (IsAll tells (drop 0 (bytes_at_path path held))) err gave;
     }
 

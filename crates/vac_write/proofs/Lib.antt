@@ -1,10 +1,12 @@
 pub mod Causes
 pub mod Ends
+pub mod Failing
 pub mod Filed
 pub mod Fits
 pub mod Followed
 pub mod Found
 pub mod FoundFits
+pub mod Lacking
 pub mod Listed
 pub mod OneItem
 pub mod Ordered
@@ -13,6 +15,7 @@ pub mod Pieces
 pub mod Puts
 pub mod Shapes
 pub mod Sorting
+pub mod Sure
 pub mod Tried
 pub mod TriedPuts
 pub mod Wholes

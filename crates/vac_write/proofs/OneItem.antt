@@ -1,19 +1,18 @@
 -- One item of a folder that was archived, or given up.
 use Rattle.std.proofs.Common.{◌≡◌, ℕ, ◌+◌, ◌-◌, ◌*◌, ◌/◌, ◌<◌, ◌≤◌, ◌^◌, Bool, false, cond, Option, Some, None, List, [], ◌∷◌, ◌++◌, length, map, take, refl, sym, ◌∙◌, ap, subst, arith, append_assoc, append-nil, length-append}
-use Rattle.std.specs.Prelude.{nat_lt, nat_le}
+use Rattle.std.specs.Prelude.{⊤, IsTrue, nat_lt, nat_le}
 use Rattle.std.specs.Option.{option_or}
 use Rattle.std.proofs.lemmas.Bool.{le-leb, le-ltb, lt-leb, lt-ltb}
 use Rattle.std.proofs.lemmas.List.{take_at}
-use Rattle.vt_base.specs.Protocol.{Operation}
 use Rattle.vt_out.specs.declared.folder_item.Facts.{Facts}
 use Rattle.vt_out.specs.declared.folder_item.Item.{Item}
 use Rattle.vt_out.specs.declared.folder_item.ItemKind.{ItemKind}
 use Rattle.vt_out.specs.declared.folder_item.ItemKind.TheVariants as kinds
-use Rattle.vt_out.specs.FolderItems.{Items, none, file, folder, other, listed_item, listing_of, HaveBytes}
+use Rattle.vt_out.specs.FolderItems.{FailingPaths, Items, none, file, folder, other, listed_item, listing_of, HaveBytes}
 use Rattle.vt_model.specs.History.{Block}
 use Rattle.vt_tree.specs.declared.entry.Entry.{Entry}
 use Rattle.vt_tree.specs.declared.error.TreeErr.TheVariants as trees
-use Rattle.vt_tree.specs.Calls.{Call, asked_of, write_of_block}
+use Rattle.vt_tree.specs.Calls.{Call, asked_of}
 use Rattle.vt_tree.specs.Entries.{IsTreeEntry, tree_entry_bytes}
 use Rattle.vt_tree.specs.Making.{EndsBy}
 use Rattle.vt_tree.specs.Maps.{Maps}
@@ -32,16 +31,17 @@ use Rattle.vac_write.specs.declared.error.VacErr.TheVariants.{FolderFault, Tree,
 use Rattle.vac_write.specs.declared.streams.FolderEntries.{FolderEntries}
 use Rattle.vac_write.specs.declared.streams.Streams.{Streams}
 use Rattle.vac_write.specs.Archiving.{HasRisenBy, IsGivenUpAs, refusal_of}
-use Rattle.vac_write.specs.Files.{IsWholeFile, IsStreamGivenUpFor, GivesUpTree}
-use Rattle.vac_write.specs.Listing.{IsNotListed, IsSeenAt, IsUnfitAt, joined_path, joined_behind}
+use Rattle.vac_write.specs.Files.{IsUnread, IsWholeFile, IsStreamGivenUpFor, GivesUpTree}
+use Rattle.vac_write.specs.Listing.{IsNotListed, IsSeenAt, IsUnfitAt, StandsAt, joined_path, joined_behind}
 use Rattle.vac_write.specs.Puts.{PutsBlocks, GivesUpBlocks}
 use Rattle.vac_write.specs.Sources.{bytes_at_path, file_is, or_none}
-use Rattle.vac_write.specs.Tried.{Tried, whole, found, failed_at, begun_in, AreBegun, AreFirst, AreWoven}
+use Rattle.vac_write.specs.Tried.{Tried, whole, found, failed_at, LacksOnly, begun_in, AreBegun, AreFirst, AreWoven}
 use Rattle.vac_write.specs.Tried as tries
 use Rattle.vac_write.specs.Walking.{unfit_at, archived_from, all_blocks, record_for, IsWholeFolder, AreItemsAt, PutsTried, ArchivesItem, GivesUpItem, ArchivesItems, GivesUpItems}
-use Rattle.vac_write.proofs.Filed.{wrote_blocks}
+use Rattle.vac_write.proofs.Failing.{read_fails}
+use Rattle.vac_write.proofs.Filed.{Front, front_of, wrote_blocks}
 use Rattle.vac_write.proofs.Puts.{puts_none, gives_none, gives_front}
-use Rattle.vac_write.proofs.Tried.{as_read, whole_read, found_read, begun_read, are_begun_read, failures_read, woven_alone}
+use Rattle.vac_write.proofs.Tried.{as_read, whole_read, found_read, lacks_read, begun_read, are_begun_read, failures_read, woven_alone}
 use Rattle.vac_write.proofs.TriedPuts.{untried}
 use Rattle.vac_write.proofs.Wholes.{facts_of}
 use Rattle.vac_write.proofs.Wholly.{any_seen, unlisted_own}
@@ -71,41 +71,8 @@ listed_as item k is = λ i. (record item { kind = sym is i }) ∷ []
 not_long : (n : ℕ) → n ≤ 2 ^ 40 → nat_lt MAX_FILE n ≡ false
 not_long n few = le-ltb MAX_FILE n few
 
--- ---- the first blocks of some
-
--- what was asked for is a write of each of the first blocks
-pub record Front (asked : List Operation) (rest blocks : List Block) : Type 0 where
-  pub put : List Block
-  pub behind : List Block
-  pub is : asked ≡ map write_of_block put
-  pub are : put ++ behind ≡ blocks
-
-pub front_of : (asked : List Operation) (rest blocks : List Block)
-    → asked ++ map write_of_block rest ≡ map write_of_block blocks → Front asked rest blocks
-front_of [] rest blocks is = record {
-  put = [];
-  behind = blocks;
-  is = refl;
-  are = refl;
-}
-front_of (m ∷ asked) rest [] is =
-    let e : m ∷ (asked ++ map write_of_block rest) ≡ [] = is in
-    let never : ⊥ = cc in absurd never
-front_of (m ∷ asked) rest (b ∷ blocks) is =
-    let e : m ∷ (asked ++ map write_of_block rest)
-    ≡ write_of_block b ∷ map write_of_block blocks = is in
-    let first : m ≡ write_of_block b = cc in
-    let others : asked ++ map write_of_block rest ≡ map write_of_block blocks = cc in
-    let more = front_of asked rest blocks others in
-    record {
-      put = b ∷ more.put;
-      behind = more.behind;
-      is = λ i. first i ∷ more.is i;
-      are = ap (λ (l : List Block). b ∷ l) more.are;
-    }
-
 module _ {S : Type 0} (does : S → Call → S → Type 0) (score_of : List ℕ → List ℕ)
-    (tells : Bool) (held : Items Facts) where
+    (tells : Bool) (held : Items Facts) (failing : FailingPaths) where
   -- what was put, before something else was given up
   gives_done : (s s' : S) (blocks : List Block) (err : VacErr) → refusal_of err ≡ None
       → PutsBlocks does s s' blocks → GivesUpBlocks does s s' blocks err
@@ -125,11 +92,12 @@ module _ {S : Type 0} (does : S → Call → S → Type 0) (score_of : List ℕ 
       → new.failed.items ≡ old.failed.items
       → new.skipped.items
       ≡ old.skipped.items ++ path_to (joined_path old.path.items) item.name ∷ []
-      → ArchivesItem does score_of s s tells held f f' old new streams streams item
+      → ArchivesItem does score_of s s tells held failing f f' old new streams streams item
   other_archived s f f' old new streams item kind counted qid path bsize failed skipped = record {
     part = tries.passed (facts_of item) tries.no_more;
     lists = listed_as item kinds.Other kind;
     are = tt;
+    lacks = λ told. tt;
     archived = record {
       fit = refl;
       times = tt;
@@ -188,8 +156,8 @@ module _ {S : Type 0} (does : S → Call → S → Type 0) (score_of : List ℕ 
       (other (facts_of item) none, listed_as item kinds.Other kind, tt)
 
   pub item_not_begun : HaveBytes held → (s : S) (f f' : ℕ) (old : Walk) (item : Item)
-      (err : VacErr) → HasRisenBy 0 f f' → ((o : Option Unfit) → IsGivenUpAs err o)
-      → refusal_of err ≡ None → GivesUpItem does score_of s s tells held f f' old item err
+      (err : VacErr) → HasRisenBy 0 f f' → ((o : Option Unfit) → IsGivenUpAs ⊤ err o)
+      → refusal_of err ≡ None → GivesUpItem does score_of s s tells held failing f f' old item err
   item_not_begun have s f f' old item err counted free own =
       let one = any_item have old.path.items item item.kind refl in
       let same = whole_read one.0 in
@@ -197,6 +165,7 @@ module _ {S : Type 0} (does : S → Call → S → Type 0) (score_of : List ℕ 
         part = as_read one.0;
         lists = ap listing_of same ∙ one.1;
         are = subst (AreItemsAt tells held old.path.items) (sym same) one.2;
+        lacks = λ told. lacks_read failing old.path.items one.0;
         part_is = record {
           cause = free (unfit_inside (length old.path.items) (joined_path old.path.items)
               (found (as_read one.0)));
@@ -218,13 +187,14 @@ module _ {S : Type 0} (does : S → Call → S → Type 0) (score_of : List ℕ 
 
     -- its tree was put, and memory is short for its record
     pub file_unrecorded : HasRisenBy 0 f f' → (e : Entry) (err : VacErr)
-        → ((o : Option Unfit) → IsGivenUpAs err o) → refusal_of err ≡ None
+        → ((o : Option Unfit) → IsGivenUpAs ⊤ err o) → refusal_of err ≡ None
         → WritesStream does holds score_of s s' shape There e
-        → GivesUpItem does score_of s s' tells held f f' old item err
+        → GivesUpItem does score_of s s' tells held failing f f' old item err
     file_unrecorded counted e err free own w = record {
       part = tries.read (facts_of item) w.bytes tries.no_more;
       lists = listed_as item kinds.File kind;
       are = (w.is_taken, tt);
+      lacks = λ told. tt;
       part_is = record {
         cause = free (unfit_inside (length old.path.items) (joined_path old.path.items)
             (file (facts_of item) w.bytes none));
@@ -241,14 +211,17 @@ module _ {S : Type 0} (does : S → Call → S → Type 0) (score_of : List ℕ 
     }
 
     pub file_not_written : HasRisenBy 0 f f' → (err : VacErr)
-        → GivesUpTree does score_of s s' shape There err
-        → GivesUpItem does score_of s s' tells held f f' old item err
+        → GivesUpTree does score_of s s' shape There (IsUnread tells held failing
+        (old.path.items ++ item.name ∷ [])) err
+        → GivesUpItem does score_of s s' tells held failing f f' old item err
     file_not_written counted err t = record {
       part = tries.read (facts_of item) t.bytes tries.no_more;
       lists = listed_as item kinds.File kind;
       are = (t.is, tt);
+      lacks = λ told. tt;
       part_is = record {
-        cause = of err (length t.bytes) t.cause;
+        cause = of (IsUnread tells held failing (old.path.items ++ item.name ∷ [])) err
+            (length t.bytes) t.cause;
         given_up = record {
           all = (stream_of score_of shape t.bytes).blocks ++ [];
           begun = tt;
@@ -260,19 +233,19 @@ module _ {S : Type 0} (does : S → Call → S → Type 0) (score_of : List ℕ 
       counted = counted;
     }
       where
-        of : (err : VacErr) (n : ℕ) → IsStreamGivenUpFor err n
-            → IsGivenUpAs err (cond (nat_lt MAX_FILE n) (Some too_long) None)
-        of FolderFault n cause = tt
-        of (Tree (trees.Block err)) n cause = tt
-        of (Tree trees.SourceFault) n cause = cause
-        of (Tree (trees.BadEntry bad)) n cause = cause
-        of (Tree (trees.BadBlock depth len)) n cause = cause
-        of (Tree trees.TooLong) n cause =
+        of : (P : Type 0) (err : VacErr) (n : ℕ) → IsStreamGivenUpFor P err n
+            → IsGivenUpAs ⊤ err (cond (nat_lt MAX_FILE n) (Some too_long) None)
+        of P FolderFault n cause = tt
+        of P (Tree (trees.Block err)) n cause = tt
+        of P (Tree trees.SourceFault) n cause = cause
+        of P (Tree (trees.BadEntry bad)) n cause = cause
+        of P (Tree (trees.BadBlock depth len)) n cause = cause
+        of P (Tree trees.TooLong) n cause =
             ap (λ (t : Bool). cond t (Some too_long) None) (lt-ltb MAX_FILE n cause)
-        of (Tree trees.NoMemory) n cause = tt
-        of (BadName path) n cause = absurd cause
-        of (TooDeep path) n cause = absurd cause
-        of NoMemory n cause = tt
+        of P (Tree trees.NoMemory) n cause = tt
+        of P (BadName path) n cause = absurd cause
+        of P (TooDeep path) n cause = absurd cause
+        of P NoMemory n cause = tt
 
     pub file_archived : HasRisenBy 0 f f' → (new : Walk) (from to : Streams) (e : Entry)
         → WritesStream does holds score_of s s' shape There e
@@ -282,12 +255,13 @@ module _ {S : Type 0} (does : S → Call → S → Type 0) (score_of : List ℕ 
         → to.entries.items ≡ from.entries.items ++ tree_entry_bytes e
         → to.metadata.items ≡ from.metadata.items ++ record_bytes
         (record_for item records.File (length from.entries.items / 40) old.qid)
-        → ArchivesItem does score_of s s' tells held f f' old new from to item
+        → ArchivesItem does score_of s s' tells held failing f f' old new from to item
     file_archived counted new from to e w allowed time qid path bsize skipped failed entries
         metadata = record {
           part = tries.read (facts_of item) w.bytes tries.no_more;
           lists = listed_as item kinds.File kind;
           are = (w.is_taken, tt);
+          lacks = λ told. tt;
           archived = record {
             fit = ap (λ (t : Bool). cond t (Some too_long) None) (not_long (length w.bytes) w.most);
             times = (time, tt);
@@ -325,7 +299,14 @@ module _ {S : Type 0} (does : S → Call → S → Type 0) (score_of : List ℕ 
 
     -- ---- a file of which a read has failed
 
-    module _ (t : GivesUpTree does score_of s s' shape There FolderFault) where
+    module _ (t : GivesUpTree does score_of s s' shape There (IsUnread tells held failing
+        (old.path.items ++ item.name ∷ [])) FolderFault)
+        (stands : IsTrue tells → StandsAt held (old.path.items ++ item.name ∷ []) item.kind) where
+      -- a read of it may fail, since it stands there
+      may : IsTrue tells → IsTrue (failing.read (old.path.items ++ item.name ∷ []))
+      may told = read_fails failing held (old.path.items ++ item.name ∷ []) (t.cause told)
+          (subst (StandsAt held (old.path.items ++ item.name ∷ [])) kind (stands told))
+
       -- the blocks that were put are the first of its tree
       front : Front (map asked_of t.given_up.calls) t.given_up.rest
           (stream_of score_of shape t.bytes).blocks
@@ -351,11 +332,12 @@ module _ {S : Type 0} (does : S → Call → S → Type 0) (score_of : List ℕ 
           → new.skipped.items ≡ old.skipped.items
           → new.failed.items
           ≡ old.failed.items ++ path_to (joined_path old.path.items) item.name ∷ []
-          → ArchivesItem does score_of s s' tells held f f' old new streams streams item
+          → ArchivesItem does score_of s s' tells held failing f f' old new streams streams item
       file_unread counted new streams qid path bsize skipped failed = record {
         part = lost;
         lists = listed_as item kinds.File kind;
         are = (t.is, tt);
+        lacks = λ told. (may told, tt);
         archived = record {
           fit = refl;
           times = tt;
@@ -382,12 +364,13 @@ module _ {S : Type 0} (does : S → Call → S → Type 0) (score_of : List ℕ 
 
       -- and memory is short for its path
       pub file_untold : HasRisenBy 1 f f' → (err : VacErr)
-          → ((o : Option Unfit) → IsGivenUpAs err o) → refusal_of err ≡ None
-          → GivesUpItem does score_of s s' tells held f f' old item err
+          → ((o : Option Unfit) → IsGivenUpAs ⊤ err o) → refusal_of err ≡ None
+          → GivesUpItem does score_of s s' tells held failing f f' old item err
       file_untold counted err free own = record {
         part = lost;
         lists = listed_as item kinds.File kind;
         are = (t.is, tt);
+        lacks = λ told. (may told, tt);
         part_is = record {
           cause = free (unfit_inside (length old.path.items) (joined_path old.path.items) none);
           given_up = record {
@@ -454,24 +437,29 @@ module _ {S : Type 0} (does : S → Call → S → Type 0) (score_of : List ℕ 
     whole_there inside is =
         subst (λ (p : List (List ℕ)). IsWholeFolder tells held p inside) deeper is
 
+    lacks_there : (inside : Tried) → LacksOnly failing half.path.items inside
+        → LacksOnly failing (old.path.items ++ item.name ∷ []) inside
+    lacks_there inside lacks =
+        subst (λ (p : List (List ℕ)). LacksOnly failing p inside) deeper lacks
+
     alone : (runs : List (List Block)) → runs ≡ runs ++ []
     alone runs = sym (append-nil runs)
 
     -- it wasn't listed
     pub folder_not_listed : HaveBytes held → HasRisenBy 0 f f' → (err : VacErr)
-        → IsNotListed tells held half.path.items err
-        → GivesUpItem does score_of s s tells held f f' old item err
+        → IsNotListed tells held failing half.path.items err
+        → GivesUpItem does score_of s s tells held failing f f' old item err
     folder_not_listed have counted err cause =
-        of err cause (unlisted_own tells held half.path.items err cause)
+        of err cause (unlisted_own tells held failing half.path.items err cause)
       where
-        free : (err : VacErr) → ((o : Option Unfit) → IsGivenUpAs err o) → refusal_of err ≡ None
-            → GivesUpItem does score_of s s tells held f f' old item err
+        free : (err : VacErr) → ((o : Option Unfit) → IsGivenUpAs ⊤ err o) → refusal_of err ≡ None
+            → GivesUpItem does score_of s s tells held failing f f' old item err
         free err any own = item_not_begun have s f f' old item err counted any own
 
         unfit : (err : VacErr) (why : Unfit)
-            → ((o : Option Unfit) → o ≡ Some why → IsGivenUpAs err o) → refusal_of err ≡ None
+            → ((o : Option Unfit) → o ≡ Some why → IsGivenUpAs ⊤ err o) → refusal_of err ≡ None
             → IsUnfitAt tells held half.path.items why
-            → GivesUpItem does score_of s s tells held f f' old item err
+            → GivesUpItem does score_of s s tells held failing f f' old item err
         unfit err why tells_it own it =
             let inside : Items Facts = in_order it.seen in
             let same = whole_read inside in
@@ -487,6 +475,8 @@ module _ {S : Type 0} (does : S → Call → S → Type 0) (score_of : List ℕ 
                 }),
                 tt,
               );
+              lacks = λ told.
+                  (lacks_read failing (old.path.items ++ item.name ∷ []) inside, tt);
               part_is = record {
                 cause = tells_it (unfit_inside (length old.path.items) (joined_path old.path.items)
                     (folder (facts_of item) (found (as_read inside)) none))
@@ -511,8 +501,8 @@ module _ {S : Type 0} (does : S → Call → S → Type 0) (score_of : List ℕ 
               counted = omega (arith, counted, failures_read inside);
             }
 
-        of : (err : VacErr) → IsNotListed tells held half.path.items err → refusal_of err ≡ None
-            → GivesUpItem does score_of s s tells held f f' old item err
+        of : (err : VacErr) → IsNotListed tells held failing half.path.items err → refusal_of err ≡ None
+            → GivesUpItem does score_of s s tells held failing f f' old item err
         of FolderFault cause own = free FolderFault (λ o. tt) own
         of (Tree (trees.Block err)) cause own = absurd cause
         of (Tree trees.SourceFault) cause own = absurd cause
@@ -526,7 +516,8 @@ module _ {S : Type 0} (does : S → Call → S → Type 0) (score_of : List ℕ 
         of NoMemory cause own = free NoMemory (λ o. tt) own
 
     -- ..since a call of it has failed
-    module _ (have : HaveBytes held) (counted : HasRisenBy 1 f f') where
+    module _ (have : HaveBytes held) (counted : HasRisenBy 1 f f')
+        (may : IsTrue tells → IsTrue (failing.list (old.path.items ++ item.name ∷ []))) where
       seen : (there : Items Facts) × IsSeenAt tells held (old.path.items ++ item.name ∷ []) there
       seen = any_seen tells held (old.path.items ++ item.name ∷ [])
 
@@ -545,11 +536,12 @@ module _ {S : Type 0} (does : S → Call → S → Type 0) (score_of : List ℕ 
           → new.skipped.items ≡ old.skipped.items
           → new.failed.items
           ≡ old.failed.items ++ path_to (joined_path old.path.items) item.name ∷ []
-          → ArchivesItem does score_of s s tells held f f' old new streams streams item
+          → ArchivesItem does score_of s s tells held failing f f' old new streams streams item
       folder_unlisted new streams qid path bsize skipped failed = record {
         part = lost_folder;
         lists = listed_as item kinds.Folder kind;
         are = (there, tt);
+        lacks = λ told. (may told, tt);
         archived = record {
           fit = refl;
           times = tt;
@@ -574,12 +566,13 @@ module _ {S : Type 0} (does : S → Call → S → Type 0) (score_of : List ℕ 
           none_more : (n : ℕ) → n ≡ n + 40 * 0
           none_more n = omega arith
 
-      pub folder_untold : (err : VacErr) → ((o : Option Unfit) → IsGivenUpAs err o)
-          → refusal_of err ≡ None → GivesUpItem does score_of s s tells held f f' old item err
+      pub folder_untold : (err : VacErr) → ((o : Option Unfit) → IsGivenUpAs ⊤ err o)
+          → refusal_of err ≡ None → GivesUpItem does score_of s s tells held failing f f' old item err
       folder_untold err free own = record {
         part = lost_folder;
         lists = listed_as item kinds.Folder kind;
         are = (there, tt);
+        lacks = λ told. (may told, tt);
         part_is = record {
           cause = free (unfit_inside (length old.path.items) (joined_path old.path.items) none);
           given_up = record {
@@ -619,14 +612,15 @@ module _ {S : Type 0} (does : S → Call → S → Type 0) (score_of : List ℕ 
       }
 
       pub folder_given_up : (err : VacErr)
-          → GivesUpItems does score_of s s' tells held f f' half err
-          → GivesUpItem does score_of s s' tells held f f' old item err
+          → GivesUpItems does score_of s s' tells held failing f f' half err
+          → GivesUpItem does score_of s s' tells held failing f f' old item err
       folder_given_up err gave = record {
         part = as_part gave.tried;
         lists = listed_as item kinds.Folder kind;
         are = (whole_there (whole gave.tried) gave.is, tt);
+        lacks = λ told. (lacks_there gave.tried (gave.lacks told), tt);
         part_is = record {
-          cause = subst (IsGivenUpAs err) (unfit_is (found gave.tried)) gave.cause;
+          cause = subst (IsGivenUpAs ⊤ err) (unfit_is (found gave.tried)) gave.cause;
           given_up = record {
             all = gave.given_up.all;
             begun =
@@ -643,7 +637,7 @@ module _ {S : Type 0} (does : S → Call → S → Type 0) (score_of : List ℕ 
       }
 
       module _ (inside : Walk) (e : FolderEntries)
-          (a : ArchivesItems does score_of s s' tells held f f' half inside e) where
+          (a : ArchivesItems does score_of s s' tells held failing f f' half inside e) where
         entries_are : e.entries ≡ directory_entry score_of old.bsize
             (item_entries score_of old.bsize (archived_from (old.qid + 1) a.tried))
         entries_are = a.entries ∙ (λ i. directory_entry score_of (bsize_is i)
@@ -655,14 +649,15 @@ module _ {S : Type 0} (does : S → Call → S → Type 0) (score_of : List ℕ 
             ∙ (λ i. metadata_entry score_of (bsize_is i) (archived_from (qid_is i) a.tried))
 
         -- all was put, and memory is short for its record
-        pub folder_unrecorded : (err : VacErr) → ((o : Option Unfit) → IsGivenUpAs err o)
-            → refusal_of err ≡ None → GivesUpItem does score_of s s' tells held f f' old item err
+        pub folder_unrecorded : (err : VacErr) → ((o : Option Unfit) → IsGivenUpAs ⊤ err o)
+            → refusal_of err ≡ None → GivesUpItem does score_of s s' tells held failing f f' old item err
         folder_unrecorded err free own =
             let put = put_as_part a.tried a.put in
             record {
               part = as_part a.tried;
               lists = listed_as item kinds.Folder kind;
               are = (whole_there (whole a.tried) a.is, tt);
+              lacks = λ told. (lacks_there a.tried (a.lacks told), tt);
               part_is = record {
                 cause = free (unfit_inside (length old.path.items) (joined_path old.path.items)
                     (folder (facts_of item) (found a.tried) none));
@@ -686,12 +681,13 @@ module _ {S : Type 0} (does : S → Call → S → Type 0) (score_of : List ℕ 
             ++ tree_entry_bytes e.metadata
             → to.metadata.items ≡ from.metadata.items ++ record_bytes
             (record_for item records.Folder (length from.entries.items / 40) old.qid)
-            → ArchivesItem does score_of s s' tells held f f' old new from to item
+            → ArchivesItem does score_of s s' tells held failing f f' old new from to item
         folder_archived new from to first second time qid path bsize skipped failed before
             before_failed entries metadata = record {
               part = as_part a.tried;
               lists = listed_as item kinds.Folder kind;
               are = (whole_there (whole a.tried) a.is, tt);
+              lacks = λ told. (lacks_there a.tried (a.lacks told), tt);
               archived = record {
                 fit = sym (unfit_is (found a.tried)) ∙ a.fit;
                 times = (time, a.times, tt);
@@ -749,7 +745,7 @@ module _ {S : Type 0} (does : S → Call → S → Type 0) (score_of : List ℕ 
       (text : List ℕ) → HasRisenBy 0 f f'
       → item.kind ≡ kinds.Folder → MAX_NESTING ≤ length old.path.items
       → text ≡ path_to (joined_path old.path.items) item.name
-      → GivesUpItem does score_of s s tells held f f' old item (TooDeep text)
+      → GivesUpItem does score_of s s tells held failing f f' old item (TooDeep text)
   folder_too_deep have s f f' old item text counted kind deep is =
       let seen = any_seen tells held (old.path.items ++ item.name ∷ []) in
       let inside : Items Facts = in_order seen.0 in
@@ -768,6 +764,7 @@ module _ {S : Type 0} (does : S → Call → S → Type 0) (score_of : List ℕ 
           },
           tt,
         );
+        lacks = λ told. lacks_read failing old.path.items part;
         part_is = record {
           cause =
               ap (unfit_inside (length old.path.items) (joined_path old.path.items))

@@ -1,5 +1,6 @@
 -- Items of a folder that were archived, some behind others.
 use Rattle.std.proofs.Common.{◌≡◌, ℕ, ◌+◌, ◌*◌, ◌/◌, Option, Some, None, List, ◌++◌, length, refl, sym, ◌∙◌, ap, subst, arith, append_assoc, append-nil, length-append}
+use Rattle.std.specs.Prelude.{⊤}
 use Rattle.std.specs.List.{flat_map}
 use Rattle.std.specs.Option.{option_or}
 use Rattle.std.proofs.lemmas.List.Concat.{flat_map-append}
@@ -30,7 +31,7 @@ use Rattle.vac_write.proofs.TriedPuts.{tried_none, tried_join, tried_front, trie
 
 -- a refusal that tells what is unfit tells it of what is unfit for the same
 pub as_unfit : (err : VacErr) (x z : Option Unfit)
-    → ((u : Unfit) → x ≡ Some u → z ≡ Some u) → IsGivenUpAs err x → IsGivenUpAs err z
+    → ((u : Unfit) → x ≡ Some u → z ≡ Some u) → IsGivenUpAs ⊤ err x → IsGivenUpAs ⊤ err z
 as_unfit FolderFault x z same cause = tt
 as_unfit (Tree (trees.Block err)) x z same cause = tt
 as_unfit (Tree trees.SourceFault) x z same cause = cause
@@ -43,7 +44,7 @@ as_unfit (TooDeep path) x z same cause = same _ cause
 as_unfit NoMemory x z same cause = tt
 
 -- one of the store tells nothing of it
-pub of_store_as : (err : VacErr) (z : Option Unfit) → IsOfStore err → IsGivenUpAs err z
+pub of_store_as : (err : VacErr) (z : Option Unfit) → IsOfStore err → IsGivenUpAs ⊤ err z
 of_store_as FolderFault z own = absurd own
 of_store_as (Tree (trees.Block err)) z own = tt
 of_store_as (Tree trees.SourceFault) z own = own
@@ -219,7 +220,7 @@ module _ {S : Type 0} (does : S → Call → S → Type 0) (score_of : List ℕ 
         → GivesUpPart does score_of s s' old (joined a b) err
     unfolding x
     part_then_given_up err then = record {
-      cause = subst (IsGivenUpAs err) unfit_is then.cause;
+      cause = subst (IsGivenUpAs ⊤ err) unfit_is then.cause;
       given_up = subst (λ (bs : List Block). GivesUpTried does score_of s s' old.bsize (joined a b) bs
           err) all_blocks_are
           (tried_later does score_of old.bsize s mid s' a b (blocks_of score_of old.bsize x)

@@ -6,12 +6,12 @@ use Rattle.std.specs.Cmp.Lexicographic.{slice_cmp}
 use Rattle.std.proofs.lemmas.Bool.{cases_Bool}
 use Rattle.std.proofs.lemmas.List.Elements.{All-from_recursion, recursion_from_All}
 use Rattle.vt_out.specs.declared.folder_item.Facts.{Facts}
-use Rattle.vt_out.specs.FolderItems.{Items, none, file, folder, other}
+use Rattle.vt_out.specs.FolderItems.{FailingPaths, Items, none, file, folder, other}
 use Rattle.vt_model.specs.History.{Block}
 use Rattle.vt_tree.proofs.Appending.{all_first, all_join, all_then}
 use Rattle.vac_model.specs.Kept.{in_order, path_to, placed}
 use Rattle.vac_model.proofs.InOrder.{NotBefore, AreOrdered, are_ordered}
-use Rattle.vac_write.specs.Tried.{Tried, no_more, read, listed, passed, unread, unlisted, whole, found, failed_at, failures, begun_in, AreBegun, AreWoven}
+use Rattle.vac_write.specs.Tried.{Tried, no_more, read, listed, passed, unread, unlisted, whole, found, failed_at, failures, LacksOnly, begun_in, AreBegun, AreWoven}
 use Rattle.vac_write.proofs.Followed.{followed}
 use Rattle.vac_write.proofs.Listed.{names_order}
 
@@ -100,6 +100,20 @@ many_failed path (passed about others) = many_failed path others
 many_failed path (unread about bytes begun others) = omega (arith, many_failed path others)
 many_failed path (unlisted about inside others) = omega (arith, many_failed path others)
 
+pub lacks_joined : (failing : FailingPaths) (path : List (List ℕ)) (a b : Tried)
+    → LacksOnly failing path a → LacksOnly failing path b → LacksOnly failing path (joined a b)
+lacks_joined failing path no_more b first then = then
+lacks_joined failing path (read about bytes others) b first then =
+    lacks_joined failing path others b first then
+lacks_joined failing path (listed about inside others) b first then =
+    (first.0, lacks_joined failing path others b first.1 then)
+lacks_joined failing path (passed about others) b first then =
+    lacks_joined failing path others b first then
+lacks_joined failing path (unread about bytes begun others) b first then =
+    (first.0, lacks_joined failing path others b first.1 then)
+lacks_joined failing path (unlisted about inside others) b first then =
+    (first.0, lacks_joined failing path others b first.1 then)
+
 -- ---- items of which no call has failed
 
 abbrev pub as_read : Items Facts → Tried
@@ -142,6 +156,14 @@ failures_read (file about bytes others) = failures_read others
 failures_read (folder about inside others) =
     omega (arith, failures_read inside, failures_read others)
 failures_read (other about others) = failures_read others
+
+pub lacks_read : (failing : FailingPaths) (path : List (List ℕ)) (items : Items Facts)
+    → LacksOnly failing path (as_read items)
+lacks_read failing path none = tt
+lacks_read failing path (file about bytes others) = lacks_read failing path others
+lacks_read failing path (folder about inside others) =
+    (lacks_read failing (path ++ about.name ∷ []) inside, lacks_read failing path others)
+lacks_read failing path (other about others) = lacks_read failing path others
 
 -- ---- runs of blocks among others
 

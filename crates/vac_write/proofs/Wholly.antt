@@ -5,7 +5,7 @@ use Rattle.std.specs.Option.{option_or}
 use Rattle.vt_out.specs.declared.folder_item.Facts.{Facts}
 use Rattle.vt_out.specs.declared.folder_item.Item.{Item}
 use Rattle.vt_out.specs.declared.folder_item.ItemKind.TheVariants as kinds
-use Rattle.vt_out.specs.FolderItems.{Items, none, file, folder, other, listed_item, listing_of, folder_at}
+use Rattle.vt_out.specs.FolderItems.{FailingPaths, Items, none, file, folder, other, listed_item, listing_of, folder_at}
 use Rattle.vt_model.specs.History.{Block}
 use Rattle.vt_tree.specs.declared.error.TreeErr.TheVariants as trees
 use Rattle.vt_tree.specs.Calls.{Call}
@@ -23,12 +23,12 @@ use Rattle.vac_write.specs.declared.streams.Streams.{Streams}
 use Rattle.vac_write.specs.Archiving.{HasRisenBy, refusal_of}
 use Rattle.vac_write.specs.Listing.{IsNotListed, IsSeenAt, AreListed, joined_path}
 use Rattle.vac_write.specs.Puts.{PutsBlocks, GivesUpBlocks, IsOfStore}
-use Rattle.vac_write.specs.Tried.{Tried, whole, found, failures}
+use Rattle.vac_write.specs.Tried.{Tried, whole, found, failures, LacksOnly}
 use Rattle.vac_write.specs.Walking.{unfit_at, archived_from, streams_blocks, IsWholeFolder, AreItemsAt, ArchivesPart, GivesUpItem, WritesStreams, ArchivesItems, GivesUpItems}
 use Rattle.vac_write.proofs.Followed.{followed, followed_none, listing_followed}
 use Rattle.vac_write.proofs.Parts.{as_unfit, of_store_as, or_behind, part_then_given_up, part_given_up}
 use Rattle.vac_write.proofs.FoundFits.{found_fits}
-use Rattle.vac_write.proofs.Tried.{joined, whole_joined, failures_joined, as_read, whole_read, failures_read}
+use Rattle.vac_write.proofs.Tried.{joined, whole_joined, lacks_joined, failures_joined, as_read, whole_read, lacks_read, failures_read}
 use Rattle.vac_write.proofs.TriedPuts.{tried_last, tried_more, tried_then}
 use Rattle.vac_write.proofs.Wholes.{Climb, Whole, are_as, are_followed, listed_climb, whole_of}
 
@@ -63,30 +63,34 @@ nothing_listed (other about others) is =
     let never : ⊥ = cc in absurd never
 
 -- no call of the store is why a folder isn't listed
-pub unlisted_own : (tells : Bool) (held : Items Facts) (path : List (List ℕ)) (err : VacErr)
-    → IsNotListed tells held path err → refusal_of err ≡ None
-unlisted_own tells held path FolderFault cause = refl
-unlisted_own tells held path (Tree (trees.Block err)) cause = absurd cause
-unlisted_own tells held path (Tree trees.SourceFault) cause = absurd cause
-unlisted_own tells held path (Tree (trees.BadEntry bad)) cause = absurd cause
-unlisted_own tells held path (Tree (trees.BadBlock depth len)) cause = absurd cause
-unlisted_own tells held path (Tree trees.TooLong) cause = refl
-unlisted_own tells held path (Tree trees.NoMemory) cause = absurd cause
-unlisted_own tells held path (BadName name) cause = refl
-unlisted_own tells held path (TooDeep name) cause = absurd cause
-unlisted_own tells held path NoMemory cause = refl
+pub unlisted_own : (tells : Bool) (held : Items Facts) (failing : FailingPaths)
+    (path : List (List ℕ)) (err : VacErr) → IsNotListed tells held failing path err
+    → refusal_of err ≡ None
+unlisted_own tells held failing path FolderFault cause = refl
+unlisted_own tells held failing path (Tree (trees.Block err)) cause = absurd cause
+unlisted_own tells held failing path (Tree trees.SourceFault) cause = absurd cause
+unlisted_own tells held failing path (Tree (trees.BadEntry bad)) cause = absurd cause
+unlisted_own tells held failing path (Tree (trees.BadBlock depth len)) cause = absurd cause
+unlisted_own tells held failing path (Tree trees.TooLong) cause = refl
+unlisted_own tells held failing path (Tree trees.NoMemory) cause = absurd cause
+unlisted_own tells held failing path (BadName name) cause = refl
+unlisted_own tells held failing path (TooDeep name) cause = absurd cause
+unlisted_own tells held failing path NoMemory cause = refl
 
 -- ---- what it holds, and its count, stay
 
 pub gave_as : {S : Type 0} (does : S → Call → S → Type 0) (score_of : List ℕ → List ℕ)
-    (s s' : S) (tells : Bool) (then held : Items Facts) (f f' : ℕ) (old : Walk) (item : Item)
-    (err : VacErr) → (IsTrue tells → then ≡ held)
-    → GivesUpItem does score_of s s' tells then f f' old item err
-    → GivesUpItem does score_of s s' tells held f f' old item err
-gave_as does score_of s s' tells then held f f' old item err same gave = record {
+    (s s' : S) (tells : Bool) (then held : Items Facts) (before failing : FailingPaths) (f f' : ℕ)
+    (old : Walk) (item : Item) (err : VacErr) → (IsTrue tells → then ≡ held)
+    → (IsTrue tells → before ≡ failing)
+    → GivesUpItem does score_of s s' tells then before f f' old item err
+    → GivesUpItem does score_of s s' tells held failing f f' old item err
+gave_as does score_of s s' tells then held before failing f f' old item err same paths gave = record {
   part = gave.part;
   lists = gave.lists;
   are = are_as tells then held old.path.items (whole gave.part) same gave.are;
+  lacks = λ told. subst (λ (p : FailingPaths). LacksOnly p old.path.items gave.part) (paths told)
+      (gave.lacks told);
   part_is = gave.part_is;
   counted = gave.counted;
 }
@@ -111,11 +115,17 @@ whole_as tells then held path inside same it = record {
 }
 
 module _ {S : Type 0} (does : S → Call → S → Type 0) (score_of : List ℕ → List ℕ) (s s' : S)
-    (tells : Bool) (then held : Items Facts) (f g f' : ℕ) (old : Walk)
-    (same : IsTrue tells → then ≡ held) (counts : g ≡ f) where
+    (tells : Bool) (then held : Items Facts) (before failing : FailingPaths) (f g f' : ℕ)
+    (old : Walk) (same : IsTrue tells → then ≡ held) (paths : IsTrue tells → before ≡ failing)
+    (counts : g ≡ f) where
+  lacks_as : (tried : Tried) → (IsTrue tells → LacksOnly before old.path.items tried)
+      → IsTrue tells → LacksOnly failing old.path.items tried
+  lacks_as tried lacks told =
+      subst (λ (p : FailingPaths). LacksOnly p old.path.items tried) (paths told) (lacks told)
+
   pub items_as : (new : Walk) (e : FolderEntries)
-      → ArchivesItems does score_of s s' tells then g f' old new e
-      → ArchivesItems does score_of s s' tells held f f' old new e
+      → ArchivesItems does score_of s s' tells then before g f' old new e
+      → ArchivesItems does score_of s s' tells held failing f f' old new e
   items_as new e a = record {
     tried = a.tried;
     is = whole_as tells then held old.path.items (whole a.tried) same a.is;
@@ -129,32 +139,37 @@ module _ {S : Type 0} (does : S → Call → S → Type 0) (score_of : List ℕ 
     path = a.path;
     bsize = a.bsize;
     put = a.put;
+    lacks = lacks_as a.tried a.lacks;
     counted = subst (λ (n : ℕ). HasRisenBy (failures a.tried) n f') counts a.counted;
   }
 
-  pub gave_items_as : (err : VacErr) → GivesUpItems does score_of s s' tells then g f' old err
-      → GivesUpItems does score_of s s' tells held f f' old err
+  pub gave_items_as : (err : VacErr)
+      → GivesUpItems does score_of s s' tells then before g f' old err
+      → GivesUpItems does score_of s s' tells held failing f f' old err
   gave_items_as err gave = record {
     tried = gave.tried;
     is = whole_as tells then held old.path.items (whole gave.tried) same gave.is;
     cause = gave.cause;
     given_up = gave.given_up;
+    lacks = lacks_as gave.tried gave.lacks;
     counted = subst (λ (n : ℕ). HasRisenBy (failures gave.tried) n f') counts gave.counted;
   }
 
 module _ {S : Type 0} (does : S → Call → S → Type 0) (score_of : List ℕ → List ℕ)
-    (tells : Bool) (held : Items Facts) (items : List Item) (old : Walk)
+    (tells : Bool) (held : Items Facts) (failing : FailingPaths) (items : List Item) (old : Walk)
     (listed : AreListed tells held old.path.items items) where
   -- an item was given up, behind others that were tried
   pub items_given_up : (s mid s' : S) (f g f' : ℕ) (half : Walk) (from between : Streams)
       (done : Tried) (item : Item) (left : List Item) (err : VacErr)
       → items ≡ listing_of (whole done) ++ (item ∷ left)
       → AreItemsAt tells held old.path.items (whole done)
+      → (IsTrue tells → LacksOnly failing old.path.items done)
       → ArchivesPart does score_of s mid old half from between done
       → HasRisenBy (failures done) f g
-      → GivesUpItem does score_of mid s' tells held g f' half item err
-      → GivesUpItems does score_of s s' tells held f f' old err
-  items_given_up s mid s' f g f' half from between done item left err split are first counts gave =
+      → GivesUpItem does score_of mid s' tells held failing g f' half item err
+      → GivesUpItems does score_of s s' tells held failing f f' old err
+  items_given_up s mid s' f g f' half from between done item left err split are lacks first counts
+      gave =
       let path = old.path.items in
       let there : Items Facts = followed (whole done) (whole gave.part) in
       let all : Tried = joined done gave.part in
@@ -200,6 +215,11 @@ module _ {S : Type 0} (does : S → Call → S → Type 0) (score_of : List ℕ 
         given_up = tried_more does score_of old.bsize s s' tried
             (blocks_of score_of old.bsize (archived_from old.qid tried))
             (folder_blocks score_of old.bsize (archived_from old.qid tried)) err gives.given_up;
+        lacks = λ told. lacks_joined failing path all (as_read stands.rest)
+            (lacks_joined failing path done gave.part (lacks told)
+            (subst (λ (p : List (List ℕ)). LacksOnly failing p gave.part) first.path
+            (gave.lacks told)))
+            (lacks_read failing path stands.rest);
         counted = omega (
           arith,
           counts,
@@ -214,6 +234,7 @@ module _ {S : Type 0} (does : S → Call → S → Type 0) (score_of : List ℕ 
       (no_entries : from.entries.items ≡ []) (no_metadata : from.metadata.items ≡ [])
       (all : items ≡ listing_of (whole done))
       (are : AreItemsAt tells held old.path.items (whole done))
+      (lacks : IsTrue tells → LacksOnly failing old.path.items done)
       (first : ArchivesPart does score_of s mid old half from to done)
       (counts : HasRisenBy (failures done) f g) where
     abbrev x : Items Numbered
@@ -263,7 +284,7 @@ module _ {S : Type 0} (does : S → Call → S → Type 0) (score_of : List ℕ 
 
     pub items_archived : (s' : S) (e : FolderEntries)
         → WritesStreams does score_of mid s' half.bsize to e
-        → ArchivesItems does score_of s s' tells held f g old half e
+        → ArchivesItems does score_of s s' tells held failing f g old half e
     items_archived s' e wrote =
         let same = first.bsize in
         record {
@@ -285,12 +306,13 @@ module _ {S : Type 0} (does : S → Call → S → Type 0) (score_of : List ℕ 
               (subst (PutsBlocks does mid s') blocks_are
               (subst (λ (n : ℕ). PutsBlocks does mid s' (streams_blocks score_of n to)) same
               wrote.put));
+          lacks = lacks;
           counted = counts;
         }
 
     pub streams_given_up : (s' : S) (err : VacErr) → IsOfStore err
         → GivesUpBlocks does mid s' (streams_blocks score_of half.bsize to) err
-        → GivesUpItems does score_of s s' tells held f g old err
+        → GivesUpItems does score_of s s' tells held failing f g old err
     streams_given_up s' err own gave = record {
       tried = done;
       is = there;
@@ -300,5 +322,6 @@ module _ {S : Type 0} (does : S → Call → S → Type 0) (score_of : List ℕ 
           (subst (λ (bs : List Block). GivesUpBlocks does mid s' bs err) blocks_are
           (subst (λ (n : ℕ). GivesUpBlocks does mid s' (streams_blocks score_of n to) err)
           first.bsize gave));
+      lacks = lacks;
       counted = counts;
     }

@@ -3,7 +3,8 @@ use Rattle.std.specs.Prelude.{ℕ, ◌≡◌, ◌+◌, ◌-◌, ◌<◌, ◌≤�
 use Rattle.vt_base.specs.Faults.{HasRisen}
 use Rattle.vt_base.specs.Protocol.{Operation, sync as sync_all}
 use Rattle.vt_out.specs.declared.folder_item.Facts.{Facts}
-use Rattle.vt_out.specs.FolderItems.{Items}
+use Rattle.vt_out.specs.FolderItems.{FailingPaths, Items}
+use Rattle.vt_out.specs.declared.folder.Folder.{Ghosts as FolderOf}
 use Rattle.vt_out.specs.declared.files.OutErr.{OutErr}
 use Rattle.vt_out.specs.declared.files.OutErr.TheVariants.{Failed}
 use Rattle.vt_out.specs.declared.files.OutErr.TheVariants as outs
@@ -22,7 +23,7 @@ use Rattle.vac_model.specs.Trees.{IsTreeOf}
 use Rattle.vac_write.specs.declared.archived.Archived.{Archived}
 use Rattle.vac_write.specs.declared.error.VacErr.{VacErr}
 use Rattle.vac_write.specs.declared.error.VacErr.TheVariants.{FolderFault, Tree, BadName, TooDeep, NoMemory}
-use Rattle.vac_write.specs.Tried.{Tried, whole, found, failed_at, failures, begun_in, AreBegun, AreWoven}
+use Rattle.vac_write.specs.Tried.{Tried, whole, found, failed_at, failures, LacksOnly, begun_in, AreBegun, AreWoven}
 
 -- so many calls have failed; the count stands still at the end of its type
 abbrev pub HasRisenBy : (n old new : ℕ) → Type 0
@@ -32,12 +33,36 @@ HasRisenBy n old new = new ≡ min (old + n) (2 ^ 64 - 1)
 abbrev pub HasRisenAtLeast : (n old new : ℕ) → Type 0
 HasRisenAtLeast n old new = min (old + n) (2 ^ 64 - 1) ≤ new
 
--- What stands in a folder, in the order of names, is what it tells, if it does; and where so many of
--- the files and folders in it are taken for ones of which a call has failed, as many calls have.
-abbrev pub IsSeen : (tells : Bool) → (held : Items Facts) → (faults faults' : ℕ) → (failed : ℕ)
-    → (seen : Items Facts) → Type 0
-IsSeen tells held faults faults' failed seen =
-    (IsTrue tells → seen ≡ in_order held) × HasRisenAtLeast failed faults faults'
+-- A folder that is archived: what it holds, and at which paths a call of it may fail, where it tells
+-- them; and how many of its calls have failed before and behind.
+pub record FolderRead : Type 0 where
+  pub tells : Bool
+  pub held : Items Facts
+  pub failing : FailingPaths
+  pub faults : ℕ
+  pub faults' : ℕ
+
+-- a folder that was so before it was archived, and so behind
+abbrev pub folder_read : {F : Type 0} → FolderOf F → (before after : F) → FolderRead
+folder_read folder before after = record {
+  tells = folder.tells;
+  held = folder.holds before;
+  failing = folder.may_fail before;
+  faults = folder.faults before;
+  faults' = folder.faults after;
+}
+
+-- So a folder may have been tried: all that it holds was, in the order of names, and of each file and
+-- each folder in it that is left out for a failed call one may fail, where it tells them; and as many
+-- calls have failed as are left out so.
+pub record IsSeen (folder : FolderRead) (tried : Tried) : Type 0 where
+  pub all : IsTrue folder.tells → whole tried ≡ in_order folder.held
+  pub lacks : IsTrue folder.tells → LacksOnly folder.failing [] tried
+  pub counted : HasRisenAtLeast (failures tried) folder.faults folder.faults'
+
+-- the listing of the folder itself may fail, if it tells so
+abbrev pub IsUnlisted : FolderRead → Type 0
+IsUnlisted folder = IsTrue folder.tells → IsTrue (folder.failing.list [])
 
 -- these blocks are put in order, and then all is synced
 abbrev pub asked_for_all : List Block → List Operation
@@ -65,11 +90,10 @@ pub record KeepsArchive {S : Type 0} (holds : S → Maps → Type 0) (score_of :
 -- asked for but what was put of files of which a read has failed. What was skipped is told, and of
 -- what a call has failed.
 pub record WritesArchive {S : Type 0} (does : S → Call → S → Type 0) (holds : S → Maps → Type 0)
-    (score_of : List ℕ → List ℕ) (s s' : S) (bsize : ℕ)
-    (is_seen : (failed : ℕ) → Items Facts → Type 0)
+    (score_of : List ℕ → List ℕ) (s s' : S) (bsize : ℕ) (folder : FolderRead)
     (a : Archived) : Type 0 where
   pub tried : Tried
-  pub is : is_seen (failures tried) (whole tried)
+  pub is : IsSeen folder tried
   pub fit : first_unfit (found tried) ≡ None
   pub few : count (archived (found tried)) < 2 ^ 64
   pub times : HaveTimes (found tried)
@@ -84,18 +108,36 @@ pub record WritesArchive {S : Type 0} (does : S → Call → S → Type 0) (hold
   pub asked : map asked_of calls ≡ asked_for_all all
   pub keeps : (m : Maps) → holds s m → KeepsArchive holds score_of s' m bsize all (found tried)
 
--- which refusal a folder is given up for, of which this is the first thing that is unfit
-abbrev pub IsGivenUpAs : VacErr → Option Unfit → Type 0
-IsGivenUpAs FolderFault unfit = ⊤
-IsGivenUpAs (Tree (trees.Block err)) unfit = ⊤
-IsGivenUpAs (Tree trees.SourceFault) unfit = ⊥
-IsGivenUpAs (Tree (trees.BadEntry bad)) unfit = ⊥
-IsGivenUpAs (Tree (trees.BadBlock depth len)) unfit = ⊥
-IsGivenUpAs (Tree trees.TooLong) unfit = unfit ≡ Some too_long
-IsGivenUpAs (Tree trees.NoMemory) unfit = ⊤
-IsGivenUpAs (BadName path) unfit = unfit ≡ Some (bad_name path)
-IsGivenUpAs (TooDeep path) unfit = unfit ≡ Some (too_deep path)
-IsGivenUpAs NoMemory unfit = ⊤
+-- A folder that holds this was archived whole: the blocks of its archive were put, each behind those
+-- that it names, the store was synced behind them, and nothing else was asked for.
+pub record WritesWhole {S : Type 0} (does : S → Call → S → Type 0) (holds : S → Maps → Type 0)
+    (score_of : List ℕ → List ℕ) (s s' : S) (bsize : ℕ) (held : Items Facts) (a : Archived)
+    : Type 0 where
+  pub fit : first_unfit held ≡ None
+  pub few : count (archived held) < 2 ^ 64
+  pub times : HaveTimes held
+  pub score : a.score.0 ≡ (archive_of score_of bsize held).score
+  pub left_out : a.skipped ≡ skipped held
+  pub calls : List Call
+  pub made : Makes does s calls s'
+  pub accepted : refusals_of calls ≡ []
+  pub asked : map asked_of calls ≡ asked_for_all (archive_of score_of bsize held).blocks
+  pub keeps : (m : Maps) → holds s m
+      → KeepsArchive holds score_of s' m bsize (archive_of score_of bsize held).blocks held
+
+-- which refusal a folder is given up for, of which this is the first thing that is unfit, and this what
+-- holds where a call of it has failed
+abbrev pub IsGivenUpAs : (failed : Type 0) → VacErr → Option Unfit → Type 0
+IsGivenUpAs failed FolderFault unfit = failed
+IsGivenUpAs failed (Tree (trees.Block err)) unfit = ⊤
+IsGivenUpAs failed (Tree trees.SourceFault) unfit = ⊥
+IsGivenUpAs failed (Tree (trees.BadEntry bad)) unfit = ⊥
+IsGivenUpAs failed (Tree (trees.BadBlock depth len)) unfit = ⊥
+IsGivenUpAs failed (Tree trees.TooLong) unfit = unfit ≡ Some too_long
+IsGivenUpAs failed (Tree trees.NoMemory) unfit = ⊤
+IsGivenUpAs failed (BadName path) unfit = unfit ≡ Some (bad_name path)
+IsGivenUpAs failed (TooDeep path) unfit = unfit ≡ Some (too_deep path)
+IsGivenUpAs failed NoMemory unfit = ⊤
 
 -- what a stream that was given up is answered with: its source is a file of the folder
 abbrev pub of_stream : TreeErr → VacErr
@@ -129,15 +171,14 @@ refusal_of NoMemory = None
 
 -- Archiving was given up: of what is asked for an archive of what was found until then, and of all
 -- that stands behind it, the first was asked, and nothing else. No call was refused but the last,
--- where that is told. Where that is for a failed call of the folder,
--- nothing was asked.
+-- where that is told. Where that is for a failed call of the folder, it was one that lists the folder
+-- itself, and nothing was asked.
 pub record GivesUpArchive {S : Type 0} (does : S → Call → S → Type 0) (holds : S → Maps → Type 0)
-    (score_of : List ℕ → List ℕ) (s s' : S) (bsize : ℕ)
-    (is_seen : (failed : ℕ) → Items Facts → Type 0)
+    (score_of : List ℕ → List ℕ) (s s' : S) (bsize : ℕ) (folder : FolderRead)
     (err : VacErr) : Type 0 where
   pub tried : Tried
-  pub is : is_seen (failures tried) (whole tried)
-  pub cause : IsGivenUpAs err (first_unfit (found tried))
+  pub is : IsSeen folder tried
+  pub cause : IsGivenUpAs (IsUnlisted folder) err (first_unfit (found tried))
   pub all : List Block
   pub puts : PutsFor score_of bsize tried all
   pub calls : List Call

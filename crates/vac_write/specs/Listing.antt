@@ -1,10 +1,10 @@
 -- The items of a folder, as an archiver takes them: in order, and tested.
-use Rattle.std.specs.Prelude.{ℕ, ◌≡◌, ◌≤◌, ◌+◌, ◌||◌, nat_lt, ⊤, IsTrue, Bool, false, Some, None, List, [], ◌∷◌, length}
+use Rattle.std.specs.Prelude.{ℕ, ◌≡◌, ◌≢◌, ◌≤◌, ◌+◌, ◌||◌, nat_lt, ⊤, IsTrue, Bool, false, Some, None, List, [], ◌∷◌, length}
 use Rattle.vt_out.specs.declared.folder_item.Facts.{Facts}
 use Rattle.vt_out.specs.declared.folder_item.Item.{Item}
 use Rattle.vt_out.specs.declared.folder_item.ItemKind.{ItemKind}
 use Rattle.vt_out.specs.declared.folder_item.ItemKind.TheVariants.{File, Folder, Other}
-use Rattle.vt_out.specs.FolderItems.{Items, listing_of, folder_at}
+use Rattle.vt_out.specs.FolderItems.{FailingPaths, Items, ListMayFail, listing_of, folder_at, file_at}
 use Rattle.vt_tree.specs.declared.error.TreeErr.TheVariants as trees
 use Rattle.vac_meta.specs.declared.TheConstants.{MAX_NAME}
 use Rattle.vac_meta.specs.Records.{IsItemName}
@@ -49,19 +49,25 @@ pub record IsUnfitAt (tells : Bool) (held : Items Facts) (path : List (List ℕ)
   pub is : IsTrue tells → folder_at path held ≡ Some seen
   pub unfit : unfit_listing (joined_path path) (in_order seen) ≡ Some why
 
+-- what a folder lists stands at its path
+abbrev pub StandsAt : (held : Items Facts) → (path : List (List ℕ)) → ItemKind → Type 0
+StandsAt held path File = file_at path held ≢ None
+StandsAt held path Folder = folder_at path held ≢ None
+StandsAt held path Other = ⊤
+
 -- why a folder's items aren't handed on
-abbrev pub IsNotListed : (tells : Bool) → (held : Items Facts) → (path : List (List ℕ)) → VacErr
-    → Type 0
-IsNotListed tells held path FolderFault = ⊤
-IsNotListed tells held path (Tree (trees.Block err)) = ⊥
-IsNotListed tells held path (Tree trees.SourceFault) = ⊥
-IsNotListed tells held path (Tree (trees.BadEntry bad)) = ⊥
-IsNotListed tells held path (Tree (trees.BadBlock depth len)) = ⊥
-IsNotListed tells held path (Tree trees.TooLong) = IsUnfitAt tells held path too_long
-IsNotListed tells held path (Tree trees.NoMemory) = ⊥
-IsNotListed tells held path (BadName name) = IsUnfitAt tells held path (bad_name name)
-IsNotListed tells held path (TooDeep name) = ⊥
-IsNotListed tells held path NoMemory = ⊤
+abbrev pub IsNotListed : (tells : Bool) → (held : Items Facts) → FailingPaths
+    → (path : List (List ℕ)) → VacErr → Type 0
+IsNotListed tells held failing path FolderFault = IsTrue tells → ListMayFail failing held path
+IsNotListed tells held failing path (Tree (trees.Block err)) = ⊥
+IsNotListed tells held failing path (Tree trees.SourceFault) = ⊥
+IsNotListed tells held failing path (Tree (trees.BadEntry bad)) = ⊥
+IsNotListed tells held failing path (Tree (trees.BadBlock depth len)) = ⊥
+IsNotListed tells held failing path (Tree trees.TooLong) = IsUnfitAt tells held path too_long
+IsNotListed tells held failing path (Tree trees.NoMemory) = ⊥
+IsNotListed tells held failing path (BadName name) = IsUnfitAt tells held path (bad_name name)
+IsNotListed tells held failing path (TooDeep name) = ⊥
+IsNotListed tells held failing path NoMemory = ⊤
 
 -- what the texts of an item may be that has a record
 pub record FitsArchivedItem (item : Item) : Type 0 where

@@ -1,12 +1,12 @@
 -- What is read of a file as a stream.
-use Rattle.std.specs.Prelude.{ℕ, ◌+◌, ⊤, Bool, cond, true, false, Option, Some, None, List, [], ◌∷◌, drop}
+use Rattle.std.specs.Prelude.{ℕ, ◌+◌, ◌<◌, ◌^◌, ◌&&◌, ⊤, Bool, cond, true, false, not, is_some, Option, Some, None, List, [], ◌∷◌, drop}
 use Rattle.std.proofs.Common.{arith}
 use Rattle.std.proofs.lemmas.List.{get_or-drop}
 use Rattle.std.specs.Option.{option_and_then}
 use Rattle.std.specs.Str.{bytes_eq}
 use Rattle.vt_base.specs.Bytes.{AreBytes, AreBytes-none}
 use Rattle.vt_out.specs.declared.folder_item.Facts.{Facts}
-use Rattle.vt_out.specs.FolderItems.{Items, none, file, folder, other, IsFile, HaveBytes, inside_of, bytes_of, file_at}
+use Rattle.vt_out.specs.FolderItems.{FailingPaths, Items, none, file, folder, other, IsFile, HaveBytes, inside_of, bytes_of, file_at}
 
 -- the bytes, or none where there is no file
 abbrev pub or_none : Option (List ℕ) → List ℕ
@@ -17,10 +17,33 @@ or_none (Some bytes) = bytes
 abbrev pub bytes_at_path : (path : List (List ℕ)) → Items Facts → List ℕ
 bytes_at_path path items = or_none (file_at path items)
 
--- what a folder holds, where it tells it
-abbrev pub told_items : (tells : Bool) → (held : Items Facts) → Option (Items Facts)
-told_items true held = Some held
-told_items false held = None
+-- what a folder holds, and at which paths a call of it may fail, where it tells them
+abbrev pub told_folder : (tells : Bool) → (held : Items Facts) → FailingPaths
+    → Option (Items Facts × FailingPaths)
+told_folder true held failing = Some (held, failing)
+told_folder false held failing = None
+
+-- whether no read of the file at this path fails: the folder tells that one stands there, and that none
+-- may
+abbrev pub is_sure : (tells : Bool) → (held : Items Facts) → FailingPaths
+    → (path : List (List ℕ)) → Bool
+is_sure false held failing path = false
+is_sure true held failing path = is_some (file_at path held) && not (failing.read path)
+
+-- how many calls of the folder have failed, where one of the file may
+abbrev pub unsure_faults : (sure : Bool) → (faults : ℕ) → ℕ
+unsure_faults true faults = 0
+unsure_faults false faults = faults
+
+-- ..and where none may
+abbrev pub sure_faults : (sure : Bool) → (faults : ℕ) → ℕ
+sure_faults true faults = faults
+sure_faults false faults = 0
+
+-- a count is below its type's end in either case
+pub unsure_fit : (sure : Bool) (faults : ℕ) → faults < 2 ^ 64 → unsure_faults sure faults < 2 ^ 64
+unsure_fit true faults fits = omega arith
+unsure_fit false faults fits = fits
 
 -- ---- it has bytes
 

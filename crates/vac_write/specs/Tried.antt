@@ -1,7 +1,7 @@
 -- A folder as an archiver tried it: what it found there, and of what a call failed.
-use Rattle.std.specs.Prelude.{ℕ, ◌≡◌, ◌+◌, ⊤, List, [], ◌∷◌, ◌++◌}
+use Rattle.std.specs.Prelude.{ℕ, ◌≡◌, ◌+◌, ⊤, IsTrue, List, [], ◌∷◌, ◌++◌}
 use Rattle.vt_out.specs.declared.folder_item.Facts.{Facts}
-use Rattle.vt_out.specs.FolderItems.{Items, none, file, folder, other}
+use Rattle.vt_out.specs.FolderItems.{FailingPaths, Items, none, file, folder, other}
 use Rattle.vt_model.specs.History.{Block}
 use Rattle.vt_tree.specs.Streams.{stream_of}
 use Rattle.vac_model.specs.Archives.{file_shape}
@@ -58,6 +58,20 @@ failures (listed about inside others) = failures inside + failures others
 failures (passed about others) = failures others
 failures (unread about bytes begun others) = 1 + failures others
 failures (unlisted about inside others) = 1 + failures others
+
+-- only such are lacking of which a call may fail: each file that wasn't read to its end is one of which
+-- a read may, and each folder that wasn't listed one of which the listing may, below a folder at this
+-- path
+abbrev pub LacksOnly : FailingPaths → (path : List (List ℕ)) → Tried → Type 0
+LacksOnly failing path no_more = ⊤
+LacksOnly failing path (read about bytes others) = LacksOnly failing path others
+LacksOnly failing path (listed about inside others) =
+    LacksOnly failing (path ++ about.name ∷ []) inside × LacksOnly failing path others
+LacksOnly failing path (passed about others) = LacksOnly failing path others
+LacksOnly failing path (unread about bytes begun others) =
+    IsTrue (failing.read (path ++ about.name ∷ [])) × LacksOnly failing path others
+LacksOnly failing path (unlisted about inside others) =
+    IsTrue (failing.list (path ++ about.name ∷ [])) × LacksOnly failing path others
 
 -- ---- blocks of files that weren't read to their end
 

@@ -1,10 +1,10 @@
 -- What archiving the items of one folder leaves.
-use Rattle.std.specs.Prelude.{ℕ, ◌≡◌, ◌<◌, ◌^◌, ◌+◌, ◌-◌, ◌*◌, ◌/◌, ⊤, Bool, true, false, bit_and, Option, None, List, [], ◌∷◌, ◌++◌, length, take}
+use Rattle.std.specs.Prelude.{ℕ, ◌≡◌, ◌<◌, ◌^◌, ◌+◌, ◌-◌, ◌*◌, ◌/◌, ⊤, Bool, true, false, IsTrue, bit_and, Option, None, List, [], ◌∷◌, ◌++◌, length, take}
 use Rattle.std.specs.List.{flat_map}
 use Rattle.std.specs.Option.{option_or}
 use Rattle.vt_out.specs.declared.folder_item.Facts.{Facts}
 use Rattle.vt_out.specs.declared.folder_item.Item.{Item}
-use Rattle.vt_out.specs.FolderItems.{Items, none, file, folder, other, listing_of}
+use Rattle.vt_out.specs.FolderItems.{FailingPaths, Items, none, file, folder, other, listing_of}
 use Rattle.vt_model.specs.History.{Block}
 use Rattle.vt_tree.specs.Calls.{Call}
 use Rattle.vt_tree.specs.declared.entry.Entry.{Entry}
@@ -27,7 +27,7 @@ use Rattle.vac_write.specs.Archiving.{HasRisenBy, IsGivenUpAs}
 use Rattle.vac_write.specs.Files.{IsWholeFile}
 use Rattle.vac_write.specs.Listing.{IsSeenAt, joined_path}
 use Rattle.vac_write.specs.Puts.{PutsBlocks, GivesUpBlocks}
-use Rattle.vac_write.specs.Tried.{Tried, whole, found, failed_at, failures, begun_in, AreBegun, AreWoven}
+use Rattle.vac_write.specs.Tried.{Tried, whole, found, failed_at, failures, LacksOnly, begun_in, AreBegun, AreWoven}
 
 -- the first thing that makes the items of the folder at this path unfit, which lies as deep as the
 -- path is long
@@ -168,29 +168,31 @@ pub record ArchivesPart {S : Type 0} (does : S → Call → S → Type 0) (score
 -- The items were given up: of these blocks the first were put, and nothing else was asked for.
 pub record GivesUpPart {S : Type 0} (does : S → Call → S → Type 0) (score_of : List ℕ → List ℕ)
     (s s' : S) (old : Walk) (part : Tried) (err : VacErr) : Type 0 where
-  pub cause : IsGivenUpAs err
+  pub cause : IsGivenUpAs ⊤ err
       (unfit_inside (length old.path.items) (joined_path old.path.items) (found part))
   pub given_up : GivesUpTried does score_of s s' old.bsize part
       (blocks_of score_of old.bsize (archived_from old.qid part)) err
 
 -- This item of the folder at the path was archived, or left out since a call of it has failed.
 pub record ArchivesItem {S : Type 0} (does : S → Call → S → Type 0) (score_of : List ℕ → List ℕ)
-    (s s' : S) (tells : Bool) (held : Items Facts) (faults faults' : ℕ) (old new : Walk)
+    (s s' : S) (tells : Bool) (held : Items Facts) (failing : FailingPaths) (faults faults' : ℕ) (old new : Walk)
     (from to : Streams) (item : Item) : Type 0 where
   pub part : Tried
   pub lists : listing_of (whole part) ≡ item ∷ []
   pub are : AreItemsAt tells held old.path.items (whole part)
   pub archived : ArchivesPart does score_of s s' old new from to part
+  pub lacks : IsTrue tells → LacksOnly failing old.path.items part
   pub counted : HasRisenBy (failures part) faults faults'
 
 -- an item isn't archived for this reason; what was put for it is a beginning of what it calls for
 pub record GivesUpItem {S : Type 0} (does : S → Call → S → Type 0) (score_of : List ℕ → List ℕ)
-    (s s' : S) (tells : Bool) (held : Items Facts) (faults faults' : ℕ) (old : Walk) (item : Item)
-    (err : VacErr) : Type 0 where
+    (s s' : S) (tells : Bool) (held : Items Facts) (failing : FailingPaths) (faults faults' : ℕ) (old : Walk)
+    (item : Item) (err : VacErr) : Type 0 where
   pub part : Tried
   pub lists : listing_of (whole part) ≡ item ∷ []
   pub are : AreItemsAt tells held old.path.items (whole part)
   pub part_is : GivesUpPart does score_of s s' old part err
+  pub lacks : IsTrue tells → LacksOnly failing old.path.items part
   pub counted : HasRisenBy (failures part) faults faults'
 
 -- ---- a folder's two streams
@@ -233,7 +235,7 @@ root_blocks score_of bsize top =
 -- skipped, and of what a call has failed, was noted.
 pub record ArchivesItems {S : Type 0} (does : S → Call → S → Type 0)
     (score_of : List ℕ → List ℕ) (s s' : S) (tells : Bool) (held : Items Facts)
-    (faults faults' : ℕ) (old new : Walk) (e : FolderEntries) : Type 0 where
+    (failing : FailingPaths) (faults faults' : ℕ) (old new : Walk) (e : FolderEntries) : Type 0 where
   pub tried : Tried
   pub is : IsWholeFolder tells held old.path.items (whole tried)
   pub fit : unfit_at old.path.items (found tried) ≡ None
@@ -250,15 +252,17 @@ pub record ArchivesItems {S : Type 0} (does : S → Call → S → Type 0)
   pub bsize : new.bsize ≡ old.bsize
   pub put : PutsTried does score_of s s' old.bsize tried
       (all_blocks score_of old.bsize (archived_from old.qid tried))
+  pub lacks : IsTrue tells → LacksOnly failing old.path.items tried
   pub counted : HasRisenBy (failures tried) faults faults'
 
 -- The folder was given up: of these blocks the first were put, and nothing else was asked for.
 pub record GivesUpItems {S : Type 0} (does : S → Call → S → Type 0)
     (score_of : List ℕ → List ℕ) (s s' : S) (tells : Bool) (held : Items Facts)
-    (faults faults' : ℕ) (old : Walk) (err : VacErr) : Type 0 where
+    (failing : FailingPaths) (faults faults' : ℕ) (old : Walk) (err : VacErr) : Type 0 where
   pub tried : Tried
   pub is : IsWholeFolder tells held old.path.items (whole tried)
-  pub cause : IsGivenUpAs err (unfit_at old.path.items (found tried))
+  pub cause : IsGivenUpAs ⊤ err (unfit_at old.path.items (found tried))
   pub given_up : GivesUpTried does score_of s s' old.bsize tried
       (all_blocks score_of old.bsize (archived_from old.qid tried)) err
+  pub lacks : IsTrue tells → LacksOnly failing old.path.items tried
   pub counted : HasRisenBy (failures tried) faults faults'

@@ -4,14 +4,14 @@ ghost use Rattle.std.specs.Prelude.{◌≡◌, ◌+◌, ◌-◌, ◌/◌, ◌≤
 ghost use Rattle.std.specs.Prelude.{IsTrue, IfOk, IfErr, OnOk, MatchResult};
 ghost use Rattle.vt_base.specs.Faults.{CountsFault};
 ghost use Rattle.vac_model.specs.declared.TheConstants.{MIN_BLOCK_SIZE, MAX_BLOCK_SIZE, MAX_NESTING};
-ghost use Rattle.vac_write.specs.Archiving.{CountsFailures, IsSeen, WritesArchive, GivesUpArchive};
+ghost use Rattle.vac_write.specs.Archiving.{CountsFailures, WritesArchive, GivesUpArchive, folder_read};
 ghost use Rattle.vac_write.specs.Archiving.{is_folder_fault};
 ghost use Rattle.vac_write.specs.Puts.{PutsBlocks, GivesUpBlocks, IsOfStore};
 ghost use Rattle.vac_write.specs.Walking.{AddsFile, AddsFolder, LeavesOut, IsHandedOn};
 ghost use Rattle.vac_write.specs.Walking.{top_of, root_blocks};
 ghost use Rattle.vac_write.specs.Walking.{ArchivesItems, GivesUpItems, ArchivesItem, GivesUpItem};
-ghost use Rattle.vac_write.specs.Files.{IsWholeFile, GivesUpTree};
-ghost use Rattle.vac_write.specs.Listing.{AreListed, joined_path, IfKept, FitsArchivedItem};
+ghost use Rattle.vac_write.specs.Files.{IsUnread, IsWholeFile, GivesUpTree};
+ghost use Rattle.vac_write.specs.Listing.{AreListed, StandsAt, joined_path, IfKept, FitsArchivedItem};
 ghost use Rattle.vac_model.specs.Archives.{file_shape, root_of};
 ghost use Rattle.vac_model.specs.Kept.{path_to};
 ghost use Rattle.vt_tree.specs.Entries.{IsTreeEntry};
@@ -48,13 +48,12 @@ pub fn archive<F: Folder, B: Blocks>(
     requires least { MIN_BLOCK_SIZE ≤ bsize }
     requires most { bsize ≤ MAX_BLOCK_SIZE }
     ensures archived { IfOk result (WritesArchive B.does B.holds B.score_of blocks.old blocks.new
-        bsize (IsSeen F.tells (F.holds folder.old) (F.faults folder.old)
-        (F.faults folder.new))) }
+        bsize (folder_read F.Folder folder.old folder.new)) }
     ensures refused { IfErr result (GivesUpArchive B.does B.holds B.score_of blocks.old blocks.new
-        bsize (IsSeen F.tells (F.holds folder.old) (F.faults folder.old)
-        (F.faults folder.new))) }
+        bsize (folder_read F.Folder folder.old folder.new)) }
     ensures cause { CountsFailures result (F.faults folder.old) (F.faults folder.new) }
     ensures stays { IsTrue F.tells → F.holds folder.new ≡ F.holds folder.old }
+    ensures paths { IsTrue F.tells → F.may_fail folder.new ≡ F.may_fail folder.old }
 {
     let items = items_at(alloc, folder, &[])?;
     let mut walk = Walk {
@@ -101,13 +100,15 @@ impl Walk {
         requires deep { length self.old.path.items ≤ MAX_NESTING }
         requires listed { AreListed F.tells (F.holds folder.old) self.old.path.items items.items }
         ensures archived { IfOk result (ArchivesItems B.does B.score_of blocks.old blocks.new
-            F.tells (F.holds folder.old) (F.faults folder.old) (F.faults folder.new) self.old
-            self.new) }
+            F.tells (F.holds folder.old) (F.may_fail folder.old) (F.faults folder.old)
+            (F.faults folder.new) self.old self.new) }
         ensures allowed { IfOk result (λ e. IsTreeEntry e.entries × IsTreeEntry e.metadata) }
         ensures refused { IfErr result (GivesUpItems B.does B.score_of blocks.old blocks.new
-            F.tells (F.holds folder.old) (F.faults folder.old) (F.faults folder.new) self.old) }
+            F.tells (F.holds folder.old) (F.may_fail folder.old) (F.faults folder.old)
+            (F.faults folder.new) self.old) }
         ensures goes_on { IfErr result (λ err. is_folder_fault err ≡ false) }
         ensures stays { IsTrue F.tells → F.holds folder.new ≡ F.holds folder.old }
+        ensures paths { IsTrue F.tells → F.may_fail folder.new ≡ F.may_fail folder.old }
     {
         let mut streams = Streams::new(self.alloc);
         for item in items {
@@ -128,16 +129,19 @@ impl Walk {
         requires least { MIN_BLOCK_SIZE ≤ self.old.bsize }
         requires most { self.old.bsize ≤ MAX_BLOCK_SIZE }
         requires deep { length self.old.path.items ≤ MAX_NESTING }
+        requires stands { IsTrue F.tells → StandsAt (F.holds folder.old)
+            (self.old.path.items ++ item.name ∷ []) item.kind }
         requires fits { IfKept item.kind (FitsArchivedItem item) }
         requires few { length streams.old.entries.items / 40 < 2 ^ 32 }
         ensures archived { OnOk result (ArchivesItem B.does B.score_of blocks.old blocks.new
-            F.tells (F.holds folder.old) (F.faults folder.old) (F.faults folder.new) self.old
-            self.new streams.old streams.new item) }
+            F.tells (F.holds folder.old) (F.may_fail folder.old) (F.faults folder.old)
+            (F.faults folder.new) self.old self.new streams.old streams.new item) }
         ensures refused { IfErr result (GivesUpItem B.does B.score_of blocks.old blocks.new
-            F.tells (F.holds folder.old) (F.faults folder.old) (F.faults folder.new) self.old
-            item) }
+            F.tells (F.holds folder.old) (F.may_fail folder.old) (F.faults folder.old)
+            (F.faults folder.new) self.old item) }
         ensures goes_on { IfErr result (λ err. is_folder_fault err ≡ false) }
         ensures stays { IsTrue F.tells → F.holds folder.new ≡ F.holds folder.old }
+        ensures paths { IsTrue F.tells → F.may_fail folder.new ≡ F.may_fail folder.old }
     {
         match item.kind {
             ItemKind::File => self.archive_file(folder, blocks, item, streams),
@@ -159,16 +163,19 @@ impl Walk {
         requires most { self.old.bsize ≤ MAX_BLOCK_SIZE }
         requires deep { length self.old.path.items ≤ MAX_NESTING }
         requires kind { item.kind ≡ ItemKind.Folder }
+        requires stands { IsTrue F.tells → StandsAt (F.holds folder.old)
+            (self.old.path.items ++ item.name ∷ []) item.kind }
         requires fits { FitsArchivedItem item }
         requires few { length streams.old.entries.items / 40 < 2 ^ 32 }
         ensures archived { OnOk result (ArchivesItem B.does B.score_of blocks.old blocks.new
-            F.tells (F.holds folder.old) (F.faults folder.old) (F.faults folder.new) self.old
-            self.new streams.old streams.new item) }
+            F.tells (F.holds folder.old) (F.may_fail folder.old) (F.faults folder.old)
+            (F.faults folder.new) self.old self.new streams.old streams.new item) }
         ensures refused { IfErr result (GivesUpItem B.does B.score_of blocks.old blocks.new
-            F.tells (F.holds folder.old) (F.faults folder.old) (F.faults folder.new) self.old
-            item) }
+            F.tells (F.holds folder.old) (F.may_fail folder.old) (F.faults folder.old)
+            (F.faults folder.new) self.old item) }
         ensures goes_on { IfErr result (λ err. is_folder_fault err ≡ false) }
         ensures stays { IsTrue F.tells → F.holds folder.new ≡ F.holds folder.old }
+        ensures paths { IsTrue F.tells → F.may_fail folder.new ≡ F.may_fail folder.old }
     {
         if self.path.len() >= MAX_NESTING {
             return Err(VacErr::TooDeep(self.path_to(&item)?));
@@ -194,16 +201,19 @@ impl Walk {
         requires least { MIN_BLOCK_SIZE ≤ self.old.bsize }
         requires most { self.old.bsize ≤ MAX_BLOCK_SIZE }
         requires kind { item.kind ≡ ItemKind.File }
+        requires stands { IsTrue F.tells → StandsAt (F.holds folder.old)
+            (self.old.path.items ++ item.name ∷ []) item.kind }
         requires fits { FitsArchivedItem item }
         requires few { length streams.old.entries.items / 40 < 2 ^ 32 }
         ensures archived { OnOk result (ArchivesItem B.does B.score_of blocks.old blocks.new
-            F.tells (F.holds folder.old) (F.faults folder.old) (F.faults folder.new) self.old
-            self.new streams.old streams.new item) }
+            F.tells (F.holds folder.old) (F.may_fail folder.old) (F.faults folder.old)
+            (F.faults folder.new) self.old self.new streams.old streams.new item) }
         ensures refused { IfErr result (GivesUpItem B.does B.score_of blocks.old blocks.new
-            F.tells (F.holds folder.old) (F.faults folder.old) (F.faults folder.new) self.old
-            item) }
+            F.tells (F.holds folder.old) (F.may_fail folder.old) (F.faults folder.old)
+            (F.faults folder.new) self.old item) }
         ensures goes_on { IfErr result (λ err. is_folder_fault err ≡ false) }
         ensures stays { IsTrue F.tells → F.holds folder.new ≡ F.holds folder.old }
+        ensures paths { IsTrue F.tells → F.may_fail folder.new ≡ F.may_fail folder.old }
     {
         self.enter(&item)?;
         let entry = match write_file(self.alloc, folder, &self.path, blocks, self.bsize) {
@@ -349,10 +359,12 @@ fn write_file<F: Folder, B: Blocks>(
         (file_shape bsize) (IsWholeFile F.tells (F.holds folder.old) path.now)) }
     ensures entry { IfOk result IsTreeEntry }
     ensures refused { IfErr result (GivesUpTree B.does B.score_of blocks.old blocks.new
-        (file_shape bsize) (IsWholeFile F.tells (F.holds folder.old) path.now)) }
+        (file_shape bsize) (IsWholeFile F.tells (F.holds folder.old) path.now)
+        (IsUnread F.tells (F.holds folder.old) (F.may_fail folder.old) path.now)) }
     ensures cause { CountsFault is_folder_fault result
         (F.faults folder.old) (F.faults folder.new) }
     ensures stays { IsTrue F.tells → F.holds folder.new ≡ F.holds folder.old }
+    ensures paths { IsTrue F.tells → F.may_fail folder.new ≡ F.may_fail folder.old }
 {
     let mut source = FileSource {
         folder,

@@ -5,6 +5,7 @@
 mod archived;
 mod archiving;
 mod error;
+mod laws;
 mod listing;
 mod sources;
 mod streams;
@@ -12,3 +13,4 @@ mod streams;
 pub use archived::{Archived, Paths};
 pub use archiving::archive;
 pub use error::VacErr;
+pub use laws::whole_folders_are_archived;

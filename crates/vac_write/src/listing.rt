@@ -36,10 +36,12 @@ pub(crate) fn items_at<F: Folder>(
 ) -> Result<Vec<Item>, VacErr>
     ensures listed { IfOk result
         (λ items. AreListed F.tells (F.holds folder.old) path.now items.items) }
-    ensures refused { IfErr result (IsNotListed F.tells (F.holds folder.old) path.now) }
+    ensures refused { IfErr result
+        (IsNotListed F.tells (F.holds folder.old) (F.may_fail folder.old) path.now) }
     ensures cause { CountsFault is_folder_fault result
         (F.faults folder.old) (F.faults folder.new) }
     ensures stays { IsTrue F.tells → F.holds folder.new ≡ F.holds folder.old }
+    ensures paths { IsTrue F.tells → F.may_fail folder.new ≡ F.may_fail folder.old }
 {
     let mut items = folder.list(alloc, path)?.into_vec();
     items.sort_by(by_name)?;

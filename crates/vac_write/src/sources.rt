@@ -17,10 +17,11 @@ pub(crate) struct FileSource<'a, 'b, F: Folder> {
 }
 
 impl<'a, 'b, F: Folder> Source for FileSource<'a, 'b, F> {
-    ghost use Rattle.std.specs.Prelude.{ℕ, Option, List, take, drop};
+    ghost use Rattle.std.specs.Prelude.{ℕ, Bool, Option, List, take, drop};
     ghost use Rattle.vt_out.specs.declared.folder_item.Facts.{Facts};
-    ghost use Rattle.vt_out.specs.FolderItems.{Items};
-    ghost use Rattle.vac_write.specs.Sources.{bytes_at_path, left_bytes, told_items};
+    ghost use Rattle.vt_out.specs.FolderItems.{FailingPaths, Items};
+    ghost use Rattle.vac_write.specs.Sources.{bytes_at_path, left_bytes, told_folder, is_sure};
+    ghost use Rattle.vac_write.specs.Sources.{sure_faults, unsure_faults, unsure_fit};
 
     ghost tells = { F.tells };
 
@@ -28,17 +29,29 @@ impl<'a, 'b, F: Folder> Source for FileSource<'a, 'b, F> {
 
     ghost left = { λ s. drop s.at (bytes_at_path s.path.now (F.holds s.folder.now)) };
 
-    ghost faults = { λ s. F.faults s.folder.now };
+    // (where no read may fail none is counted, so that one that is told is one that may)
+    ghost faults = { λ s. unsure_faults
+        (is_sure F.tells (F.holds s.folder.now) (F.may_fail s.folder.now) s.path.now)
+        (F.faults s.folder.now) };
 
-    ghost Kept = { ℕ × List (List ℕ) × Option (Items Facts) };
+    ghost Kept = { ℕ × List (List ℕ) × Option (Items Facts × FailingPaths) × Bool × ℕ };
 
-    ghost kept = { λ s.
-        (s.folder.ghost_name, s.path.now, told_items F.tells (F.holds s.folder.now)) };
+    ghost kept = { λ s. (
+      s.folder.ghost_name,
+      s.path.now,
+      told_folder F.tells (F.holds s.folder.now) (F.may_fail s.folder.now),
+      is_sure F.tells (F.holds s.folder.now) (F.may_fail s.folder.now) s.path.now,
+      sure_faults
+          (is_sure F.tells (F.holds s.folder.now) (F.may_fail s.folder.now) s.path.now)
+          (F.faults s.folder.now),
+    ) };
 
     ghost left_bytes = { λ s.
         left_bytes s.path.now (F.holds s.folder.now) (F.holds_bytes s.folder.now) s.at };
 
-    ghost faults_fit = { λ s. F.faults_fit s.folder.now };
+    ghost faults_fit = { λ s. unsure_fit
+        (is_sure F.tells (F.holds s.folder.now) (F.may_fail s.folder.now) s.path.now)
+        (F.faults s.folder.now) (F.faults_fit s.folder.now) };
 
     /// No more is read than the place has room to count.
     fn take(&mut self, buf: &mut [u8]) -> Result<usize, Failed> {

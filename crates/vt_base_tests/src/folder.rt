@@ -3,7 +3,7 @@
 use std::alloc::{AllocError, Global};
 use std::test::Fail;
 use vt_base::{Failed, Text};
-use vt_out::{Facts, Folder, Item, ItemKind, MemContent, MemFolder, MemItem, OutErr};
+use vt_out::{Facts, Folder, Item, ItemKind, MemContent, MemFolder, MemItem, MemPath, OutErr};
 use vt_rows::Rows;
 
 /// The facts of an item of this name and mode: what else they say is the same of each.
@@ -216,4 +216,39 @@ fn calls_fail_on_demand(rt: HostRuntime) -> Result<(), Fail> {
     let failing = Vec::from_slice(rt.alloc(), &[1, 3])?;
     let folder = sample(rt.alloc())?.failing(failing);
     see(rt.alloc(), folder, &FAILING, 5, 2).passes()
+}
+
+/// The one path of these names.
+fn only(alloc: Global, names: &[&[u8]]) -> Result<Vec<MemPath>, AllocError> {
+    let mut paths = Vec::new(alloc);
+    paths.push(MemPath::from_vec(path(alloc, names)?))?;
+    Ok(paths)
+}
+
+/// Calls of a folder of which each at `d/f` fails.
+const FAILING_AT: [Step; 5] = [
+    ("the top is listed", &[], Act::List(Ok(TOP))),
+    (
+        "the folder of that file is listed",
+        &[b"d"],
+        Act::List(Ok(INSIDE)),
+    ),
+    (
+        "a read of the file fails",
+        &[b"d", b"f"],
+        Act::Read(0, Err(Failed), [0; 4]),
+    ),
+    (
+        "the next one fails too",
+        &[b"d", b"f"],
+        Act::Read(1, Err(Failed), [0; 4]),
+    ),
+    ("another file is read", &[b"d"], Act::Read(0, Ok(0), [0; 4])),
+];
+
+#[test]
+fn calls_fail_at_a_path(rt: HostRuntime) -> Result<(), Fail> {
+    let paths = only(rt.alloc(), &[b"d", b"f"])?;
+    let folder = sample(rt.alloc())?.failing_at(paths);
+    see(rt.alloc(), folder, &FAILING_AT, 5, 2).passes()
 }

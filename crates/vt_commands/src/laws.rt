@@ -31,7 +31,6 @@ ghost use Rattle.run_archives.specs.Vac.{StoresFolder};
 ghost use Rattle.vac_store.specs.declared.outcome.ArchiveError.{ArchiveError};
 ghost use Rattle.vac_store.specs.declared.outcome.ArchivedAt.{ArchivedAt};
 ghost use Rattle.vac_store.specs.Stored.{KeepsStored};
-ghost use Rattle.vac_write.specs.Archiving.{IsSeen};
 ghost use Rattle.run_base.specs.Formatting.{RefusesWord};
 ghost use Rattle.run_base.specs.Errors.{CommandOutcome, HaveFailed, PartHasFailed, HasLinkFailed, status_of, line};
 ghost use Rattle.run_base.specs.Places.{EndsIdle, NamesFile, in_memory};
@@ -236,8 +235,8 @@ pub fn archives_keep_the_store<P: Parts, N: Dialer>()
         parts dialer)
         → IsTrue parts.tells → IsTrue P.Disk.tells → AreUnder parts.old conf devices
         → IsLogOf score P.Disk.Disk tables devices c h g base
-        → WhereStored (KeepsStored score P.Disk.Disk conf bsize (IsSeen x.tells x.held 0 x.risen)
-        result parts.new tables (record c { base = base }) g) ((back : PerDevice P.Disk)
+        → WhereStored (KeepsStored score P.Disk.Disk conf bsize x.folder result
+        parts.new tables (record c { base = base }) g) ((back : PerDevice P.Disk)
         → AreUnder parts.new conf back → LeavesStanding score P.Disk.Disk tables devices back)
         result }
 {

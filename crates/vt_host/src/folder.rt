@@ -227,11 +227,13 @@ where
     ghost use Rattle.vt_base.specs.Faults.{HasCause};
     ghost use Rattle.vt_host.specs.Folders.{folder_base, folder_calls, folder_faults};
     ghost use Rattle.vt_host.specs.Paths.{AddsCalls, OpensFile, ReadsLast, path_in};
-    ghost use Rattle.vt_out.specs.FolderItems.{none};
+    ghost use Rattle.vt_out.specs.FolderItems.{all_paths, none};
 
     ghost tells = { false };
 
     ghost holds = { λ _. none };
+
+    ghost may_fail = { λ _. all_paths };
 
     ghost faults = { folder_faults };
 

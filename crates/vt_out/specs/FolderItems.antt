@@ -1,5 +1,5 @@
 -- Folders of files, as a host shows them (stat(5)): finite trees of items.
-use Rattle.std.specs.Prelude.{ℕ, ◌<◌, ◌^◌, ⊤, Option, Some, None, List, [], ◌∷◌, length, if◌then◌else◌}
+use Rattle.std.specs.Prelude.{ℕ, ◌≡◌, ◌⊎◌, ◌<◌, ◌^◌, ⊤, Bool, true, IsTrue, Option, Some, None, List, [], ◌∷◌, length, if◌then◌else◌}
 use Rattle.std.specs.Option.{option_and_then}
 use Rattle.std.specs.Str.{bytes_eq}
 use Rattle.vt_base.specs.Bytes.{AreBytes}
@@ -79,3 +79,25 @@ file_at [] items = None
 file_at (name ∷ []) items = bytes_of name items
 file_at (name ∷ next ∷ path) items =
     option_and_then (file_at (next ∷ path)) (inside_of name items)
+
+-- ---- which calls fail
+
+-- at which paths a call may fail where something stands: the listing of a folder, and a read of a file
+pub record FailingPaths : Type 0 where
+  pub list : (path : List (List ℕ)) → Bool
+  pub read : (path : List (List ℕ)) → Bool
+
+-- at all of them
+abbrev pub all_paths : FailingPaths
+all_paths = record {
+  list = λ path. true;
+  read = λ path. true;
+}
+
+-- a listing of this path may fail: it is one of those at which one may, or no folder stands there
+abbrev pub ListMayFail : FailingPaths → Items Facts → (path : List (List ℕ)) → Type 0
+ListMayFail failing items path = IsTrue (failing.list path) ⊎ (folder_at path items ≡ None)
+
+-- a read at this path may fail: it is one of those at which one may, or no file stands there
+abbrev pub ReadMayFail : FailingPaths → Items Facts → (path : List (List ℕ)) → Type 0
+ReadMayFail failing items path = IsTrue (failing.read path) ⊎ (file_at path items ≡ None)

@@ -1,7 +1,7 @@
 -- Where the folder in memory is.
 use Rattle.std.specs.Prelude.{Option, Some, None}
 use Rattle.vt_out.specs.declared.mem_folder.MemFolder.{MemFolder}
-use Rattle.vt_out.specs.FolderMemory.{state_of}
+use Rattle.vt_out.specs.FolderMemory.{may_fail_in, state_of}
 use Rattle.vt_out.specs.declared.folder_place.Place.{Place}
 use Rattle.vt_out.specs.declared.folder_place.Place.TheVariants.{Waiting, Out, Back}
 use Rattle.vt_out.specs.FolderStanding.{Standing, lent, there}
@@ -20,6 +20,6 @@ back_in (Back folder) = Some folder
 
 -- what stands there
 abbrev pub standing_at : Place → Standing
-standing_at (Waiting folder) = there (state_of folder).items
+standing_at (Waiting folder) = there (state_of folder).items (may_fail_in (state_of folder))
 standing_at Out = lent
-standing_at (Back folder) = there (state_of folder).items
+standing_at (Back folder) = there (state_of folder).items (may_fail_in (state_of folder))

@@ -28,7 +28,8 @@ pub trait Folders {
     /// and where it was handed out already.
     fn folder(&mut self, alloc: Global, name: &Text) -> Result<Self::Folder, OutErr>
         ensures found { IfOk result (λ folder. IsTrue tells → IsTrue Self.Folder.tells
-            × (standing self.old name.now ≡ there (Self.Folder.holds folder))) }
+            × (standing self.old name.now
+            ≡ there (Self.Folder.holds folder) (Self.Folder.may_fail folder))) }
         ensures fresh { IfOk result (λ folder. Self.Folder.faults folder ≡ 0) }
         ensures lent { OnOk result (IsTrue tells → standing self.new name.now ≡ lent) }
         ensures stays { OnErr result (IsTrue tells
@@ -40,7 +41,8 @@ pub trait Folders {
     /// Takes back the folder that was handed out under this name; its failed calls count.
     fn done(&mut self, name: &Text, folder: Self::Folder)
         ensures back { IsTrue tells → standing self.old name.now ≡ lent
-            → standing self.new name.now ≡ there (Self.Folder.holds folder) }
+            → standing self.new name.now
+            ≡ there (Self.Folder.holds folder) (Self.Folder.may_fail folder) }
         ensures others { IsTrue tells → (other : List ℕ) → other ≢ name.now
             → standing self.new other ≡ standing self.old other }
         ensures faults { faults self.new

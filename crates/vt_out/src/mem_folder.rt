@@ -4,7 +4,8 @@ ghost use Rattle.std.specs.Prelude.{◌<◌, ◌^◌, ◌↔◌, IsTrue, Contain
 ghost use Rattle.vt_base.specs.Bytes.{AreBytes};
 
 use crate::finding_items::{behind, file_at, folder_at, listing};
-use crate::{Facts, Folder, Listing, OutErr};
+use crate::mem_path::is_path_of;
+use crate::{Facts, Folder, Listing, MemPath, OutErr};
 use std::alloc::Global;
 use vt_base::{Failed, Text};
 
@@ -54,6 +55,8 @@ pub struct MemFolder {
     most: usize,
     /// The numbers of the calls that fail.
     failing: Vec<u64>,
+    /// The paths at which each call fails.
+    failing_at: Vec<MemPath>,
     /// How many calls were made, of `list` and `read` together.
     calls: u64,
     /// How many of them have failed.
@@ -71,6 +74,7 @@ impl MemFolder {
           items = items_in_memory items.items;
           most = 2 ^ 64 - 1;
           failing = [];
+          failing_at = [];
           calls = 0;
           faults = 0;
         } }
@@ -79,6 +83,7 @@ impl MemFolder {
             items,
             most: usize::MAX,
             failing: Vec::new(alloc),
+            failing_at: Vec::new(alloc),
             calls: 0,
             faults: 0,
         }
@@ -99,6 +104,15 @@ impl MemFolder {
     {
         let mut folder = self;
         folder.failing = calls;
+        folder
+    }
+
+    /// From now on each call at one of these paths fails, in place of those that were named before.
+    pub fn failing_at(self, paths: Vec<MemPath>) -> Self
+        ensures { state_of result ≡ record (state_of self) { failing_at = paths.items } }
+    {
+        let mut folder = self;
+        folder.failing_at = paths;
         folder
     }
 
@@ -134,7 +148,14 @@ fn is_listed(failing: &[u64], call: u64) -> bool
 impl MemFolder {
     ghost use Rattle.std.specs.Prelude.{◌≡◌, MatchBool};
     ghost use Rattle.vt_base.specs.Faults.{HasRisen};
-    ghost use Rattle.vt_out.specs.FolderMemory.{state_of, Leaves};
+    ghost use Rattle.vt_out.specs.FolderMemory.{state_of, IsToFail, Leaves};
+
+    /// Whether the next call fails by the plan, where it is one at this path.
+    fn is_to_fail(&self, path: &[Text]) -> bool
+        ensures { IsTrue result ↔ IsToFail (state_of self.now) path.now }
+    {
+        is_listed(&self.failing, self.calls) || is_path_of(&self.failing_at, path)
+    }
 
     /// Counts a call, and where it fails a fault too.
     fn count(&mut self, failed: bool)
@@ -157,6 +178,7 @@ impl Folder for MemFolder {
     ghost use Rattle.vt_out.specs.declared.folder_item.Facts.{Facts};
     ghost use Rattle.vt_out.specs.FolderItems.{Items, listing_of, folder_at, file_at};
     ghost use Rattle.vt_out.specs.FolderMemory.{state_of, FailsToList, FailsToRead, Leaves, piece};
+    ghost use Rattle.vt_out.specs.FolderMemory.{may_fail_in};
     ghost use Rattle.vt_out.specs.FolderMemoryLaws.{items_have_bytes};
     ghost use Rattle.vt_out.specs.Files.{is_fault};
 
@@ -164,13 +186,15 @@ impl Folder for MemFolder {
 
     ghost holds = { λ m. (state_of m).items };
 
+    ghost may_fail = { λ m. may_fail_in (state_of m) };
+
     ghost faults = { λ m. (state_of m).faults };
 
     ghost holds_bytes = { λ m. items_have_bytes m.items.items };
 
     ghost faults_fit = { λ m. m.faults_fit };
 
-    /// A call fails where its number is in the list, and where there is no folder at the path.
+    /// A call fails where its number or its path is in a list, and where there is no folder there.
     fn list(&mut self, alloc: Global, path: &[Text]) -> Result<Listing, OutErr>
         ensures fails { (result ≡ Err OutErr.Failed) ↔ FailsToList (state_of self.old) path.now }
         ensures listed { IfOk result (λ list. (items : Items Facts)
@@ -180,7 +204,7 @@ impl Folder for MemFolder {
         ensures cause { CountsFault is_fault result
             (state_of self.old).faults (state_of self.new).faults }
     {
-        let fails = is_listed(&self.failing, self.calls);
+        let fails = self.is_to_fail(path);
         match folder_at(&self.items, path) {
             Some(items) if !fails => {
                 let listed = listing(alloc, items);
@@ -194,7 +218,7 @@ impl Folder for MemFolder {
         }
     }
 
-    /// A call fails where its number is in the list, and where there is no file at the path.
+    /// A call fails where its number or its path is in a list, and where there is no file there.
     fn read(&mut self, path: &[Text], at: u64, buf: &mut [u8]) -> Result<usize, Failed>
         ensures fails { IsErr result ↔ FailsToRead (state_of self.old) path.now }
         ensures moved { IfOk result (λ n. (bytes : List ℕ)
@@ -205,7 +229,7 @@ impl Folder for MemFolder {
         ensures left { Leaves (state_of self.old) (state_of self.new) }
         ensures cause { HasCause result (state_of self.old).faults (state_of self.new).faults }
     {
-        let fails = is_listed(&self.failing, self.calls);
+        let fails = self.is_to_fail(path);
         match file_at(&self.items, path) {
             Some(bytes) if !fails => {
                 let left = behind(bytes, at);

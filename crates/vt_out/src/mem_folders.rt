@@ -93,7 +93,7 @@ impl Folders for MemFolders {
     ghost use Rattle.std.specs.Prelude.{◌≡◌, ◌≢◌, ◌⊎◌, ◌↔◌, true, ℕ, List, None, IfOk, IsErr};
     ghost use Rattle.std.specs.Prelude.{OnErr, OnOk};
     ghost use Rattle.vt_base.specs.Faults.{CountsFault};
-    ghost use Rattle.vt_out.specs.FolderMemory.{state_of};
+    ghost use Rattle.vt_out.specs.FolderMemory.{may_fail_in, state_of};
     ghost use Rattle.vt_out.specs.NamedFolders.{folders_faults, name_of, standing_in, waiting_of};
     ghost use Rattle.vt_out.specs.FolderStanding.{lent, there};
     ghost use Rattle.vt_out.specs.Files.{is_fault};
@@ -114,7 +114,8 @@ impl Folders for MemFolders {
         ensures refused { IsErr result
             ↔ ((name.now ≢ name_of self.old) ⊎ (waiting_of self.old ≡ None)) }
         ensures found { IfOk result (λ folder.
-            standing_in self.old name.now ≡ there (state_of folder).items) }
+            standing_in self.old name.now
+            ≡ there (state_of folder).items (may_fail_in (state_of folder))) }
         ensures fresh { IfOk result (λ folder. (state_of folder).faults ≡ 0) }
         ensures lent { OnOk result (standing_in self.new name.now ≡ lent) }
         ensures stays { OnErr result

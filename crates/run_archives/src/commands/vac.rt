@@ -5,7 +5,7 @@ ghost use Rattle.std.specs.Prelude.{◌≡◌, ◌≤◌, ℕ, List, IsTrue, Ok,
 ghost use Rattle.vt_use.specs.Places.{CanBeOpened};
 ghost use Rattle.vac_model.specs.declared.TheConstants.{MIN_BLOCK_SIZE, MAX_BLOCK_SIZE};
 ghost use Rattle.vac_store.specs.Storing.{CountsFailuresAt};
-ghost use Rattle.vac_write.specs.Archiving.{IsSeen};
+ghost use Rattle.vac_write.specs.Archiving.{folder_read};
 ghost use Rattle.run_base.specs.Change.{dialer_change, files_change, folders_change, parts_change, sink_change};
 ghost use Rattle.run_archives.specs.Vac.{Archives, ArchivesAt, ArchivesNone, AsksForNoSize, AsksForSize, DoesVac};
 ghost use Rattle.run_archives.specs.Vac.{IsArchiveRefusal, StoresFolder, StoresNone};
@@ -195,11 +195,12 @@ fn archive_watched<P: Parts, N: Dialer, F: Folder, T: Sink + Drop, S: Scorer>(
     requires least { MIN_BLOCK_SIZE ≤ bsize }
     requires most { bsize ≤ MAX_BLOCK_SIZE }
     ensures archives { ArchivesAt S.score_of P.Disk.Disk N.Link.Link at.now now bsize
-        (IsSeen F.tells (F.holds folder) (F.faults folder) (F.faults result.1)) result.0
+        (folder_read F.Folder folder result.1) result.0
         (parts_change P.Parts parts.old parts.new)
         (dialer_change N.Dialer N.Link.Link dialer.old dialer.new) }
     ensures cause { CountsFailuresAt result.0 (F.faults folder) (F.faults result.1) }
     ensures stays { IsTrue F.tells → F.holds result.1 ≡ F.holds folder }
+    ensures paths { IsTrue F.tells → F.may_fail result.1 ≡ F.may_fail folder }
 {
     let mut watched = Watched::new(folder, terminal);
     let job = ArchiveFolder { bsize };

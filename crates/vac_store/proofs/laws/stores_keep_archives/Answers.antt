@@ -11,7 +11,7 @@ use Rattle.vac_store.specs.Storing.{IsBecause, StandsIn, all_written, came_to}
 use Rattle.vac_store.proofs.laws.stores_keep_archives.Goals as goal
 
 pub returns : goal.returns
-returns g c score told conf now bsize tells held faults faults' answer said added closed old new tables devices setup h
+returns g c score told conf now bsize folder answer said added closed old new tables devices setup h
     log base is_told disk_tells x under is_log =
     let disk = g.D.Disk in
     let result = came_to answer (as_refused said) added (as_ended closed) in
@@ -19,7 +19,7 @@ returns g c score told conf now bsize tells held faults faults' answer said adde
     tables devices setup h log base is_told disk_tells x.opens under is_log in
     let tables_are = c.opened_stores_recall.ensures.tables score told conf 1 old x.during x.opened
     tables devices setup h log base is_told disk_tells x.opens under is_log in
-    let kept = c.archives_are_kept.ensures score now bsize tells held faults faults' answer said added closed log
+    let kept = c.archives_are_kept.ensures score now bsize folder answer said added closed log
     x.opened x.left disk_tells recalls.sound x.does in
     record {
       tried = kept.tried;
@@ -41,7 +41,7 @@ returns g c score told conf now bsize tells held faults faults' answer said adde
           x.left.log.durable (devices_of x.left) kept.last) tables_are
           (subst (λ (e : Setup). EachStands score disk e x.opened.log.tables x.left.log.durable
           (devices_of x.left) kept.last) recalls.setup kept.stands);
-      because = subst (λ (e : Setup). IfErr result (IsBecause score e kept.last kept.rest (found kept.tried)))
+      because = subst (λ (e : Setup). IfErr result (IsBecause score e kept.last kept.rest folder (found kept.tried)))
           recalls.setup kept.because;
       done = subst (λ (t : List Table). IfOk result (λ s. (kept.rest ≡ [])
           × StandsIn score bsize kept.tried kept.last s.archived

@@ -8,7 +8,7 @@ use Rattle.vac_store.proofs.Leaving.{all_held, write_once}
 use Rattle.vac_store.proofs.laws.truthful_servers_keep_archives.Goals as goal
 
 pub returns : goal.returns
-returns c score_of bsize tells held_by faults faults' sent back setup before after least most twenty legal it truly =
+returns c score_of bsize folder sent back setup before after least most twenty legal it truly =
     let blocks =
     woven_hold (Has score_of (held score_of after)) (begun_in it.tried)
     (archive_of score_of bsize (found it.tried)).blocks it.all it.puts.woven

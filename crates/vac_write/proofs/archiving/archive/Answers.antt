@@ -16,10 +16,11 @@ returns-in_err-items-clause-refused g c =
     let score_of = g.B.Scorer.score_of in
     let tells = g.F.Folder.tells in
     let held = g.F.Folder.holds c.args.folder.now in
+    let failing = g.F.Folder.may_fail c.args.folder.now in
     let f = g.F.Folder.faults c.args.folder.now in
     let s = c.args.blocks.now in
     let p = err_from_is_err_and c.from_residual.result c.from_residual.ensures.1 in
-    rw (p.1, p.2) (top_not_listed does holds score_of tells held g.met.B.Blocks.tells s f
+    rw (p.1, p.2) (top_not_listed does holds score_of tells held failing g.met.B.Blocks.tells s f
     (g.F.Folder.faults c.items_at.new.folder) c.args.bsize c.in_err-items.field-0.0
     (none_at_least c.in_err-items.field-0.0 f (g.F.Folder.faults c.items_at.new.folder)
     c.in_err-items.ensures.cause) c.in_err-items.ensures.refused)
@@ -31,6 +32,7 @@ returns-in_err-items-clause-cause g c =
     let score_of = g.B.Scorer.score_of in
     let tells = g.F.Folder.tells in
     let held = g.F.Folder.holds c.args.folder.now in
+    let failing = g.F.Folder.may_fail c.args.folder.now in
     let f = g.F.Folder.faults c.args.folder.now in
     let s = c.args.blocks.now in
     let p = err_from_is_err_and c.from_residual.result c.from_residual.ensures.1 in
@@ -45,9 +47,11 @@ archive_items-requires-clause-listed g c =
     let score_of = g.B.Scorer.score_of in
     let tells = g.F.Folder.tells in
     let held = g.F.Folder.holds c.args.folder.now in
+    let failing = g.F.Folder.may_fail c.args.folder.now in
     let f = g.F.Folder.faults c.args.folder.now in
     let s = c.args.blocks.now in
     let held' = g.F.Folder.holds c.items_at.new.folder in
+    let failing' = g.F.Folder.may_fail c.items_at.new.folder in
     subst (λ (p : List (List ℕ)). AreListed tells held' p c.in_ok-items.items.items)
     (sym c.new.ensures.items)
     (listed_as_held tells held' held [] c.in_ok-items.items.items c.in_ok-items.ensures.stays
@@ -60,9 +64,11 @@ returns-in_err-top-clause-refused g c =
     let score_of = g.B.Scorer.score_of in
     let tells = g.F.Folder.tells in
     let held = g.F.Folder.holds c.args.folder.now in
+    let failing = g.F.Folder.may_fail c.args.folder.now in
     let f = g.F.Folder.faults c.args.folder.now in
     let s = c.args.blocks.now in
     let held' = g.F.Folder.holds c.items_at.new.folder in
+    let failing' = g.F.Folder.may_fail c.items_at.new.folder in
     let mid = g.F.Folder.faults c.items_at.new.folder in
     let f' = g.F.Folder.faults c.archive_items.new.folder in
     let half = c.archive_items.new.blocks in
@@ -77,9 +83,10 @@ returns-in_err-top-clause-refused g c =
     let err = c.in_err-top.field-0.0 in
     let p = err_from_is_err_and c.from_residual-in_err-top.result
     c.from_residual-in_err-top.ensures.1 in
-    rw (p.1, p.2) (walk_given_up does holds score_of tells held g.met.B.Blocks.tells s half f f'
+    rw (p.1, p.2) (walk_given_up does holds score_of tells held failing g.met.B.Blocks.tells s half f f'
     c.args.bsize old err c.new.ensures.items refl refl c.in_err-top.ensures.goes_on
-    (gave_items_as does score_of s half tells held' held f mid f' old c.in_ok-items.ensures.stays
+    (gave_items_as does score_of s half tells held' held failing' failing f mid f' old c.in_ok-items.ensures.stays
+    c.in_ok-items.ensures.paths
     c.in_ok-items.ensures.cause err c.in_err-top.ensures.refused))
 
 pub returns-in_err-top-clause-cause : goal.returns-in_err-top-clause-cause
@@ -89,9 +96,11 @@ returns-in_err-top-clause-cause g c =
     let score_of = g.B.Scorer.score_of in
     let tells = g.F.Folder.tells in
     let held = g.F.Folder.holds c.args.folder.now in
+    let failing = g.F.Folder.may_fail c.args.folder.now in
     let f = g.F.Folder.faults c.args.folder.now in
     let s = c.args.blocks.now in
     let held' = g.F.Folder.holds c.items_at.new.folder in
+    let failing' = g.F.Folder.may_fail c.items_at.new.folder in
     let mid = g.F.Folder.faults c.items_at.new.folder in
     let f' = g.F.Folder.faults c.archive_items.new.folder in
     let half = c.archive_items.new.blocks in
@@ -104,8 +113,8 @@ returns-in_err-top-clause-cause g c =
       failed = c.new-3.result;
     } in
     let err = c.in_err-top.field-0.0 in
-    let gave = gave_items_as does score_of s half tells held' held f mid f' old
-    c.in_ok-items.ensures.stays c.in_ok-items.ensures.cause err c.in_err-top.ensures.refused in
+    let gave = gave_items_as does score_of s half tells held' held failing' failing f mid f' old
+    c.in_ok-items.ensures.stays c.in_ok-items.ensures.paths c.in_ok-items.ensures.cause err c.in_err-top.ensures.refused in
     let p = err_from_is_err_and c.from_residual-in_err-top.result
     c.from_residual-in_err-top.ensures.1 in
     rw (p.1, p.2) (counts_some err (failures gave.tried) f f' c.in_err-top.ensures.goes_on
@@ -118,9 +127,11 @@ returns-in_err-score-clause-refused g c =
     let score_of = g.B.Scorer.score_of in
     let tells = g.F.Folder.tells in
     let held = g.F.Folder.holds c.args.folder.now in
+    let failing = g.F.Folder.may_fail c.args.folder.now in
     let f = g.F.Folder.faults c.args.folder.now in
     let s = c.args.blocks.now in
     let held' = g.F.Folder.holds c.items_at.new.folder in
+    let failing' = g.F.Folder.may_fail c.items_at.new.folder in
     let mid = g.F.Folder.faults c.items_at.new.folder in
     let f' = g.F.Folder.faults c.archive_items.new.folder in
     let half = c.archive_items.new.blocks in
@@ -134,11 +145,12 @@ returns-in_err-score-clause-refused g c =
     } in
     let walk = c.archive_items.new.self in
     let e = c.in_ok-top.top in
-    let a = items_as does score_of s half tells held' held f mid f' old c.in_ok-items.ensures.stays
+    let a = items_as does score_of s half tells held' held failing' failing f mid f' old c.in_ok-items.ensures.stays
+    c.in_ok-items.ensures.paths
     c.in_ok-items.ensures.cause walk e c.in_ok-top.ensures.archived in
     let p = err_from_is_err_and c.from_residual-in_err-score.result
     c.from_residual-in_err-score.ensures.1 in
-    rw (p.1, p.2) (root_given_up does holds score_of tells held g.met.B.Blocks.tells s half half
+    rw (p.1, p.2) (root_given_up does holds score_of tells held failing g.met.B.Blocks.tells s half half
     c.put_root.new.blocks f f' c.args.bsize old walk e c.new.ensures.items refl refl a
     c.in_err-score.field-0.0 c.in_err-score.ensures.plain c.in_err-score.ensures.refused)
 
@@ -149,9 +161,11 @@ returns-in_err-score-clause-cause g c =
     let score_of = g.B.Scorer.score_of in
     let tells = g.F.Folder.tells in
     let held = g.F.Folder.holds c.args.folder.now in
+    let failing = g.F.Folder.may_fail c.args.folder.now in
     let f = g.F.Folder.faults c.args.folder.now in
     let s = c.args.blocks.now in
     let held' = g.F.Folder.holds c.items_at.new.folder in
+    let failing' = g.F.Folder.may_fail c.items_at.new.folder in
     let mid = g.F.Folder.faults c.items_at.new.folder in
     let f' = g.F.Folder.faults c.archive_items.new.folder in
     let half = c.archive_items.new.blocks in
@@ -165,7 +179,8 @@ returns-in_err-score-clause-cause g c =
     } in
     let walk = c.archive_items.new.self in
     let e = c.in_ok-top.top in
-    let a = items_as does score_of s half tells held' held f mid f' old c.in_ok-items.ensures.stays
+    let a = items_as does score_of s half tells held' held failing' failing f mid f' old c.in_ok-items.ensures.stays
+    c.in_ok-items.ensures.paths
     c.in_ok-items.ensures.cause walk e c.in_ok-top.ensures.archived in
     let err = c.in_err-score.field-0.0 in
     let p = err_from_is_err_and c.from_residual-in_err-score.result
@@ -180,9 +195,11 @@ returns-in_err-sync-clause-refused g c =
     let score_of = g.B.Scorer.score_of in
     let tells = g.F.Folder.tells in
     let held = g.F.Folder.holds c.args.folder.now in
+    let failing = g.F.Folder.may_fail c.args.folder.now in
     let f = g.F.Folder.faults c.args.folder.now in
     let s = c.args.blocks.now in
     let held' = g.F.Folder.holds c.items_at.new.folder in
+    let failing' = g.F.Folder.may_fail c.items_at.new.folder in
     let mid = g.F.Folder.faults c.items_at.new.folder in
     let f' = g.F.Folder.faults c.archive_items.new.folder in
     let half = c.archive_items.new.blocks in
@@ -196,11 +213,12 @@ returns-in_err-sync-clause-refused g c =
     } in
     let walk = c.archive_items.new.self in
     let e = c.in_ok-top.top in
-    let a = items_as does score_of s half tells held' held f mid f' old c.in_ok-items.ensures.stays
+    let a = items_as does score_of s half tells held' held failing' failing f mid f' old c.in_ok-items.ensures.stays
+    c.in_ok-items.ensures.paths
     c.in_ok-items.ensures.cause walk e c.in_ok-top.ensures.archived in
     let p = err_from_is_err_and c.from_residual-in_err-sync.result
     c.from_residual-in_err-sync.ensures.1 in
-    rw (p.1, p.2) (sync_refused does holds score_of tells held g.met.B.Blocks.tells s half
+    rw (p.1, p.2) (sync_refused does holds score_of tells held failing g.met.B.Blocks.tells s half
     c.put_root.new.blocks c.sync.new.self f f' c.args.bsize old walk e c.new.ensures.items refl refl a
     c.in_ok-score.ensures.put c.in_err-sync.field-0.0 c.in_err-sync.ensures)
 
@@ -211,9 +229,11 @@ returns-in_err-sync-clause-cause g c =
     let score_of = g.B.Scorer.score_of in
     let tells = g.F.Folder.tells in
     let held = g.F.Folder.holds c.args.folder.now in
+    let failing = g.F.Folder.may_fail c.args.folder.now in
     let f = g.F.Folder.faults c.args.folder.now in
     let s = c.args.blocks.now in
     let held' = g.F.Folder.holds c.items_at.new.folder in
+    let failing' = g.F.Folder.may_fail c.items_at.new.folder in
     let mid = g.F.Folder.faults c.items_at.new.folder in
     let f' = g.F.Folder.faults c.archive_items.new.folder in
     let half = c.archive_items.new.blocks in
@@ -227,7 +247,8 @@ returns-in_err-sync-clause-cause g c =
     } in
     let walk = c.archive_items.new.self in
     let e = c.in_ok-top.top in
-    let a = items_as does score_of s half tells held' held f mid f' old c.in_ok-items.ensures.stays
+    let a = items_as does score_of s half tells held' held failing' failing f mid f' old c.in_ok-items.ensures.stays
+    c.in_ok-items.ensures.paths
     c.in_ok-items.ensures.cause walk e c.in_ok-top.ensures.archived in
     let p = err_from_is_err_and c.from_residual-in_err-sync.result
     c.from_residual-in_err-sync.ensures.1 in
@@ -240,9 +261,11 @@ returns-clause-archived g c =
     let score_of = g.B.Scorer.score_of in
     let tells = g.F.Folder.tells in
     let held = g.F.Folder.holds c.args.folder.now in
+    let failing = g.F.Folder.may_fail c.args.folder.now in
     let f = g.F.Folder.faults c.args.folder.now in
     let s = c.args.blocks.now in
     let held' = g.F.Folder.holds c.items_at.new.folder in
+    let failing' = g.F.Folder.may_fail c.items_at.new.folder in
     let mid = g.F.Folder.faults c.items_at.new.folder in
     let f' = g.F.Folder.faults c.archive_items.new.folder in
     let half = c.archive_items.new.blocks in
@@ -256,9 +279,10 @@ returns-clause-archived g c =
     } in
     let walk = c.archive_items.new.self in
     let e = c.in_ok-top.top in
-    let a = items_as does score_of s half tells held' held f mid f' old c.in_ok-items.ensures.stays
+    let a = items_as does score_of s half tells held' held failing' failing f mid f' old c.in_ok-items.ensures.stays
+    c.in_ok-items.ensures.paths
     c.in_ok-items.ensures.cause walk e c.in_ok-top.ensures.archived in
-    archive_written does holds score_of tells held g.met.B.Blocks.tells s half c.put_root.new.blocks
+    archive_written does holds score_of tells held failing g.met.B.Blocks.tells s half c.put_root.new.blocks
     c.sync.new.self f f' c.args.bsize old walk e c.new.ensures.items refl refl a
     c.in_ok-score.ensures.put c.in_ok-sync.ensures g.met.B.Blocks.write_once
     g.met.B.Scorer.score_len c.requires.least c.requires.most c.into_archived.ensures.few
@@ -274,9 +298,11 @@ returns-clause-cause g c =
     let score_of = g.B.Scorer.score_of in
     let tells = g.F.Folder.tells in
     let held = g.F.Folder.holds c.args.folder.now in
+    let failing = g.F.Folder.may_fail c.args.folder.now in
     let f = g.F.Folder.faults c.args.folder.now in
     let s = c.args.blocks.now in
     let held' = g.F.Folder.holds c.items_at.new.folder in
+    let failing' = g.F.Folder.may_fail c.items_at.new.folder in
     let mid = g.F.Folder.faults c.items_at.new.folder in
     let f' = g.F.Folder.faults c.archive_items.new.folder in
     let half = c.archive_items.new.blocks in
@@ -290,9 +316,10 @@ returns-clause-cause g c =
     } in
     let walk = c.archive_items.new.self in
     let e = c.in_ok-top.top in
-    let a = items_as does score_of s half tells held' held f mid f' old c.in_ok-items.ensures.stays
+    let a = items_as does score_of s half tells held' held failing' failing f mid f' old c.in_ok-items.ensures.stays
+    c.in_ok-items.ensures.paths
     c.in_ok-items.ensures.cause walk e c.in_ok-top.ensures.archived in
-    counts_told does holds score_of tells held g.met.B.Blocks.tells s half c.put_root.new.blocks
+    counts_told does holds score_of tells held failing g.met.B.Blocks.tells s half c.put_root.new.blocks
     c.sync.new.self f f' c.args.bsize old walk e c.new.ensures.items refl refl a
     c.in_ok-score.ensures.put c.in_ok-sync.ensures g.met.B.Blocks.write_once
     g.met.B.Scorer.score_len c.requires.least c.requires.most c.into_archived.ensures.few

@@ -1,15 +1,26 @@
-use Rattle.std.proofs.Common.{◌≡◌, ℕ, Bool, cond, Some, None, List, sym, ◌∙◌, ap, arith, rules}
+use Rattle.std.proofs.Common.{◌≡◌, ℕ, Bool, cond, Some, None, Err, List, sym, ◌∙◌, ap, arith, rules}
 use Rattle.std.proofs.lemmas.Bool.{le-ltb, lt-ltb}
 use Rattle.std.proofs.lemmas.List.Sorted.{answers_always}
+use Rattle.std.proofs.lemmas.Result.{err_from_is_err_and}
 use Rattle.vt_out.specs.declared.folder_item.Facts.{Facts}
 use Rattle.vt_out.specs.FolderItems.{Items}
+use Rattle.vt_out.specs.declared.files.OutErr.{OutErr}
 use Rattle.vac_model.specs.declared.TheConstants.{MAX_METADATA}
 use Rattle.vac_model.specs.Kept.{in_order}
 use Rattle.vac_model.specs.Limits.{bad_name, too_long, first_bad_item, unfit_name}
 use Rattle.vac_write.specs.Listing.{joined_path, metadata_len}
+use Rattle.vac_write.proofs.Failing.{call_failed}
 use Rattle.vac_write.proofs.Listed.{below, below_orders}
 use Rattle.vac_write.proofs.Ordered.{ordered_of}
 use Rattle.vac_write.proofs.listing.items_at.Goals as goal
+
+pub returns-in_err-list-clause-refused : goal.returns-in_err-list-clause-refused
+returns-in_err-list-clause-refused g c =
+    let err = c.in_err-list.field-0.0 in
+    let p = err_from_is_err_and c.from_residual.result c.from_residual.ensures.1 in
+    rw (p.1, p.2) (call_failed g.F.Folder.tells (g.F.Folder.holds c.args.folder.now)
+    (g.F.Folder.may_fail c.args.folder.now) c.args.path.now err
+    (λ is. c.in_err-list.ensures.because (ap (λ (x : OutErr). Err x) is)))
 
 pub returns-in-Some-clause-refused : goal.returns-in-Some-clause-refused
 returns-in-Some-clause-refused g c =

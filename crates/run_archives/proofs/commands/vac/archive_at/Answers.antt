@@ -50,12 +50,13 @@ returns-in-Ok-stored-clause-stored g c =
     c.args.bsize c.args.now (parts_change g.P.Parts c.args.parts.now c.archive_watched-stored.new.parts)
     (dialer_change g.N.Dialer g.N.Link.Link c.args.dialer.now c.archive_watched-stored.new.dialer)
     folder.tells folders.tells (folder.holds c.in-Ok.folder)
-    (folder.holds c.archive_watched-stored.result.1) (folders.standing old)
+    (folder.holds c.archive_watched-stored.result.1) (folder.may_fail c.in-Ok.folder)
+    (folder.may_fail c.archive_watched-stored.result.1) (folders.standing old)
     (folders.standing c.folder.new.self) (folders.standing c.done.new.self)
     c.archive_watched-stored.result.0 (Ok c.in-Ok-stored.stored) c.in-Ok-stored.is
     (folders.faults old) (folders.faults c.folder.new.self) (folders.faults c.done.new.self)
     (folder.faults c.in-Ok.folder) (folder.faults c.archive_watched-stored.result.1) away.found
-    away.lent away.others done.back done.others x.stays x.archives away.fresh x.cause away.cause
+    away.lent away.others done.back done.others x.stays x.paths x.archives away.fresh x.cause away.cause
     done.faults (g.met.G.Folders.faults_fit c.folder.new.self)
 
 pub returns-in-Err-clause-none : goal.returns-in-Err-clause-none
@@ -74,13 +75,14 @@ returns-in-Err-clause-none g c =
           (dialer_change g.N.Dialer g.N.Link.Link c.args.dialer.now
           c.archive_watched-stored.new.dialer)
           folder.tells folders.tells (folder.holds c.in-Ok.folder)
-          (folder.holds c.archive_watched-stored.result.1) (folders.standing old)
+          (folder.holds c.archive_watched-stored.result.1) (folder.may_fail c.in-Ok.folder)
+          (folder.may_fail c.archive_watched-stored.result.1) (folders.standing old)
           (folders.standing c.folder.new.self) (folders.standing c.done.new.self)
           c.archive_watched-stored.result.0 (Err c.in-Err.bad) c.in-Err.is
           (folders.faults old) (folders.faults c.folder.new.self)
           (folders.faults c.done.new.self) (folder.faults c.in-Ok.folder)
           (folder.faults c.archive_watched-stored.result.1) away.found away.lent away.others
-          done.back done.others x.stays x.archives away.fresh x.cause away.cause done.faults
+          done.back done.others x.stays x.paths x.archives away.fresh x.cause away.cause done.faults
           (g.met.G.Folders.faults_fit c.folder.new.self),
       c.told.ensures,
     )

@@ -2,11 +2,12 @@ use Rattle.std.proofs.Common.{◌≡◌, ℕ, ◌+◌, ◌/◌, ◌<◌, ◌≤�
 use Rattle.std.specs.Vec.Iter.{into_iter_items}
 use Rattle.std.proofs.lemmas.List.{nil_from_length}
 use Rattle.std.proofs.lemmas.Result.{err_from_is_err_and, IfOk-weaker, on_ok_weaker, IfErr-weaker}
-use Rattle.std.specs.Prelude.{MatchBool}
+use Rattle.std.specs.Prelude.{MatchBool, IsTrue}
 use Rattle.vt_base.specs.Faults.{HasRisen}
+use Rattle.vt_out.specs.declared.folder_item.Facts.{Facts}
 use Rattle.vt_out.specs.declared.folder_item.Item.{Item}
 use Rattle.vt_out.specs.declared.folder_item.ItemKind.{ItemKind}
-use Rattle.vt_out.specs.FolderItems.{listing_of}
+use Rattle.vt_out.specs.FolderItems.{FailingPaths, Items, listing_of}
 use Rattle.vac_meta.specs.declared.record.RecordKind.TheVariants.{Folder}
 use Rattle.vac_meta.specs.Records.{all_spelled, record_bytes}
 use Rattle.vac_model.specs.declared.TheConstants.{MIN_BLOCK_SIZE, MAX_BLOCK_SIZE, MAX_NESTING}
@@ -15,17 +16,18 @@ use Rattle.vac_model.specs.Kept.{path_to}
 use Rattle.vac_write.specs.declared.error.VacErr.{VacErr}
 use Rattle.vac_write.specs.declared.error.VacErr.TheVariants.{NoMemory}
 use Rattle.vac_write.specs.Archiving.{HasRisenBy, is_folder_fault}
-use Rattle.vac_write.specs.Listing.{AreListed, IsNotListed, FitsArchivedItem, IfKept, joined_path}
+use Rattle.vac_write.specs.Listing.{AreListed, IsNotListed, StandsAt, FitsArchivedItem, IfKept, joined_path}
 use Rattle.vac_write.specs.Puts.{GivesUpBlocks, IsOfStore}
-use Rattle.vac_write.specs.Tried.{no_more, whole}
+use Rattle.vac_write.specs.Tried.{LacksOnly, no_more, whole}
 use Rattle.vac_write.specs.Walking.{streams_blocks, archived_from, record_for, IsHandedOn, AreItemsAt, WritesStreams, ArchivesItems, GivesUpItem, GivesUpItems}
 use Rattle.vac_write.proofs.Causes.{err_both, handed_on, handed_on_all, kept_count, of_store_all, memory_goes_on, rose_once, stayed}
+use Rattle.vac_write.proofs.Failing.{listed_stands, unlisted_fails}
 use Rattle.vac_write.proofs.Fits.{fits_item}
 use Rattle.vac_write.proofs.FoundFits.{short_found}
 use Rattle.vac_write.proofs.Followed.{listing_followed}
 use Rattle.vac_write.proofs.OneItem.{popped, item_not_begun, other_archived, folder_archived, folder_given_up, folder_not_listed, folder_too_deep, folder_unlisted, folder_unrecorded, folder_untold}
 use Rattle.vac_write.proofs.Parts.{part_none, part_join}
-use Rattle.vac_write.proofs.Tried.{failures_joined, joined, whole_joined}
+use Rattle.vac_write.proofs.Tried.{failures_joined, joined, lacks_joined, whole_joined}
 use Rattle.vac_write.proofs.Wholes.{are_as, are_followed}
 use Rattle.vac_write.proofs.Wholly.{gave_as, gave_items_as, items_archived, items_as, items_given_up, listed_as_held, streams_given_up}
 use Rattle.vac_write.proofs.archiving.Walk.+walk.Goals as goal
@@ -38,6 +40,7 @@ archive_folder-returns-in_err-path_to-clause-refused g t c =
     let score_of = g.B.Scorer.score_of in
     let tells = g.F.Folder.tells in
     let held = g.F.Folder.holds c.args.folder.now in
+    let failing = g.F.Folder.may_fail c.args.folder.now in
     let f = g.F.Folder.faults c.args.folder.now in
     let have = g.met.F.Folder.holds_bytes c.args.folder.now in
     let same : HasRisenBy 0 f f = stayed f f (g.met.F.Folder.faults_fit c.args.folder.now) refl in
@@ -45,7 +48,7 @@ archive_folder-returns-in_err-path_to-clause-refused g t c =
     let old = c.args.self.now in
     let item = c.args.item in
     let p = err_from_is_err_and c.from_residual.result c.from_residual.ensures.1 in
-    rw (p.1, p.2, c.in_err-path_to.ensures) (item_not_begun does score_of tells held have s f f old
+    rw (p.1, p.2, c.in_err-path_to.ensures) (item_not_begun does score_of tells held failing have s f f old
     item NoMemory same (λ o. tt) refl)
 
 pub archive_folder-returns-then-len-ge-MAX_NESTING-clause-refused : goal.archive_folder-returns-then-len-ge-MAX_NESTING-clause-refused
@@ -54,13 +57,14 @@ archive_folder-returns-then-len-ge-MAX_NESTING-clause-refused g t c =
     let score_of = g.B.Scorer.score_of in
     let tells = g.F.Folder.tells in
     let held = g.F.Folder.holds c.args.folder.now in
+    let failing = g.F.Folder.may_fail c.args.folder.now in
     let f = g.F.Folder.faults c.args.folder.now in
     let have = g.met.F.Folder.holds_bytes c.args.folder.now in
     let same : HasRisenBy 0 f f = stayed f f (g.met.F.Folder.faults_fit c.args.folder.now) refl in
     let s = c.args.blocks.now in
     let old = c.args.self.now in
     let item = c.args.item in
-    folder_too_deep does score_of tells held have s f f old item c.in_ok-path_to.field-0 same
+    folder_too_deep does score_of tells held failing have s f f old item c.in_ok-path_to.field-0 same
     c.requires.kind (omega (arith, c.len.ensures, old.path.ok.0, c.if-len-ge-MAX_NESTING.true))
     c.in_ok-path_to.ensures
 
@@ -70,6 +74,7 @@ archive_folder-returns-in_err-enter-clause-refused g t c =
     let score_of = g.B.Scorer.score_of in
     let tells = g.F.Folder.tells in
     let held = g.F.Folder.holds c.args.folder.now in
+    let failing = g.F.Folder.may_fail c.args.folder.now in
     let f = g.F.Folder.faults c.args.folder.now in
     let have = g.met.F.Folder.holds_bytes c.args.folder.now in
     let same : HasRisenBy 0 f f = stayed f f (g.met.F.Folder.faults_fit c.args.folder.now) refl in
@@ -78,7 +83,7 @@ archive_folder-returns-in_err-enter-clause-refused g t c =
     let item = c.args.item in
     let p = err_from_is_err_and c.from_residual-in_err-enter.result
     c.from_residual-in_err-enter.ensures.1 in
-    rw (p.1, p.2, c.in_err-enter.ensures.err) (item_not_begun does score_of tells held have s f f old
+    rw (p.1, p.2, c.in_err-enter.ensures.err) (item_not_begun does score_of tells held failing have s f f old
     item NoMemory same (λ o. tt) refl)
 
 pub archive_folder-returns-in-Err-clause-archived : goal.archive_folder-returns-in-Err-clause-archived
@@ -87,6 +92,7 @@ archive_folder-returns-in-Err-clause-archived g t c =
     let score_of = g.B.Scorer.score_of in
     let tells = g.F.Folder.tells in
     let held = g.F.Folder.holds c.args.folder.now in
+    let failing = g.F.Folder.may_fail c.args.folder.now in
     let f = g.F.Folder.faults c.args.folder.now in
     let fits = g.met.F.Folder.faults_fit c.args.folder.now in
     let have = g.met.F.Folder.holds_bytes c.args.folder.now in
@@ -102,13 +108,19 @@ archive_folder-returns-in-Err-clause-archived g t c =
     let Counts : VacErr → Type 0 = λ (e : VacErr).
     MatchBool (is_folder_fault e) (HasRisen f f') (f' ≡ f) in
     let new = c.leave_out.new.self in
+    let there : List (List ℕ) = old.path.items ++ item.name ∷ [] in
+    let why : IsNotListed tells held failing there err =
+    subst (λ (p : List (List ℕ)). IsNotListed tells held failing p err)
+    (c.deref.ensures.value ∙ c.in_ok-enter.ensures.path) c.in-Err.ensures.refused in
     on_ok_weaker c.leave_out.result (λ x.
     let path : new.path.items ≡ old.path.items =
     popped entered.path.items old.path.items item.name (length entered.path.items) new.path.items
     c.in_ok-enter.ensures.path refl x.path in
-    folder_unlisted does score_of tells held s s f f' old entered item c.requires.kind shallow
+    folder_unlisted does score_of tells held failing s s f f' old entered item c.requires.kind shallow
     c.in_ok-enter.ensures.path left.0 have
-    (rose_once f f' (subst Counts x.fault c.in-Err.ensures.cause)) new c.args.streams.now
+    (rose_once f f' (subst Counts x.fault c.in-Err.ensures.cause))
+    (unlisted_fails tells held failing there err item.kind c.requires.kind why x.fault
+    c.requires.stands) new c.args.streams.now
     (x.qid ∙ left.1) path (x.bsize ∙ left.0) (x.skipped ∙ left.2)
     (x.noted ∙ (λ i. left.3 i ++ path_to (joined_path (path i)) item.name ∷ [])))
     c.leave_out.ensures.noted
@@ -119,6 +131,7 @@ archive_folder-returns-in-Err-clause-refused g t c =
     let score_of = g.B.Scorer.score_of in
     let tells = g.F.Folder.tells in
     let held = g.F.Folder.holds c.args.folder.now in
+    let failing = g.F.Folder.may_fail c.args.folder.now in
     let f = g.F.Folder.faults c.args.folder.now in
     let fits = g.met.F.Folder.faults_fit c.args.folder.now in
     let have = g.met.F.Folder.holds_bytes c.args.folder.now in
@@ -133,16 +146,23 @@ archive_folder-returns-in-Err-clause-refused g t c =
     let err = c.in-Err.err in
     let Counts : VacErr → Type 0 = λ (e : VacErr).
     MatchBool (is_folder_fault e) (HasRisen f f') (f' ≡ f) in
-    let GaveUp : VacErr → Type 0 = λ (e : VacErr). GivesUpItem does score_of s s tells held f f' old item e in
+    let GaveUp : VacErr → Type 0 = λ (e : VacErr).
+    GivesUpItem does score_of s s tells held failing f f' old item e in
+    let there : List (List ℕ) = old.path.items ++ item.name ∷ [] in
+    let why : IsNotListed tells held failing there err =
+    subst (λ (p : List (List ℕ)). IsNotListed tells held failing p err)
+    (c.deref.ensures.value ∙ c.in_ok-enter.ensures.path) c.in-Err.ensures.refused in
     IfErr-weaker c.leave_out.result (IsHandedOn err) GaveUp
     (λ answer is. handed_on err answer GaveUp is
-    (λ fault. folder_untold does score_of tells held s s f f' old entered item c.requires.kind shallow
+    (λ fault. folder_untold does score_of tells held failing s s f f' old entered item c.requires.kind shallow
     c.in_ok-enter.ensures.path left.0 have
-    (rose_once f f' (subst Counts fault c.in-Err.ensures.cause)) NoMemory (λ o. tt) refl)
-    (λ goes_on. folder_not_listed does score_of tells held s s f f' old entered item c.requires.kind
+    (rose_once f f' (subst Counts fault c.in-Err.ensures.cause))
+    (unlisted_fails tells held failing there err item.kind c.requires.kind why fault
+    c.requires.stands) NoMemory (λ o. tt) refl)
+    (λ goes_on. folder_not_listed does score_of tells held failing s s f f' old entered item c.requires.kind
     shallow c.in_ok-enter.ensures.path left.0 have
     (stayed f f' fits (kept_count err f f' goes_on c.in-Err.ensures.cause)) err
-    (subst (λ (p : List (List ℕ)). IsNotListed tells held p err) c.deref.ensures.value
+    (subst (λ (p : List (List ℕ)). IsNotListed tells held failing p err) c.deref.ensures.value
     c.in-Err.ensures.refused)))
     c.leave_out.ensures.err
 
@@ -156,6 +176,7 @@ archive_folder-returns-in_err-qid-clause-refused g t c =
     let score_of = g.B.Scorer.score_of in
     let tells = g.F.Folder.tells in
     let held = g.F.Folder.holds c.args.folder.now in
+    let failing = g.F.Folder.may_fail c.args.folder.now in
     let f = g.F.Folder.faults c.args.folder.now in
     let have = g.met.F.Folder.holds_bytes c.args.folder.now in
     let same : HasRisenBy 0 f f = stayed f f (g.met.F.Folder.faults_fit c.args.folder.now) refl in
@@ -169,7 +190,7 @@ archive_folder-returns-in_err-qid-clause-refused g t c =
     let f' = g.F.Folder.faults c.items_at.new.folder in
     let p = err_from_is_err_and c.from_residual-in_err-qid.result
     c.from_residual-in_err-qid.ensures.1 in
-    rw (p.1, p.2, c.in_err-qid.ensures.err) (item_not_begun does score_of tells held have s f f' old
+    rw (p.1, p.2, c.in_err-qid.ensures.err) (item_not_begun does score_of tells held failing have s f f' old
     item NoMemory (stayed f f' (g.met.F.Folder.faults_fit c.args.folder.now) c.in-Ok.ensures.cause)
     (λ o. tt) refl)
 
@@ -179,6 +200,7 @@ archive_folder-returns-in_err-inside-clause-refused g t c =
     let score_of = g.B.Scorer.score_of in
     let tells = g.F.Folder.tells in
     let held = g.F.Folder.holds c.args.folder.now in
+    let failing = g.F.Folder.may_fail c.args.folder.now in
     let f = g.F.Folder.faults c.args.folder.now in
     let have = g.met.F.Folder.holds_bytes c.args.folder.now in
     let same : HasRisenBy 0 f f = stayed f f (g.met.F.Folder.faults_fit c.args.folder.now) refl in
@@ -189,6 +211,7 @@ archive_folder-returns-in_err-inside-clause-refused g t c =
     omega (arith, c.len.ensures, old.path.ok.0, c.if-len-ge-MAX_NESTING.false) in
     let left = c.in_ok-enter.ensures.left in
     let held' = g.F.Folder.holds c.items_at.new.folder in
+    let failing' = g.F.Folder.may_fail c.items_at.new.folder in
     let mid = g.F.Folder.faults c.items_at.new.folder in
     let f' = g.F.Folder.faults c.archive_items.new.folder in
     let s' = c.archive_items.new.blocks in
@@ -201,9 +224,9 @@ archive_folder-returns-in_err-inside-clause-refused g t c =
     let err = c.in_err-inside.field-0.0 in
     let p = err_from_is_err_and c.from_residual-in_err-inside.result
     c.from_residual-in_err-inside.ensures.1 in
-    rw (p.1, p.2) (folder_given_up does score_of tells held s s' f f' old half item c.requires.kind
-    shallow deeper bsize next err (gave_items_as does score_of s s' tells held' held f mid f' half
-    c.in-Ok.ensures.stays c.in-Ok.ensures.cause err c.in_err-inside.ensures.refused))
+    rw (p.1, p.2) (folder_given_up does score_of tells held failing s s' f f' old half item c.requires.kind
+    shallow deeper bsize next err (gave_items_as does score_of s s' tells held' held failing' failing f mid f' half
+    c.in-Ok.ensures.stays c.in-Ok.ensures.paths c.in-Ok.ensures.cause err c.in_err-inside.ensures.refused))
 
 pub archive_folder-returns-clause-archived : goal.archive_folder-returns-clause-archived
 archive_folder-returns-clause-archived g t c =
@@ -211,6 +234,7 @@ archive_folder-returns-clause-archived g t c =
     let score_of = g.B.Scorer.score_of in
     let tells = g.F.Folder.tells in
     let held = g.F.Folder.holds c.args.folder.now in
+    let failing = g.F.Folder.may_fail c.args.folder.now in
     let f = g.F.Folder.faults c.args.folder.now in
     let have = g.met.F.Folder.holds_bytes c.args.folder.now in
     let same : HasRisenBy 0 f f = stayed f f (g.met.F.Folder.faults_fit c.args.folder.now) refl in
@@ -221,6 +245,7 @@ archive_folder-returns-clause-archived g t c =
     omega (arith, c.len.ensures, old.path.ok.0, c.if-len-ge-MAX_NESTING.false) in
     let left = c.in_ok-enter.ensures.left in
     let held' = g.F.Folder.holds c.items_at.new.folder in
+    let failing' = g.F.Folder.may_fail c.items_at.new.folder in
     let mid = g.F.Folder.faults c.items_at.new.folder in
     let f' = g.F.Folder.faults c.archive_items.new.folder in
     let s' = c.archive_items.new.blocks in
@@ -232,11 +257,12 @@ archive_folder-returns-clause-archived g t c =
     omega (arith, c.in_ok-qid.ensures.qid.0, c.in_ok-qid.ensures.qid.1, left.1) in
     let inside = c.archive_items.new.self in
     let e = c.in_ok-inside.inside in
-    let a = items_as does score_of s s' tells held' held f mid f' half c.in-Ok.ensures.stays
+    let a = items_as does score_of s s' tells held' held failing' failing f mid f' half c.in-Ok.ensures.stays
+    c.in-Ok.ensures.paths
     c.in-Ok.ensures.cause inside e c.in_ok-inside.ensures.archived in
     let from = c.args.streams.now in
     let new = c.add_folder.new.self in
-    on_ok_weaker c.add_folder.result (λ x. folder_archived does score_of tells held s s' f f' old half
+    on_ok_weaker c.add_folder.result (λ x. folder_archived does score_of tells held failing s s' f f' old half
     item c.requires.kind shallow deeper bsize next inside e a new from c.add_folder.new.streams
     c.in_ok-inside.ensures.allowed.0 c.in_ok-inside.ensures.allowed.1 x.time x.qid
     (popped inside.path.items old.path.items item.name (length inside.path.items) new.path.items
@@ -252,6 +278,7 @@ archive_folder-returns-clause-refused g t c =
     let score_of = g.B.Scorer.score_of in
     let tells = g.F.Folder.tells in
     let held = g.F.Folder.holds c.args.folder.now in
+    let failing = g.F.Folder.may_fail c.args.folder.now in
     let f = g.F.Folder.faults c.args.folder.now in
     let have = g.met.F.Folder.holds_bytes c.args.folder.now in
     let same : HasRisenBy 0 f f = stayed f f (g.met.F.Folder.faults_fit c.args.folder.now) refl in
@@ -262,6 +289,7 @@ archive_folder-returns-clause-refused g t c =
     omega (arith, c.len.ensures, old.path.ok.0, c.if-len-ge-MAX_NESTING.false) in
     let left = c.in_ok-enter.ensures.left in
     let held' = g.F.Folder.holds c.items_at.new.folder in
+    let failing' = g.F.Folder.may_fail c.items_at.new.folder in
     let mid = g.F.Folder.faults c.items_at.new.folder in
     let f' = g.F.Folder.faults c.archive_items.new.folder in
     let s' = c.archive_items.new.blocks in
@@ -273,12 +301,13 @@ archive_folder-returns-clause-refused g t c =
     omega (arith, c.in_ok-qid.ensures.qid.0, c.in_ok-qid.ensures.qid.1, left.1) in
     let inside = c.archive_items.new.self in
     let e = c.in_ok-inside.inside in
-    let a = items_as does score_of s s' tells held' held f mid f' half c.in-Ok.ensures.stays
+    let a = items_as does score_of s s' tells held' held failing' failing f mid f' half c.in-Ok.ensures.stays
+    c.in-Ok.ensures.paths
     c.in-Ok.ensures.cause inside e c.in_ok-inside.ensures.archived in
     IfErr-weaker c.add_folder.result (λ (err : VacErr). err ≡ NoMemory)
-    (GivesUpItem does score_of s s' tells held f f' old item)
-    (λ err is. subst (GivesUpItem does score_of s s' tells held f f' old item) (sym is)
-    (folder_unrecorded does score_of tells held s s' f f' old half item c.requires.kind shallow deeper
+    (GivesUpItem does score_of s s' tells held failing f f' old item)
+    (λ err is. subst (GivesUpItem does score_of s s' tells held failing f f' old item) (sym is)
+    (folder_unrecorded does score_of tells held failing s s' f f' old half item c.requires.kind shallow deeper
     bsize next inside e a NoMemory (λ o. tt) refl)) c.add_folder.ensures.err
 
 pub archive_folder-returns-clause-goes_on : goal.archive_folder-returns-clause-goes_on
@@ -289,7 +318,9 @@ pub archive_folder-archive_items-requires : goal.archive_folder-archive_items-re
 archive_folder-archive_items-requires g t c =
     let tells = g.F.Folder.tells in
     let held = g.F.Folder.holds c.args.folder.now in
+    let failing = g.F.Folder.may_fail c.args.folder.now in
     let held' = g.F.Folder.holds c.items_at.new.folder in
+    let failing' = g.F.Folder.may_fail c.items_at.new.folder in
     let old = c.args.self.now in
     let half = c.number.new.self in
     let name = c.args.item.name in
@@ -325,13 +356,14 @@ archive_item-returns-in-Other-clause-archived g t c =
     let score_of = g.B.Scorer.score_of in
     let tells = g.F.Folder.tells in
     let held = g.F.Folder.holds c.args.folder.now in
+    let failing = g.F.Folder.may_fail c.args.folder.now in
     let f = g.F.Folder.faults c.args.folder.now in
     let have = g.met.F.Folder.holds_bytes c.args.folder.now in
     let same : HasRisenBy 0 f f = stayed f f (g.met.F.Folder.faults_fit c.args.folder.now) refl in
     let s = c.args.blocks.now in
     let old = c.args.self.now in
     let item = c.args.item in
-    on_ok_weaker c.skip.result (λ noted. other_archived does score_of tells held s f f old
+    on_ok_weaker c.skip.result (λ noted. other_archived does score_of tells held failing s f f old
     c.skip.new.self c.args.streams.now item c.in-Other.is same c.skip.ensures.qid c.skip.ensures.path
     c.skip.ensures.bsize c.skip.ensures.failed noted) c.skip.ensures.noted
 
@@ -341,6 +373,7 @@ archive_item-returns-in-Other-clause-refused g t c =
     let score_of = g.B.Scorer.score_of in
     let tells = g.F.Folder.tells in
     let held = g.F.Folder.holds c.args.folder.now in
+    let failing = g.F.Folder.may_fail c.args.folder.now in
     let f = g.F.Folder.faults c.args.folder.now in
     let have = g.met.F.Folder.holds_bytes c.args.folder.now in
     let same : HasRisenBy 0 f f = stayed f f (g.met.F.Folder.faults_fit c.args.folder.now) refl in
@@ -348,9 +381,9 @@ archive_item-returns-in-Other-clause-refused g t c =
     let old = c.args.self.now in
     let item = c.args.item in
     IfErr-weaker c.skip.result (λ (err : VacErr). err ≡ NoMemory)
-    (GivesUpItem does score_of s s tells held f f old item)
-    (λ err is. subst (GivesUpItem does score_of s s tells held f f old item) (sym is)
-    (item_not_begun does score_of tells held have s f f old item NoMemory same (λ o. tt) refl))
+    (GivesUpItem does score_of s s tells held failing f f old item)
+    (λ err is. subst (GivesUpItem does score_of s s tells held failing f f old item) (sym is)
+    (item_not_begun does score_of tells held failing have s f f old item NoMemory same (λ o. tt) refl))
     c.skip.ensures.err
 
 pub archive_item-returns-in-Other-clause-goes_on : goal.archive_item-returns-in-Other-clause-goes_on
@@ -371,11 +404,13 @@ archive_items-loop-item-init g t c =
       left = sym c.into_iter-item-iterator.ensures.into_iter_gives.0;
       len = search rules;
       are = tt;
+      lacks = λ told. tt;
       archived = part_none g.B.Blocks.does g.B.Scorer.score_of c.args.blocks.now old
           c.new-streams.result;
       no_entries = c.new-streams.ensures.entries;
       no_metadata = c.new-streams.ensures.metadata;
       stays = λ told. refl;
+      paths = λ told. refl;
       counted = stayed (g.F.Folder.faults c.args.folder.now) (g.F.Folder.faults c.args.folder.now)
           (g.met.F.Folder.faults_fit c.args.folder.now) refl;
     }
@@ -388,6 +423,7 @@ archive_items-loop-item-preserved g t c =
     let tells = g.F.Folder.tells in
     let old = c.args.self.now in
     let held = g.F.Folder.holds c.args.folder.now in
+    let failing = g.F.Folder.may_fail c.args.folder.now in
     let f = g.F.Folder.faults c.args.folder.now in
     let item = c.in-Some.item in
     let tail = into_iter_items c.next.new.self in
@@ -412,6 +448,10 @@ archive_items-loop-item-preserved g t c =
       len = omega (arith, so.len, ap length step, c.in-Some.ensures.steps.1);
       are = subst (AreItemsAt tells held old.path.items) (sym whole_is)
           (are_followed tells held old.path.items (whole so.done) (whole one.part) so.are are);
+      lacks = λ told. lacks_joined failing old.path.items so.done one.part (so.lacks told)
+          (subst (λ (p : List (List ℕ)). LacksOnly failing p one.part) so.archived.path
+          (subst (λ (x : FailingPaths). LacksOnly x c.loop-item.self.path.items one.part)
+          (so.paths told) (one.lacks told)));
       archived = part_join does score_of c.args.blocks.now c.loop-item.blocks
           c.archive_item.new.blocks old c.loop-item.self c.new-streams.result c.loop-item.streams
           so.done one.part so.archived c.archive_item.new.self c.archive_item.new.streams
@@ -419,6 +459,7 @@ archive_items-loop-item-preserved g t c =
       no_entries = so.no_entries;
       no_metadata = so.no_metadata;
       stays = λ told. c.in_ok-archive_item.ensures.stays told ∙ so.stays told;
+      paths = λ told. c.in_ok-archive_item.ensures.paths told ∙ so.paths told;
       counted = omega (arith, so.counted, one.counted, failures_joined so.done one.part);
     }
 
@@ -430,6 +471,7 @@ archive_items-returns-in_err-archive_item-clause-refused g t c =
     let tells = g.F.Folder.tells in
     let old = c.args.self.now in
     let held = g.F.Folder.holds c.args.folder.now in
+    let failing = g.F.Folder.may_fail c.args.folder.now in
     let f = g.F.Folder.faults c.args.folder.now in
     let item = c.in-Some.item in
     let tail = into_iter_items c.next.new.self in
@@ -439,14 +481,14 @@ archive_items-returns-in_err-archive_item-clause-refused g t c =
     let mid = g.F.Folder.faults c.loop-item.folder in
     let f' = g.F.Folder.faults c.archive_item.new.folder in
     let p = err_from_is_err_and c.from_residual.result c.from_residual.ensures.1 in
-    rw (p.1, p.2) (items_given_up does score_of tells held so.items old so.listed c.args.blocks.now
+    rw (p.1, p.2) (items_given_up does score_of tells held failing so.items old so.listed c.args.blocks.now
     c.loop-item.blocks c.archive_item.new.blocks f mid f' c.loop-item.self c.new-streams.result
     c.loop-item.streams so.done item tail e
-    (so.left ∙ ap (λ (l : List Item). listing_of (whole so.done) ++ l) step) so.are so.archived
-    so.counted
+    (so.left ∙ ap (λ (l : List Item). listing_of (whole so.done) ++ l) step) so.are so.lacks
+    so.archived so.counted
     (gave_as does score_of c.loop-item.blocks c.archive_item.new.blocks tells
-    (g.F.Folder.holds c.loop-item.folder) held mid f' c.loop-item.self item e so.stays
-    c.in_err-archive_item.ensures.refused))
+    (g.F.Folder.holds c.loop-item.folder) held (g.F.Folder.may_fail c.loop-item.folder) failing mid f'
+    c.loop-item.self item e so.stays so.paths c.in_err-archive_item.ensures.refused))
 
 pub archive_items-returns-clause-archived : goal.archive_items-returns-clause-archived
 archive_items-returns-clause-archived g t c =
@@ -456,6 +498,7 @@ archive_items-returns-clause-archived g t c =
     let tells = g.F.Folder.tells in
     let old = c.args.self.now in
     let held = g.F.Folder.holds c.args.folder.now in
+    let failing = g.F.Folder.may_fail c.args.folder.now in
     let f = g.F.Folder.faults c.args.folder.now in
     let f' = g.F.Folder.faults c.loop-item.folder in
     let all : so.items ≡ listing_of (whole so.done) =
@@ -465,11 +508,11 @@ archive_items-returns-clause-archived g t c =
     IfOk-weaker c.write.result
     (WritesStreams does score_of c.loop-item.blocks c.write.new.blocks c.loop-item.self.bsize
     c.loop-item.streams)
-    (ArchivesItems does score_of c.args.blocks.now c.write.new.blocks tells held f f' old
+    (ArchivesItems does score_of c.args.blocks.now c.write.new.blocks tells held failing f f' old
     c.loop-item.self)
-    (λ e wrote. items_archived does score_of tells held so.items old so.listed c.args.blocks.now
+    (λ e wrote. items_archived does score_of tells held failing so.items old so.listed c.args.blocks.now
     c.loop-item.blocks f f' c.loop-item.self c.new-streams.result c.loop-item.streams so.done
-    so.no_entries so.no_metadata all so.are so.archived so.counted c.write.new.blocks e wrote)
+    so.no_entries so.no_metadata all so.are so.lacks so.archived so.counted c.write.new.blocks e wrote)
     c.write.ensures.written
 
 pub archive_items-returns-clause-refused : goal.archive_items-returns-clause-refused
@@ -480,6 +523,7 @@ archive_items-returns-clause-refused g t c =
     let tells = g.F.Folder.tells in
     let old = c.args.self.now in
     let held = g.F.Folder.holds c.args.folder.now in
+    let failing = g.F.Folder.may_fail c.args.folder.now in
     let f = g.F.Folder.faults c.args.folder.now in
     let f' = g.F.Folder.faults c.loop-item.folder in
     let all : so.items ≡ listing_of (whole so.done) =
@@ -489,10 +533,10 @@ archive_items-returns-clause-refused g t c =
     err_both c.write.result IsOfStore
     (GivesUpBlocks does c.loop-item.blocks c.write.new.blocks
     (streams_blocks score_of c.loop-item.self.bsize c.loop-item.streams))
-    (GivesUpItems does score_of c.args.blocks.now c.write.new.blocks tells held f f' old)
-    (λ e own gave. streams_given_up does score_of tells held so.items old so.listed
+    (GivesUpItems does score_of c.args.blocks.now c.write.new.blocks tells held failing f f' old)
+    (λ e own gave. streams_given_up does score_of tells held failing so.items old so.listed
     c.args.blocks.now c.loop-item.blocks f f' c.loop-item.self c.new-streams.result
-    c.loop-item.streams so.done so.no_entries so.no_metadata all so.are so.archived so.counted
+    c.loop-item.streams so.done so.no_entries so.no_metadata all so.are so.lacks so.archived so.counted
     c.write.new.blocks e own gave) c.write.ensures.plain c.write.ensures.refused
 
 pub archive_items-returns-clause-goes_on : goal.archive_items-returns-clause-goes_on
@@ -505,6 +549,7 @@ archive_items-archive_item-requires g t c =
     let so = c.loop-item.invariant in
     let old = c.args.self.now in
     let held = g.F.Folder.holds c.args.folder.now in
+    let failing = g.F.Folder.may_fail c.args.folder.now in
     let item = c.in-Some.item in
     let tail = into_iter_items c.next.new.self in
     let step : into_iter_items c.loop-item.item-iterator ≡ item ∷ tail =
@@ -525,6 +570,14 @@ archive_items-archive_item-requires g t c =
     so.listed (so.left ∙ ap (λ (l : List Item). listing_of (whole so.done) ++ l) step) in
     let few : length c.loop-item.streams.entries.items / 40 < 2 ^ 32 =
     omega (arith, so.archived.places, ap length so.no_entries, both.0) in
+    let stands : IsTrue g.F.Folder.tells → StandsAt (g.F.Folder.holds c.loop-item.folder)
+    (c.loop-item.self.path.items ++ item.name ∷ []) item.kind =
+    λ told. subst (λ (h : Items Facts).
+    StandsAt h (c.loop-item.self.path.items ++ item.name ∷ []) item.kind) (sym (so.stays told))
+    (subst (λ (p : List (List ℕ)). StandsAt held (p ++ item.name ∷ []) item.kind)
+    (sym so.archived.path) (listed_stands g.F.Folder.tells held old.path.items so.items
+    (listing_of (whole so.done)) item tail so.listed
+    (so.left ∙ ap (λ (l : List Item). listing_of (whole so.done) ++ l) step) told)) in
     search rules
 
 -- its streams are short
@@ -533,6 +586,7 @@ archive_items-write-requires-clause-entries g t c =
     let so = c.loop-item.invariant in
     let old = c.args.self.now in
     let held = g.F.Folder.holds c.args.folder.now in
+    let failing = g.F.Folder.may_fail c.args.folder.now in
     let both = short_found g.B.Scorer.score_of old.bsize
     (length c.new-streams.result.entries.items / 40) old.qid g.F.Folder.tells held old.path.items
     so.items so.done (into_iter_items c.loop-item.item-iterator) so.listed so.left in
@@ -543,6 +597,7 @@ archive_items-write-requires-clause-metadata g t c =
     let so = c.loop-item.invariant in
     let old = c.args.self.now in
     let held = g.F.Folder.holds c.args.folder.now in
+    let failing = g.F.Folder.may_fail c.args.folder.now in
     let i : ℕ = length c.new-streams.result.entries.items / 40 in
     let both = short_found g.B.Scorer.score_of old.bsize i old.qid g.F.Folder.tells held
     old.path.items so.items so.done (into_iter_items c.loop-item.item-iterator) so.listed so.left

@@ -4,7 +4,7 @@ use Rattle.vt_out.specs.declared.folder_item.Item.{Item}
 use Rattle.vt_out.specs.FolderItems.{listing_of}
 use Rattle.vac_write.specs.Archiving.{HasRisenBy}
 use Rattle.vac_write.specs.Listing.{AreListed}
-use Rattle.vac_write.specs.Tried.{Tried, failures, whole}
+use Rattle.vac_write.specs.Tried.{Tried, failures, LacksOnly, whole}
 use Rattle.vac_write.specs.Walking.{AreItemsAt, ArchivesPart}
 use Rattle.vac_write.proofs.archiving.Walk.+walk.Given as goal
 
@@ -27,11 +27,14 @@ invariant-archive_items-loop-item g l = record {
   len : into_iter_len l.item-iterator ≡ length (into_iter_items l.item-iterator);
   are : AreItemsAt g.F.Folder.tells (g.F.Folder.holds l.fn.folder) l.fn.self.path.items
       (whole done);
+  lacks : IsTrue g.F.Folder.tells → LacksOnly (g.F.Folder.may_fail l.fn.folder)
+      l.fn.self.path.items done;
   archived : ArchivesPart g.B.Blocks.does g.B.Scorer.score_of l.fn.blocks l.blocks l.fn.self
       l.self l.initial.streams l.streams done;
   no_entries : l.initial.streams.entries.items ≡ [];
   no_metadata : l.initial.streams.metadata.items ≡ [];
   stays : IsTrue g.F.Folder.tells → g.F.Folder.holds l.folder ≡ g.F.Folder.holds l.fn.folder;
+  paths : IsTrue g.F.Folder.tells → g.F.Folder.may_fail l.folder ≡ g.F.Folder.may_fail l.fn.folder;
   counted : HasRisenBy (failures done) (g.F.Folder.faults l.fn.folder)
       (g.F.Folder.faults l.folder);
 }

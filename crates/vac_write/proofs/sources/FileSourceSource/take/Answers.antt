@@ -2,8 +2,10 @@ use Rattle.std.proofs.Common.{◌≡◌, ◌≤◌, ◌+◌, ℕ, inl, inr, List
 use Rattle.std.proofs.lemmas.Bool.{cases_lt}
 use Rattle.std.proofs.lemmas.Grind.{common_steps}
 use Rattle.std.proofs.lemmas.List.{drop_all}
-use Rattle.vac_write.specs.Sources.{bytes_at_path, file_is, or_none}
+use Rattle.std.proofs.lemmas.Result.{err_from_is_err_and}
+use Rattle.vac_write.specs.Sources.{bytes_at_path, file_is, is_sure, or_none, sure_faults, unsure_faults}
 use Rattle.vac_write.proofs.Pieces.{moved, came, rest_of}
+use Rattle.vac_write.proofs.Sure.{failed_unsure, sure_stayed, sure_stays, told_stays, unsure_rose}
 use Rattle.vac_write.proofs.sources.FileSourceSource.take.Goals as goal
 
 pub returns-clause-moved : goal.returns-clause-moved
@@ -55,3 +57,70 @@ returns-clause-rest g c told =
     rest_of c.read.new.buf c.args.buf.now c.in_ok-n.n c.min-room.result
     (omega (arith, c.in_ok-n.ensures.fits, c.read.auto.buf)) c.in_ok-n.ensures.fits
     (c.in_ok-n.ensures.rest told)
+
+-- ---- what is counted, and kept
+
+pub returns-clause-cause : goal.returns-clause-cause
+returns-clause-cause g c =
+    let self = c.args.self.now in
+    let tells = g.F.Folder.tells in
+    let held = g.F.Folder.holds self.folder.now in
+    let failing = g.F.Folder.may_fail self.folder.now in
+    let sure = sure_stays tells held (g.F.Folder.holds c.read.new.self) failing
+    (g.F.Folder.may_fail c.read.new.self) self.path.now c.in_ok-n.ensures.stays
+    c.in_ok-n.ensures.paths in
+    λ i. unsure_faults (sure i) (c.in_ok-n.ensures.cause i)
+
+pub returns-clause-keeps : goal.returns-clause-keeps
+returns-clause-keeps g c =
+    let self = c.args.self.now in
+    let tells = g.F.Folder.tells in
+    let held = g.F.Folder.holds self.folder.now in
+    let failing = g.F.Folder.may_fail self.folder.now in
+    let held' = g.F.Folder.holds c.read.new.self in
+    let failing' = g.F.Folder.may_fail c.read.new.self in
+    let told = told_stays tells held held' failing failing' c.in_ok-n.ensures.stays
+    c.in_ok-n.ensures.paths in
+    let sure = sure_stays tells held held' failing failing' self.path.now
+    c.in_ok-n.ensures.stays c.in_ok-n.ensures.paths in
+    λ i. (
+      self.folder.ghost_name,
+      self.path.now,
+      told i,
+      sure i,
+      sure_faults (sure i) (c.in_ok-n.ensures.cause i),
+    )
+
+pub returns-in_err-n-clause-cause : goal.returns-in_err-n-clause-cause
+returns-in_err-n-clause-cause g c =
+    let self = c.args.self.now in
+    let tells = g.F.Folder.tells in
+    let held = g.F.Folder.holds self.folder.now in
+    let failing = g.F.Folder.may_fail self.folder.now in
+    let held' = g.F.Folder.holds c.read.new.self in
+    let failing' = g.F.Folder.may_fail c.read.new.self in
+    let p = err_from_is_err_and c.from_residual.result c.from_residual.ensures.1 in
+    rw (p.1) (unsure_rose (is_sure tells held failing self.path.now)
+    (is_sure tells held' failing' self.path.now) (g.F.Folder.faults self.folder.now)
+    (g.F.Folder.faults c.read.new.self)
+    (failed_unsure tells held failing self.path.now c.in_err-n.ensures.because)
+    (sure_stays tells held held' failing failing' self.path.now c.in_err-n.ensures.stays
+    c.in_err-n.ensures.paths) c.in_err-n.ensures.cause)
+
+pub returns-in_err-n-clause-keeps : goal.returns-in_err-n-clause-keeps
+returns-in_err-n-clause-keeps g c =
+    let self = c.args.self.now in
+    let tells = g.F.Folder.tells in
+    let held = g.F.Folder.holds self.folder.now in
+    let failing = g.F.Folder.may_fail self.folder.now in
+    let held' = g.F.Folder.holds c.read.new.self in
+    let failing' = g.F.Folder.may_fail c.read.new.self in
+    let told = told_stays tells held held' failing failing' c.in_err-n.ensures.stays
+    c.in_err-n.ensures.paths in
+    let sure = sure_stays tells held held' failing failing' self.path.now
+    c.in_err-n.ensures.stays c.in_err-n.ensures.paths in
+    let count = sure_stayed (is_sure tells held failing self.path.now)
+    (is_sure tells held' failing' self.path.now) (g.F.Folder.faults self.folder.now)
+    (g.F.Folder.faults c.read.new.self)
+    (failed_unsure tells held failing self.path.now c.in_err-n.ensures.because) sure in
+    λ i. (self.folder.ghost_name, self.path.now, told i, sure i, count i)
