@@ -1,7 +1,7 @@
 #!/usr/bin/env python3
 """Times `venti vacfs` over a store on files: folders of 1,000 and 10,000 items that are listed by messages of at most
-8,192 bytes, and a file of 64 MiB that is read, beside `read_range` alone over blocks in memory, and the same blocks
-asked of `venti session`.
+8,192 bytes, folders of 10,000 and 100,000 small files of which each is walked to and read, and a file of 64 MiB that is
+read, beside `read_range` alone over blocks in memory, and the same blocks asked of `venti session`.
 
 Run it as bench/view.py [FOLDER], at the top of the repository; the files are made in FOLDER, on whose disk the times
 depend, or else in /var/tmp. It needs Python 3, and `rt` for `read_range` alone, which is timed by a program that is
@@ -77,6 +77,28 @@ def folders(folder):
         row("a folder is listed, messages of 8,192 bytes", f"{count:,} items", f"{seconds:.2f}", processor, each, memory)
 
 
+def walked(folder):
+    """Listing a folder of many small files, and walking to each and reading it."""
+    for count in (10_000, 100_000):
+        name = f"files{count}"
+        os.mkdir(os.path.join(folder, name))
+        for n in range(count):
+            with open(os.path.join(folder, name, f"file {n:06}"), "wb") as item:
+                item.write(b"%06d" % n)
+        score = archive_of(folder, name)
+
+        def read(shown):
+            return sum(len(piece) for item in shown.items_of([]) for piece in shown.bytes_of(item.path))
+
+        for msize in (SHORT, LONGEST):
+            found, seconds, processor, memory = view(folder, score, msize, read)
+            if found != 6 * count:
+                sys.exit(f"{found} bytes are shown of {6 * count}")
+            each = f"{processor / count * 1e6:.1f} µs a file"
+            work = f"each file is walked to and read, messages of {msize:,} bytes"
+            row(work, f"{count:,} files", f"{seconds:.2f}", processor, each, memory)
+
+
 def rate(processor):
     return f"{SIZE / processor:,.0f} MiB a second"
 
@@ -131,6 +153,7 @@ def main():
     print("| work | amount | seconds | processor seconds | behind the beginning | memory, MiB |")
     print("|---|---|---|---|---|---|")
     store.in_store(where, 256, 8_192, folders)
+    store.in_store(where, 256, 8_192, walked)
     store.in_store(where, 256, 8_192, file)
     with tempfile.TemporaryDirectory(dir=where) as folder:
         alone(folder)

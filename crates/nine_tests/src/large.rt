@@ -1,5 +1,5 @@
-//! A folder of 3,000 files, as the Linux client lists it: buffer by buffer, each filled up by a read for the rest of
-//! it.
+//! A folder of 3,000 files: as the Linux client lists it, buffer by buffer, each filled up by a read for the rest of
+//! it, and walked to one by one.
 
 ghost use Rattle.std.specs.Prelude.{IfOk};
 ghost use Rattle.vt_tree.specs.Entries.{IsTreeEntry};
@@ -197,6 +197,20 @@ fn rests(alloc: Global) -> Result<Talk, AllocError> {
     Ok(talk)
 }
 
+/// Each file is walked to, and its fid forgotten.
+fn walks(alloc: Global) -> Result<Talk, AllocError> {
+    let mut talk = begun(alloc)?;
+    for n in 0..FILES {
+        let mut asked = *b"\x18\0\0\0n\x01\0\x01\0\0\0\x02\0\0\0\x01\0\x05\0f0000";
+        asked[19..].copy_from_slice(&name_of(n));
+        let mut qid = *b"\x16\0\0\0o\x01\0\x01\0\0\0\0\0\0\0\0\0\0\0\0\0\0";
+        qid[14..18].copy_from_slice(&n.saturating_add(1).to_le_bytes());
+        talk.say(&asked, &qid)?;
+        talk.say(b"\x0b\0\0\0x\x01\0\x02\0\0\0", b"\x07\0\0\0y\x01\0")?;
+    }
+    Ok(talk)
+}
+
 /// What is asked of the view.
 #[derive(Clone, Copy)]
 enum Asks {
@@ -251,4 +265,35 @@ fn a_long_folder_is_listed_by_buffers(rt: HostRuntime) -> Result<(), Fail> {
 #[test]
 fn the_rest_of_a_count_is_no_end(rt: HostRuntime) -> Result<(), Fail> {
     see_shown(rt.alloc(), Shown::Large, Vec::new(rt.alloc()), &Asks::Rests)
+}
+
+/// Walks to each file, and says whether each walk was answered.
+fn walk_all<B: Blocks>(alloc: Global, view: &mut View, blocks: &mut B) -> Result<bool, Fail> {
+    let talk = walks(alloc)?;
+    let came = serve(
+        alloc,
+        view,
+        blocks,
+        &talk.asked,
+        (1000, 400_000),
+        &talk.replied,
+    )?;
+    Ok(came.is_well())
+}
+
+#[test]
+fn walks_read_a_folder_once(rt: HostRuntime) -> Result<(), Fail> {
+    let mut rows = Rows::new();
+    let mut blocks = MemBlocks::new(rt.alloc(), Sha1Scorer);
+    let mut view = large_sample(rt.alloc(), &mut blocks)?;
+    let before = blocks.gets().len();
+    rows.is(
+        "the replies to the walks",
+        walk_all(rt.alloc(), &mut view, &mut blocks)?,
+    );
+    let asked = blocks.gets().len().saturating_sub(before);
+    // The metadata, 13 leaves below one block, and 15 leaves of entries, each below one block.
+    rows.is("how many blocks are asked for", asked == 14 + 30);
+    rows.all()?;
+    Ok(())
 }

@@ -29,6 +29,7 @@ module _ {S : Type 0} (does : S → Call → S → Type 0) (holds : S → Maps �
           reads_as does holds score_of s s' (Err bad) (Err bad) _ _ refl
           (part_told does holds score_of s s' e at (min n (size_of e - at)) (Err bad) reads)
           (λ map lost right. (right, lost));
+      few = λ map once tells right some. refl;
       bytes = (Err bad, reads);
       still = λ nothing. absurd nothing;
       whole = λ never. absurd never;
@@ -54,6 +55,7 @@ module _ {S : Type 0} (does : S → Call → S → Type 0) (holds : S → Maps �
                   (all_told bytes n (size_of e) at told.0),
             ),
           ));
+      few = λ map once tells right some. absurd (some refl);
       bytes = (Ok bytes, reads);
       still = λ nothing. absurd nothing;
       whole = λ never. absurd never;

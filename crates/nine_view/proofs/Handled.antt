@@ -1,11 +1,13 @@
 -- What is settled, refused or short of memory, as the answer to a request.
-use Rattle.std.proofs.Common.{◌≡◌, ℕ, Option, None, Result, Ok, Err, List, refl, sym, ◌∙◌, ap, subst}
+use Rattle.std.proofs.Common.{◌≡◌, ℕ, Option, Some, None, Result, Ok, Err, List, [], refl, sym, ◌∙◌, ap, subst}
 use Rattle.std.specs.Prelude.{IfSome}
 use Rattle.vt_tree.specs.Calls.{Call}
 use Rattle.vt_tree.specs.Maps.{BlockMap, Maps}
 use Rattle.vac_read.specs.declared.error.VacBad.{VacBad}
 use Rattle.vac_read.specs.declared.error.VacBad.TheVariants.{NoMemory}
 use Rattle.vac_read.specs.Reading.{refusal_of, refused_by}
+use Rattle.vac_read.specs.Asking.{ReadsFew}
+use Rattle.vac_read.proofs.Few.{few_nothing}
 use Rattle.vac_read.proofs.Readings.{reads_nothing}
 use Rattle.nine_wire.specs.Messages.{RMessage, r_error}
 use Rattle.nine_view.specs.declared.error.AnswerError.{AnswerError}
@@ -15,8 +17,8 @@ use Rattle.nine_view.specs.declared.request_error.RequestError.{RequestError}
 use Rattle.nine_view.specs.Answers.{Answer, ViewOutcome, refused_answer, settled, sets, walks, reads_file, reads_folder, sets_fid, stays}
 use Rattle.nine_view.specs.Failures.{failure_words}
 use Rattle.nine_view.specs.Handling.{Handles, SettlesFid, SetsFid, SettlesRequest, SettlesSo, archive_failure}
-use Rattle.nine_view.specs.Known.{ViewState, limit}
-use Rattle.nine_view.specs.Replies.{AsksForBytes, IsViewReply, NeverFails, failed, fails}
+use Rattle.nine_view.specs.Known.{ViewState, IsRightView, keeping, limit}
+use Rattle.nine_view.specs.Replies.{AsksFew, AsksForBytes, IsViewReply, NeverFails, failed, fails}
 
 module _ {S : Type 0} (does : S → Call → S → Type 0) (holds : S → Maps → Type 0)
     (score_of : List ℕ → List ℕ) (s : S) (tag : ℕ) where
@@ -38,12 +40,14 @@ module _ {S : Type 0} (does : S → Call → S → Type 0) (holds : S → Maps �
             reads_nothing does holds score_of s (failed (archive_failure result)) _
             (none (archive_failure result) so.whole)
             (λ map right. (so.right map right, gives map));
+        few = λ map once tells right some.
+            absurd (some so.whole);
         bytes = tt;
         still = λ nothing. (refl, gives);
         whole = λ never. so.whole;
         failed_so =
             subst (λ (f : Option VacBad). IfSome f (λ bad.
-            stays new outcome.reply ≡ fails old bad)) (sym so.whole) tt;
+            stays new outcome.reply ≡ fails (keeping new.kept old) bad)) (sym so.whole) tt;
       }
 
   pub settles : (old new : ViewState) (out : List ℕ) (result : Result ℕ AnswerError) (answer : Answer)
@@ -63,19 +67,28 @@ module _ {S : Type 0} (does : S → Call → S → Type 0) (holds : S → Maps �
 
   -- memory was short, and nothing has changed
   pub no_memory : (old : ViewState) (out : List ℕ) (answer : Answer) → (NeverFails answer → ⊥)
+      → ((map : BlockMap) → AsksFew (score_of []) map old.kept old.kept answer (Some NoMemory) 0)
       → AsksForBytes does holds score_of s s answer
       → Handles does holds score_of s s tag old old out (Err (Failed NoMemory)) answer
-  no_memory old out answer may bytes = record {
-    reply = r_error (failure_words (limit old) NoMemory);
-    says = refl;
-    reads =
-        reads_nothing does holds score_of s (Err NoMemory) _ refl
-        (λ map right. (right, λ some. absurd (some refl)));
-    bytes = bytes;
-    still = λ nothing. (refl, λ map some. absurd (some refl));
-    whole = λ never. absurd (may never);
-    failed_so = refl;
-  }
+  no_memory old out answer may none bytes =
+      let nothing : ReadsFew {X = Unit {0}} does holds score_of s s (Err NoMemory)
+      (λ map. IsRightView map old → IsRightView map old
+      × IsViewReply map old answer (Some NoMemory)
+      (stays old (r_error (failure_words (limit old) NoMemory))))
+      (λ map n. IsRightView map old
+      → AsksFew (score_of []) map old.kept old.kept answer (Some NoMemory) n) =
+      few_nothing does holds score_of s (Err NoMemory) _ _ refl
+      (λ map right. (right, λ some. absurd (some refl))) (λ map right. none map) in
+      record {
+        reply = r_error (failure_words (limit old) NoMemory);
+        says = refl;
+        reads = nothing.reads;
+        few = nothing.few;
+        bytes = bytes;
+        still = λ nothing. (refl, λ map some. absurd (some refl));
+        whole = λ never. absurd (may never);
+        failed_so = refl;
+      }
 
   -- a fid was set, or memory was short
   pub sets_handles : (old new : ViewState) (out : List ℕ) (result : Result ℕ AnswerError) (fid : ℕ)
@@ -86,6 +99,7 @@ module _ {S : Type 0} (does : S → Call → S → Type 0) (holds : S → Maps �
     says = so.says;
     reads = reads_nothing does holds score_of s (Ok tt) _ refl
         (λ map right. (so.right map right, so.done));
+    few = λ map once tells right some. absurd (some refl);
     bytes = tt;
     still = λ nothing. (refl, λ map. so.done);
     whole = λ never. absurd never;
@@ -96,6 +110,7 @@ module _ {S : Type 0} (does : S → Call → S → Type 0) (holds : S → Maps �
     says = so.says;
     reads = reads_nothing does holds score_of s (Ok tt) _ refl
         (λ map right. (so.right map right, so.done));
+    few = λ map once tells right some. absurd (some refl);
     bytes = tt;
     still = λ nothing. (refl, λ map. so.done);
     whole = λ never. absurd never;
@@ -106,12 +121,14 @@ module _ {S : Type 0} (does : S → Call → S → Type 0) (holds : S → Maps �
     says = so.says;
     reads = reads_nothing does holds score_of s (Err bad) _ (ap refusal_of so.done.0)
         (λ map right. (so.right map right, λ some. absurd (some so.done.0)));
+    few = λ map once tells right some. ap (λ (k : ViewState). k.kept) so.done.1;
     bytes = tt;
     still = λ nothing. (refl, λ map some. absurd (some so.done.0));
     whole = λ never. absurd never;
     failed_so =
         ap (λ (r : RMessage). stays new r) so.says
-        ∙ ap (λ (k : ViewState). stays k (r_error (failure_words (limit old) bad))) so.done.1;
+        ∙ ap (λ (k : ViewState). stays (keeping new.kept k)
+        (r_error (failure_words (limit old) bad))) so.done.1;
   }
 
   -- either of both

@@ -1,14 +1,16 @@
 -- What holds of all fids, when one is set or goes.
-use Rattle.std.proofs.Common.{◌≡◌, ◌==◌, ℕ, Some, List, [], ◌∷◌, refl, sym, ◌∙◌, ap, subst, inl, inr, eq-eqb, eqb-true}
+use Rattle.std.proofs.Common.{◌≡◌, ◌==◌, ℕ, Option, Some, List, [], ◌∷◌, refl, sym, ◌∙◌, ap, subst, inl, inr, eq-eqb, eqb-true}
 use Rattle.std.specs.List.{All, AllByRecursion}
 use Rattle.std.proofs.lemmas.Bool.{cases_Bool}
 use Rattle.vt_tree.specs.Maps.{BlockMap}
+use Rattle.vac_read.specs.declared.kept.KeptFolder.{KeptFolder}
 use Rattle.vac_read.specs.declared.node.Node.{Node}
+use Rattle.vac_read.specs.Kept.{IsRightKept}
 use Rattle.vac_read.specs.Nodes.{AreNodeEntries, FitsToldItem}
 use Rattle.nine_view.specs.declared.fid.Fid.{Fid}
 use Rattle.nine_view.specs.Files.{FitsMessage}
 use Rattle.nine_view.specs.Kept.{IsKeptView, IsKeptFid}
-use Rattle.nine_view.specs.Known.{ViewState, IsRightView, IsRightFid, fid_at, with_fid, without_fid}
+use Rattle.nine_view.specs.Known.{ViewState, IsRightView, IsRightFid, fid_at, keeping, with_fid, without_fid}
 
 module _ (P : Fid → Type 0) (fid : ℕ) where
   pub all_with : (f : Fid) (fids : List (ℕ × Fid)) → AllByRecursion (λ e. P e.1) fids → P f
@@ -93,18 +95,31 @@ kept_fid known fid f kept at = one_at IsKeptFid fid f known.fids kept.fids at
 pub right_with : (map : BlockMap) (known : ViewState) (fid : ℕ) (f : Fid) → IsRightView map known
     → IsRightFid map known.top f
     → IsRightView map (record known { fids = with_fid fid f known.fids })
-right_with map known fid f right is =
-    all_with (λ (g : Fid). IsRightFid map known.top g) fid f known.fids right is
+right_with map known fid f right is = record {
+  fids = all_with (λ (g : Fid). IsRightFid map known.top g) fid f known.fids right.fids is;
+  kept = right.kept;
+}
 
 pub right_without : (map : BlockMap) (known : ViewState) (fid : ℕ) → IsRightView map known
     → IsRightView map (record known { fids = without_fid fid known.fids })
-right_without map known fid right =
-    all_without (λ (g : Fid). IsRightFid map known.top g) fid known.fids right
+right_without map known fid right = record {
+  fids = all_without (λ (g : Fid). IsRightFid map known.top g) fid known.fids right.fids;
+  kept = right.kept;
+}
 
 pub right_fid : (map : BlockMap) (known : ViewState) (fid : ℕ) (f : Fid) → IsRightView map known
     → fid_at fid known.fids ≡ Some f → IsRightFid map known.top f
 right_fid map known fid f right at =
-    one_at (λ (g : Fid). IsRightFid map known.top g) fid f known.fids right at
+    one_at (λ (g : Fid). IsRightFid map known.top g) fid f known.fids right.fids at
+
+-- another folder is kept
+pub right_keeping : (map : BlockMap) (known : ViewState) (kept : List KeptFolder)
+    → IsRightView map known → IsRightKept map kept → IsRightView map (keeping kept known)
+right_keeping map known kept right is = record { fids = right.fids; kept = is }
+
+pub kept_keeping : (known : ViewState) (kept : List KeptFolder) → IsKeptView known
+    → IsKeptView (keeping kept known)
+kept_keeping known kept is = record { top = is.top; msize = is.msize; fids = is.fids }
 
 -- ---- what is told of files
 

@@ -20,7 +20,6 @@ pub mod Filling
 pub mod Hearing
 pub mod Turning
 pub mod SoFar
-pub mod Versions
 pub mod Attaching
 pub mod Beginning
 pub mod Words
@@ -28,3 +27,4 @@ pub mod Listing
 pub mod Asking
 pub mod ReadHandled
 pub mod WalkNames
+pub mod WalkAsking

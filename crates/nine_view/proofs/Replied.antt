@@ -37,6 +37,7 @@ module _ {S : Type 0} (does : S → Call → S → Type 0) (holds : S → Maps �
           said_is = told.is;
           short = subst (λ (n : ℕ). n ≤ limit old) (told.len_is ∙ sym (ap length told.is)) told.short;
           reads = so.reads;
+          few = so.few;
           bytes = so.bytes;
           still = so.still;
           whole = so.whole;

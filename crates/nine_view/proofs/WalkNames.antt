@@ -43,6 +43,12 @@ module _ {X : Type 0} (left : Option X) (here : X → List ℕ) (others : X → 
           at ∙ ap (λ (l : List (List ℕ)). front ++ name ∷ l) some
           ∙ sym (append_assoc front (name ∷ []) (here r ∷ others r))
 
+-- no name is left
+pub names_end : {X : Type 0} (left : Option X) (P : Type 0) (Q : X → Type 0)
+    → ((r : X) → left ≡ Some r → ⊥) → MatchOption left P Q → P
+names_end None P Q none is = is
+names_end (Some r) P Q none is = absurd (none r refl)
+
 -- ---- the qids so far
 
 not_reached : (end : Result Place RequestError) → ((at : Place) → end ≡ Ok at → ⊥) → qids_at end ≡ []

@@ -87,11 +87,11 @@ to_version known msize version =
     else if is_ours version
     then record {
       reply = r_version least (codes "9P2000");
-      known = record { top = known.top; msize = Some least; fids = [] };
+      known = record known { msize = Some least; fids = [] };
     }
     else record {
       reply = r_version least (codes "unknown");
-      known = record { top = known.top; msize = None; fids = [] };
+      known = record known { msize = None; fids = [] };
     }
 
 -- ---- attach(5)

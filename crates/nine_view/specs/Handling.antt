@@ -1,8 +1,8 @@
 -- What those do that answer one request each.
-use Rattle.std.specs.Prelude.{ℕ, ◌≡◌, ◌≢◌, ◌≤◌, ◌+◌, ◌-◌, min, true, false, IfSome, MatchOption, Option, Some, None, Result, Ok, Err, List, length, take}
-use Rattle.std.specs.List.{flat_map}
-use Rattle.vt_tree.specs.Calls.{Call}
-use Rattle.vt_tree.specs.Maps.{BlockMap, Maps}
+use Rattle.std.specs.Prelude.{ℕ, ◌≡◌, ◌≢◌, ◌≤◌, ◌+◌, ◌-◌, min, true, false, IfSome, MatchOption, Option, Some, None, Result, Ok, Err, List, [], length, take}
+use Rattle.std.specs.List.{AllByRecursion, flat_map}
+use Rattle.vt_tree.specs.Calls.{Call, TellsOfMap}
+use Rattle.vt_tree.specs.Maps.{BlockMap, Maps, IsWriteOnce}
 use Rattle.vac_read.specs.declared.error.VacBad.{VacBad}
 use Rattle.vac_read.specs.declared.error.VacBad.TheVariants.{NoMemory}
 use Rattle.vac_read.specs.declared.node.Node.{Node}
@@ -20,9 +20,9 @@ use Rattle.nine_view.specs.declared.request_error.RequestError.TheVariants.{Smal
 use Rattle.nine_view.specs.Answers.{Answer, settled, sets, ViewOutcome, stays, sets_fid, first_file, is_small, told_next}
 use Rattle.nine_view.specs.Failures.{failure_words}
 use Rattle.nine_view.specs.Files.{stat_in}
-use Rattle.nine_view.specs.Known.{ViewState, IsRightView, fid_at, limit, with_fid}
+use Rattle.nine_view.specs.Known.{ViewState, IsRightView, fid_at, keeping, limit, with_fid}
 use Rattle.nine_view.specs.Refusals.{refusal_words}
-use Rattle.nine_view.specs.Replies.{IsViewReply, AsksForBytes, AsksNoBlock, NeverFails, failed, fails}
+use Rattle.nine_view.specs.Replies.{IsViewReply, AsksFew, AsksForBytes, AsksNoBlock, NeverFails, failed, fails}
 
 -- a reply stands in front of these bytes, which are so many
 pub record Says (tag limit : ℕ) (out : List ℕ) (len : ℕ) (reply : RMessage) : Type 0 where
@@ -61,11 +61,16 @@ pub record Handles {S : Type 0} (does : S → Call → S → Type 0) (holds : S 
   pub reads : ReadsArchive does holds score_of s s' (failed (archive_failure result))
       (λ map. IsRightView map old → IsRightView map new
       × IsViewReply map old answer (archive_failure result) (record { reply = reply; known = new }))
+  pub few : (map : BlockMap) → IsWriteOnce score_of map
+      → AllByRecursion (TellsOfMap score_of map) reads.calls → IsRightView map old
+      → AsksFew (score_of []) map old.kept new.kept answer (archive_failure result)
+      (length reads.calls)
   pub bytes : AsksForBytes does holds score_of s s' answer
   pub still : AsksNoBlock answer → (s' ≡ s) × ((map : BlockMap)
       → IsViewReply map old answer (archive_failure result) (record { reply = reply; known = new }))
   pub whole : NeverFails answer → archive_failure result ≡ None
-  pub failed_so : IfSome (archive_failure result) (λ bad. stays new reply ≡ fails old bad)
+  pub failed_so : IfSome (archive_failure result)
+      (λ bad. stays new reply ≡ fails (keeping new.kept old) bad)
 
 -- an answer that reads no block was put out, and the view is as it says
 abbrev pub SettlesSo : (tag : ℕ) → (old new : ViewState) → (out : List ℕ) → Result ℕ AnswerError

@@ -3,17 +3,25 @@ use Rattle.std.specs.Prelude.{ℕ, ◌≡◌, ◌==◌, ⊤, if◌then◌else◌
 use Rattle.std.specs.List.{AllByRecursion}
 use Rattle.std.specs.Option.{option_map}
 use Rattle.vt_tree.specs.Maps.{BlockMap}
+use Rattle.vac_read.specs.declared.kept.KeptFolder.{KeptFolder}
 use Rattle.vac_read.specs.declared.node.Node.{Node}
+use Rattle.vac_read.specs.Kept.{IsRightKept}
 use Rattle.vac_read.specs.Nodes.{FindsNode, Lists}
 use Rattle.nine_view.specs.declared.TheConstants.{MAX_MESSAGE}
 use Rattle.nine_view.specs.declared.fid.Fid.{Fid}
 
--- the top folder; the agreed size of messages, where a version is agreed; and the fids that the
--- client has set, each with its file
+-- the top folder; the agreed size of messages, where a version is agreed; the fids that the client
+-- has set, each with its file; and what is kept of the folders in which names were looked for, on
+-- which no reply depends
 pub record ViewState : Type 0 where
   pub top : Node
   pub msize : Option ℕ
   pub fids : List (ℕ × Fid)
+  pub kept : List KeptFolder
+
+-- the same, where this is kept of folders
+abbrev pub keeping : List KeptFolder → ViewState → ViewState
+keeping kept known = record known { kept = kept }
 
 -- the most bytes that a message may have now
 abbrev pub limit : ViewState → ℕ
@@ -57,6 +65,7 @@ pub record IsRightFid (map : BlockMap) (top : Node) (f : Fid) : Type 0 where
   pub way : IsWay map top f.node f.above
   pub files : AreFiles map f.node f.files
 
--- what a view knows of the files of its fids is what the archive has
-abbrev pub IsRightView : BlockMap → ViewState → Type 0
-IsRightView map known = AllByRecursion (λ e. IsRightFid map known.top e.1) known.fids
+-- what a view knows of the files of its fids, and what it keeps of folders, is what the archive has
+pub record IsRightView (map : BlockMap) (known : ViewState) : Type 0 where
+  pub fids : AllByRecursion (λ e. IsRightFid map known.top e.1) known.fids
+  pub kept : IsRightKept map known.kept

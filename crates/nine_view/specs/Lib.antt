@@ -3,6 +3,7 @@ pub mod Files
 pub mod Known
 pub mod Refusals
 pub mod Walks
+pub mod Asking
 pub mod Answers
 pub mod Replies
 pub mod Serving

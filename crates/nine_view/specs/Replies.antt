@@ -1,11 +1,13 @@
 -- What the view of an archive replies to a message, by what the archive has.
+use Rattle.std.specs.List.{AllByRecursion}
 use Rattle.std.specs.Prelude.{ℕ, ◌≡◌, ◌≢◌, ◌-◌, ◌≤◌, ⊤, min, true, false, IfSome, Option, Some, None, Result, Ok, Err, List, [], ◌∷◌, length}
-use Rattle.vt_tree.specs.Calls.{Call}
+use Rattle.vt_tree.specs.Calls.{Call, TellsOfMap}
 use Rattle.vt_tree.specs.Content.{size_of, byte_of}
-use Rattle.vt_tree.specs.Maps.{BlockMap, Maps}
+use Rattle.vt_tree.specs.Maps.{BlockMap, Maps, IsWriteOnce}
 use Rattle.vt_tree.specs.Reading.{GivesBytes}
 use Rattle.vac_read.specs.declared.error.VacBad.{VacBad}
 use Rattle.vac_read.specs.declared.error.VacBad.TheVariants.{NoMemory}
+use Rattle.vac_read.specs.declared.kept.KeptFolder.{KeptFolder}
 use Rattle.vac_read.specs.declared.node.Node.{Node}
 use Rattle.vac_read.specs.Broken.{IsBroken, IsUnread}
 use Rattle.vac_read.specs.Nodes.{Lists}
@@ -16,8 +18,9 @@ use Rattle.nine_wire.specs.Messages.{Qid}
 use Rattle.nine_view.specs.declared.place.Place.{Place}
 use Rattle.nine_view.specs.declared.request_error.RequestError.{RequestError}
 use Rattle.nine_view.specs.Answers.{Asked, unknown, misspelled, request, ViewOutcome, Answer, settled, sets, walks, reads_file, reads_folder, answer_to, stays, refuses, sets_fid, unopened, reads_files}
+use Rattle.nine_view.specs.Asking.{WalkAsks}
 use Rattle.nine_view.specs.Failures.{failure_words}
-use Rattle.nine_view.specs.Known.{ViewState, IsRightView, limit}
+use Rattle.nine_view.specs.Known.{ViewState, IsRightView, keeping, limit}
 use Rattle.nine_view.specs.Walks.{Walk, Walks, IsLost}
 
 -- ---- what is asked
@@ -53,12 +56,13 @@ walked known fid (qid ∷ qids) (Err why) = stays known (r_walk (qid ∷ qids))
 abbrev pub fails : ViewState → VacBad → ViewOutcome
 fails known bad = stays known (r_error (failure_words (limit known) bad))
 
--- the outcome of an answer by what the archive has
+-- the outcome of an answer by what the archive has; behind a walk other folders may be kept
 abbrev pub GivesOutcome : BlockMap → ViewState → Answer → ViewOutcome → Type 0
 GivesOutcome map known (settled outcome) o = o ≡ outcome
 GivesOutcome map known (sets fid f reply) o = o ≡ sets_fid known fid f reply
 GivesOutcome map known (walks fid from names) o =
-    (walk : Walk) × Walks map (Ok from) names walk × (o ≡ walked known fid walk.qids walk.end)
+    (walk : Walk) × Walks map (Ok from) names walk
+    × (o ≡ walked (keeping o.known.kept known) fid walk.qids walk.end)
 GivesOutcome map known (reads_file e at n) o =
     (bytes : List ℕ) × GivesBytes (byte_of map e) at (min n (size_of e - at)) (Ok bytes)
     × (o ≡ stays known (r_read bytes))
@@ -108,13 +112,23 @@ AsksForBytes does holds score_of s s' (reads_file e at n) =
     × ReadsFile does holds score_of s s' e at (min n (size_of e - at)) result
 AsksForBytes does holds score_of s s' answer = ⊤
 
+-- A walk asks for so many blocks at most, where this was kept of folders, and this is behind it. Behind another answer
+-- that failed it is what it was.
+abbrev pub AsksFew : (zero_score : List ℕ) → BlockMap → (old new : List KeptFolder) → Answer
+    → (failure : Option VacBad) → (n : ℕ) → Type 0
+AsksFew zero_score map old new (walks fid from names) failure n =
+    WalkAsks zero_score map failure old new (Ok from) names n
+AsksFew zero_score map old new answer failure n = failure ≢ None → new ≡ old
+
 -- ---- one message
 
 -- A message was answered by these bytes, over a store of blocks, and this is known behind it. The
 -- reply is that of the archive by each write-once map of which the store's answers are true, where
 -- what was known is right by it; and then what is known now is right too. Whatever the blocks are,
 -- the reply is one message under the message's tag, as short as agreed; what the view answers by
--- itself is exact, without asking for a block; and a failure changes nothing.
+-- itself is exact, without asking for a block; and a failure changes nothing but what is kept. By each of those maps by
+-- which what was known is right, a walk asks for no more blocks than are few for it, and keeps the folders in which it
+-- looked.
 pub record AnswersMessage {S : Type 0} (does : S → Call → S → Type 0) (holds : S → Maps → Type 0)
     (score_of : List ℕ → List ℕ) (s s' : S) (old new : ViewState) (message said : List ℕ)
     (failure : Option VacBad) : Type 0 where
@@ -128,10 +142,13 @@ pub record AnswersMessage {S : Type 0} (does : S → Call → S → Type 0) (hol
   pub reads : ReadsArchive does holds score_of s s' (failed failure)
       (λ map. IsRightView map old → IsRightView map new
       × IsViewReply map old (answer_to old asked) failure (record { reply = reply; known = new }))
+  pub few : (map : BlockMap) → IsWriteOnce score_of map
+      → AllByRecursion (TellsOfMap score_of map) reads.calls → IsRightView map old
+      → AsksFew (score_of []) map old.kept new.kept (answer_to old asked) failure (length reads.calls)
   pub bytes : AsksForBytes does holds score_of s s' (answer_to old asked)
   pub still : AsksNoBlock (answer_to old asked)
       → (s' ≡ s) × ((map : BlockMap)
       → IsViewReply map old (answer_to old asked) failure (record { reply = reply; known = new }))
   pub whole : NeverFails (answer_to old asked) → failure ≡ None
   pub failed_so : IfSome failure
-      (λ bad. stays new reply ≡ fails old bad)
+      (λ bad. stays new reply ≡ fails (keeping new.kept old) bad)

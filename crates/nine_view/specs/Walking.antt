@@ -1,5 +1,5 @@
 -- What the steps of a walk tell (where names lead: Walks.antt).
-use Rattle.std.specs.Prelude.{ℕ, ◌≡◌, ◌≢◌, ◌<◌, ◌^◌, map, false, Result, Ok, Err, List, [], length}
+use Rattle.std.specs.Prelude.{ℕ, ◌≡◌, ◌≢◌, ◌<◌, ◌^◌, map, false, Option, Some, None, Result, Ok, Err, List, [], length}
 use Rattle.std.specs.List.{AllByRecursion}
 use Rattle.std.specs.Str.{bytes_eq}
 use Rattle.vt_tree.specs.Maps.{BlockMap}
@@ -58,6 +58,11 @@ abbrev pub TellsStep : Place → (name : List ℕ) → Result (Result Place Requ
     → BlockMap
     → Type 0
 TellsStep at name result map = AnswersOrTells result (StepsTo map at name) (StepIsLost map at name)
+
+-- why it can't be told, if it can't
+abbrev pub failure_of : {X : Type 0} → Result X VacBad → Option VacBad
+failure_of (Ok x) = None
+failure_of (Err bad) = Some bad
 
 -- a walk in memory, as contracts see it
 abbrev pub walk_of : Walked → Walk

@@ -1,6 +1,6 @@
 //! What a view of an archive keeps from one message to the next.
 
-ghost use Rattle.std.specs.Prelude.{◌≡◌, ◌+◌, ◌≤◌, None, [], IfOk};
+ghost use Rattle.std.specs.Prelude.{◌≡◌, ◌+◌, ◌≤◌, None, [], IfOk, unwrap_or};
 ghost use Rattle.nine_view.specs.Answers.{most_data};
 ghost use Rattle.nine_view.specs.Files.{FitsMessage};
 ghost use Rattle.nine_view.specs.Known.{limit};
@@ -9,7 +9,7 @@ use crate::MAX_MESSAGE;
 use crate::fids::Fids;
 use std::alloc::{AllocError, Global};
 use std::marker::Model;
-use vac_read::{Archive, Node};
+use vac_read::{Archive, Kept, Node};
 
 /// An archive as a tree of files, and what its client has said so far: the size of messages that
 /// is agreed, and the fids that it has set.
@@ -20,6 +20,8 @@ pub struct View {
     /// The most bytes of a message; none before one is agreed.
     pub(crate) msize: Option<u32>,
     pub(crate) fids: Fids,
+    /// Of the folders in which names were looked for.
+    pub(crate) kept: Kept,
     /// Room for what a folder tells of its files.
     pub(crate) stats: Vec<u8>,
 }
@@ -32,10 +34,15 @@ impl Model for View {
 
     ghost use Rattle.nine_view.specs.Kept.{IsKeptView};
 
-    ghost view = { λ v. record { top = v.top; msize = v.msize; fids = v.fids } };
+    ghost view = { λ v. record {
+      top = v.top;
+      msize = v.msize;
+      fids = v.fids;
+      kept = v.kept;
+    } };
 
     ghost invariant = { λ v. (length v.stats.items ≡ 65536)
-        × IsKeptView (record { top = v.top; msize = v.msize; fids = v.fids }) };
+        × IsKeptView (record { top = v.top; msize = v.msize; fids = v.fids; kept = v.kept }) };
 }
 
 impl View {
@@ -43,12 +50,13 @@ impl View {
     pub fn new(alloc: Global, archive: Archive) -> Result<Self, AllocError>
         requires { FitsMessage archive.top }
         ensures { IfOk result (λ view.
-            view ≡ record { top = archive.top; msize = None; fids = [] }) }
+            view ≡ record { top = archive.top; msize = None; fids = []; kept = [] }) }
     {
         Ok(View {
             top: archive.top,
             msize: None,
             fids: Fids::new(alloc),
+            kept: Kept::new(alloc),
             stats: vec![in alloc; 0; MAX_MESSAGE]?,
         })
     }

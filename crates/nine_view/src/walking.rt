@@ -1,21 +1,24 @@
 //! Walking from one file to another (walk(5)).
 
-ghost use Rattle.std.specs.Prelude.{◌≡◌, ◌≤◌, IfErr, IfOk, IsSome, OnErr, OnOk, length, map};
+ghost use Rattle.std.specs.Prelude.{◌≡◌, ◌≤◌, [], IfErr, IfOk, IsSome, Ok, OnErr, OnOk, length, map};
 ghost use Rattle.vt_tree.specs.Maps.{BlockMap};
-ghost use Rattle.vac_read.specs.Reading.{ReadsArchive};
+ghost use Rattle.vac_read.specs.Asking.{ReadsFew};
+ghost use Rattle.vac_read.specs.Kept.{IsRightKept};
 ghost use Rattle.nine_wire.specs.Messages.{r_walk};
 ghost use Rattle.nine_wire.specs.Views.{wire_qid};
 ghost use Rattle.nine_view.specs.Answers.{of_fid, to_walk, unopened};
+ghost use Rattle.nine_view.specs.Asking.{KeepsSearched, StepAsks, WalkAsks};
 ghost use Rattle.nine_view.specs.Handling.{Handles, Says};
 ghost use Rattle.nine_view.specs.Known.{IsRightView, IsWay, limit, with_fid};
 ghost use Rattle.nine_view.specs.Walking.{AreQids, EndsShort, IsToldPlace, MayWalk, TellsStep, TellsWalk};
+ghost use Rattle.nine_view.specs.Walking.{failure_of};
 
 use crate::error::AnswerError;
 use crate::stats::{is_folder, qid_of};
 use crate::{MAX_FIDS, MAX_NAMES, Place, RequestError, View};
 use nine_wire::{NO_FID, Names, Qid, Reply, encode};
 use std::alloc::Global;
-use vac_read::{VacBad, find_item};
+use vac_read::{Kept, VacBad, find_item};
 use vt_tree::Blocks;
 
 /// Where names lead.
@@ -48,7 +51,7 @@ impl View {
         if names.is_empty() {
             return self.set_walked(tag, newfid, from, &[], out);
         }
-        let walked = walk_names(alloc, blocks, from, names)?;
+        let walked = walk_names(alloc, blocks, &mut self.kept, from, names)?;
         let Walked { qids, end } = walked;
         match end {
             Ok(at) => self.set_walked(tag, newfid, at, &qids, out),
@@ -146,12 +149,16 @@ impl View {
 fn walk_names<B: Blocks>(
     alloc: Global,
     blocks: &mut B,
+    kept: &mut Kept,
     from: Place,
     names: &Names<'_>,
 ) -> Result<Walked, VacBad>
     requires { IsToldPlace from }
-    ensures reads { ReadsArchive B.does B.holds B.score_of blocks.old blocks.new result
-        (TellsWalk from names.now result) }
+    ensures reads { ReadsFew B.does B.holds B.score_of blocks.old blocks.new result
+        (λ map. IsRightKept map kept.old → IsRightKept map kept.new
+        × TellsWalk from names.now result map)
+        (λ map n. IsRightKept map kept.old → WalkAsks (B.score_of []) map (failure_of result)
+        kept.old kept.new (Ok from) names.now n) }
     ensures few { IfOk result (λ w. length w.qids.items ≤ length names.now) }
     ensures paths { IfOk result (λ w. AreQids w.qids.items) }
     ensures told { IfOk result (λ w. IfOk w.end IsToldPlace) }
@@ -167,7 +174,7 @@ fn walk_names<B: Blocks>(
                 end: Err(why),
             }),
         };
-        end = step(alloc, blocks, at, name)?;
+        end = step(alloc, blocks, kept, at, name)?;
         if let Ok(at) = &end {
             qids.push(qid_of(&at.node))?;
         }
@@ -180,12 +187,16 @@ fn walk_names<B: Blocks>(
 fn step<B: Blocks>(
     alloc: Global,
     blocks: &mut B,
+    kept: &mut Kept,
     at: Place,
     name: &[u8],
 ) -> Result<Result<Place, RequestError>, VacBad>
     requires { IsToldPlace at }
-    ensures reads { ReadsArchive B.does B.holds B.score_of blocks.old blocks.new result
-        (TellsStep at name.now result) }
+    ensures reads { ReadsFew B.does B.holds B.score_of blocks.old blocks.new result
+        (λ map. IsRightKept map kept.old → IsRightKept map kept.new
+        × TellsStep at name.now result map)
+        (λ map n. StepAsks (B.score_of []) map at.node.stored name.now kept.old kept.new n) }
+    ensures kept { OnOk result (KeepsSearched at.node.stored name.now kept.new) }
     ensures told { IfOk result (λ next. IfOk next IsToldPlace) }
 {
     if !is_folder(&at.node.stored) {
@@ -194,7 +205,7 @@ fn step<B: Blocks>(
     if name == b"..".as_slice() {
         return Ok(Ok(at.parent()));
     }
-    match find_item(alloc, blocks, &at.node, name)? {
+    match find_item(alloc, blocks, kept, &at.node, name)? {
         Some(node) => Ok(Ok(at.into_file(node)?)),
         None => Ok(Err(RequestError::NoFile)),
     }

@@ -1,5 +1,9 @@
+pub mod Few
+pub mod Keeps
 pub mod Leaves
 pub mod Lists
+pub mod Moved
+pub mod Named
 pub mod Opening
 pub mod Readings
 pub mod Roots

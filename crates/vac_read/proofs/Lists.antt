@@ -1,5 +1,5 @@
 -- Records and nodes, one more at the end.
-use Rattle.std.proofs.Common.{◌≡◌, ◌+◌, ◌<◌, ◌^◌, ℕ, zero, suc, Option, Some, None, true, false, List, [], ◌∷◌, ◌++◌, length, take, drop, get_or, add-one, refl, sym, ◌∙◌, ap, subst, arith, length-append}
+use Rattle.std.proofs.Common.{◌≡◌, ◌+◌, ◌*◌, ◌<◌, ◌≤◌, ◌^◌, ℕ, zero, suc, Option, Some, None, true, false, List, [], ◌∷◌, ◌++◌, length, take, drop, get_or, add-one, refl, sym, ◌∙◌, ap, subst, arith, length-append}
 use Rattle.std.specs.List.{AllByRecursion}
 use Rattle.std.specs.Option.{option_or}
 use Rattle.std.specs.Str.{bytes_eq}
@@ -11,7 +11,7 @@ use Rattle.vt_tree.specs.declared.entry.Entry.{Entry}
 use Rattle.vt_tree.specs.Maps.{BlockMap}
 use Rattle.vt_tree.proofs.Appending.{all_then}
 use Rattle.vac_meta.specs.declared.record.Record.{Record}
-use Rattle.vac_meta.specs.Records.{IsRecord, all_spelled, record_bytes}
+use Rattle.vac_meta.specs.Records.{IsRecord, all_spelled, number_fields, record_bytes, string}
 use Rattle.vac_read.specs.declared.node.Node.{Node}
 use Rattle.vac_read.specs.Nodes.{AreNodes, IsNode, named}
 
@@ -55,6 +55,24 @@ pub is_record_there : (records before : List Record) (r : Record) (rest : List R
     → records ≡ before ++ r ∷ rest → AllByRecursion IsRecord records → IsRecord r
 is_record_there records before r rest among all =
     (all_then IsRecord before (r ∷ rest) (subst (AllByRecursion IsRecord) among all)).0
+
+-- each has 28 bytes at least
+record_long : (r : Record) → IsRecord r → 28 ≤ length (record_bytes r)
+record_long r is =
+    let some = is.fits.name.some in
+    omega (
+      arith,
+      length-append r.name (number_fields r ++ (string r.uid ++ string r.gid)),
+      length-append r.uid (string r.gid),
+    )
+
+pub records_long : (records : List Record) → AllByRecursion IsRecord records
+    → length records * 28 ≤ length (all_spelled records)
+records_long [] all = omega arith
+records_long (r ∷ records) all =
+    let one = record_long r all.0 in
+    let rest = records_long records all.1 in
+    omega (arith, length-append (record_bytes r) (all_spelled records))
 
 -- ---- names
 

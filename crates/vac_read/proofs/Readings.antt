@@ -84,13 +84,13 @@ module _ {S : Type 0} (does : S → Call → S → Type 0) (holds : S → Maps �
         (t.0, join m.held f.1 t.1);
   }
 
-  range_refused : (result : Result (List ℕ) TreeErr) (s s' : S) (e : Entry) (at len : ℕ)
+  pub range_refused : (result : Result (List ℕ) TreeErr) (s s' : S) (e : Entry) (at len : ℕ)
       → (reads : ReadsRange does score_of s s' e at len result)
       → EndsBy (refused_by (of_tree result)) reads.calls
   range_refused (Ok bytes) s s' e at len reads = reads.refused
   range_refused (Err err) s s' e at len reads = reads.refused
 
-  given : (result : Result (List ℕ) TreeErr) (map : BlockMap) (e : Entry) (at len : ℕ)
+  pub given : (result : Result (List ℕ) TreeErr) (map : BlockMap) (e : Entry) (at len : ℕ)
       → IfErr result (λ err. IsOfEntry err → unfit e ≡ Some err)
       → GivesBytes (byte_of map e) at len result → TellsRange e at len (of_tree result) map
   given (Ok bytes) map e at len fit gives = gives

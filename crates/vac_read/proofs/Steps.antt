@@ -10,10 +10,10 @@ use Rattle.vac_model.specs.Trees.{AreFolder, HasEntry}
 use Rattle.vac_read.specs.declared.error.VacBad.{VacBad}
 use Rattle.vac_read.specs.declared.node.Node.{Node}
 use Rattle.vac_read.specs.declared.node.Stored.TheVariants as stored
-use Rattle.vac_read.specs.Broken.{IsUnfound, LacksEntries, LacksDirectoryEntry, LacksNode}
-use Rattle.vac_read.specs.Folders.{IsNamed, TellsNodes}
-use Rattle.vac_read.specs.Nodes.{AreNodes, FindsNode, IsFoundItem, IsNode, IsStoredNode, named}
-use Rattle.vac_read.specs.Reading.{ListsFolder}
+use Rattle.vac_read.specs.Broken.{LacksEntries, LacksDirectoryEntry, LacksNode, entry_field}
+use Rattle.vac_read.specs.Folders.{TellsNamed, TellsNodes}
+use Rattle.vac_read.specs.Nodes.{AreNodes, IsFoundItem, IsStoredNode, named}
+use Rattle.vac_read.specs.Reading.{FindsItem, ListsFolder}
 
 -- ---- the entries of a record
 
@@ -95,40 +95,26 @@ list_told map entries metadata records (Err bad) are told =
 
 -- ---- the item of a name
 
-module _ (map : BlockMap) (entries metadata stream : Entry) (records : List Record)
-    (name : List ℕ) (r : Record) (at : ℕ) (are : AreFolder map entries metadata records)
-    (is : IsNamed records name r at) (same : stream ≡ entries)
-  where
-    pub name_lacks : (bad : VacBad)
-        → LacksEntries map stream r.kind r.entry (at + length (string r.name) + 1) bad
-        → IsUnfound map (stored.Folder entries metadata) name bad
-    name_lacks bad lacks = inr (record {
+pub named_told : (map : BlockMap) (entries metadata stream : Entry) (records : List Record)
+    (name : List ℕ) (result : Result (Option Node) VacBad) → AreFolder map entries metadata records
+    → stream ≡ entries → TellsNamed stream records name result map
+    → FindsItem (stored.Folder entries metadata) name result map
+named_told map entries metadata stream records name (Ok found) are same told = (
+  records,
+  are,
+  subst (λ (e : Entry). IsFoundItem map e (named name records) found) same told,
+)
+named_told map entries metadata stream records name (Err bad) are same told = λ some.
+    let l = told some in
+    inr (record {
       records = records;
       are = are;
-      before = is.before;
-      r = r;
-      rest = is.rest;
-      among = is.among;
-      is = is.is;
+      before = l.before;
+      r = l.r;
+      rest = l.named_so.rest;
+      among = l.named_so.among;
+      is = l.named_so.is;
       lacks =
-          subst (λ (n : ℕ).
-          LacksEntries map entries r.kind r.entry (n + length (string r.name) + 1) bad)
-          is.place_is
-          (subst (λ (e : Entry).
-          LacksEntries map e r.kind r.entry (at + length (string r.name) + 1) bad) same lacks);
+          subst (λ (e : Entry).
+          LacksEntries map e l.r.kind l.r.entry (entry_field l.before l.r) bad) same l.lacks;
     })
-
-    pub name_found : (node : Node) → IsNode map stream r node
-        → FindsNode map (stored.Folder entries metadata) name (Some node)
-    name_found node there = (
-      records,
-      are,
-      subst (λ (o : Option Record). IsFoundItem map entries o (Some node)) (sym is.is)
-          (subst (λ (e : Entry). IsNode map e r node) same there),
-    )
-
-pub name_absent : (map : BlockMap) (entries metadata : Entry) (records : List Record)
-    (name : List ℕ) → AreFolder map entries metadata records → named name records ≡ None
-    → FindsNode map (stored.Folder entries metadata) name None
-name_absent map entries metadata records name are none =
-    (records, are, subst (λ (o : Option Record). IsFoundItem map entries o None) (sym none) tt)

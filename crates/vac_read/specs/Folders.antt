@@ -1,5 +1,5 @@
 -- What the parts of a reader of folders answer.
-use Rattle.std.specs.Prelude.{ℕ, ◌≡◌, ◌+◌, ◌-◌, ◌*◌, ◌/◌, ◌%◌, ◌<◌, ◌≤◌, ◌⊎◌, min, Bool, true, false, Option, Some, None, Result, Ok, Err, List, [], ◌∷◌, ◌++◌, codes, length, take, drop}
+use Rattle.std.specs.Prelude.{ℕ, ◌≡◌, ◌+◌, ◌-◌, ◌*◌, ◌/◌, ◌%◌, ◌<◌, ◌≤◌, ◌⊎◌, min, Bool, true, false, Option, Some, None, Result, Ok, Err, List, [], ◌∷◌, ◌++◌, codes, length, take, drop, slice_index_or}
 use Rattle.vt_base.specs.Filled.{filled}
 use Rattle.vt_tree.specs.declared.entry.Entry.{Entry}
 use Rattle.vt_tree.specs.declared.root.Root.{Root as TreeRoot}
@@ -9,18 +9,17 @@ use Rattle.vt_tree.specs.Maps.{BlockMap}
 use Rattle.vt_tree.specs.Roots.{IsRoot, root_bytes}
 use Rattle.vac_meta.specs.declared.record.Record.{Record}
 use Rattle.vac_meta.specs.declared.record.RecordKind.{RecordKind}
-use Rattle.vac_meta.specs.Records.{all_spelled}
 use Rattle.vac_model.specs.declared.TheConstants.{MIN_BLOCK_SIZE, MAX_BLOCK_SIZE}
 use Rattle.vac_model.specs.Trees.{entry_place, HasEntry, AreFolder}
 use Rattle.vac_read.specs.declared.directory.Directory.{Directory}
 use Rattle.vac_read.specs.declared.error.RootField.{RootField}
 use Rattle.vac_read.specs.declared.error.VacBad.{VacBad}
-use Rattle.vac_read.specs.declared.error.VacBad.TheVariants.{Root}
+use Rattle.vac_read.specs.declared.error.VacBad.TheVariants.{Tree, Root, Meta, NoMemory}
 use Rattle.vac_read.specs.declared.node.Node.{Node}
 use Rattle.vac_read.specs.declared.node.Stored.{Stored}
 use Rattle.vac_read.specs.declared.node.Stored.TheVariants as stored
-use Rattle.vac_read.specs.Broken.{IsUnread, IsNoEntry, LacksDirectoryEntry, LacksEntries, LacksNode, LacksRecords, root_flaw}
-use Rattle.vac_read.specs.Nodes.{AreNodes, IsNode, IsStoredNode, named}
+use Rattle.vac_read.specs.Broken.{IsUnread, IsNoEntry, LacksDirectoryEntry, LacksEntries, LacksNode, LacksRecords, entry_field, root_flaw}
+use Rattle.vac_read.specs.Nodes.{AreNodes, IsFoundItem, IsNode, IsStoredNode, named}
 use Rattle.vac_read.specs.Reading.{AnswersOrTells}
 
 -- ---- entries
@@ -94,14 +93,39 @@ abbrev pub TellsRecords : (entries metadata : Entry) → Result (List Record) Va
 TellsRecords entries metadata result map =
     AnswersOrTells result (AreFolder map entries metadata) (LacksRecords map entries metadata)
 
--- a record is the first of this name, and its bytes stand at this place of the metadata
-pub record IsNamed (records : List Record) (name : List ℕ) (r : Record) (place : ℕ) : Type 0
-  where
-    pub before : List Record
-    pub rest : List Record
-    pub among : records ≡ before ++ r ∷ rest
-    pub is : named name records ≡ Some r
-    pub place_is : place ≡ length (all_spelled before)
+-- a record behind these is the first of this name
+pub record IsNamed (records : List Record) (name : List ℕ) (before : List Record) (r : Record)
+    : Type 0 where
+  pub rest : List Record
+  pub among : records ≡ before ++ r ∷ rest
+  pub is : named name records ≡ Some r
+
+-- the record of this number is the first of this name
+pub record IsNamedAt (records : List Record) (name : List ℕ) (number : ℕ) : Type 0 where
+  pub within : number < length records
+  pub is : (d : Record) → named name records ≡ Some (slice_index_or records number d)
+
+-- why the entries of the record of this name aren't told
+pub record LacksRecord (map : BlockMap) (stream : Entry) (records : List Record) (name : List ℕ)
+    (bad : VacBad) : Type 0 where
+  pub before : List Record
+  pub r : Record
+  pub named_so : IsNamed records name before r
+  pub lacks : LacksEntries map stream r.kind r.entry (entry_field before r) bad
+
+-- the same failure, where what can't stand in the metadata stands at this place
+abbrev pub moved_to : (field : ℕ) → VacBad → VacBad
+moved_to field (Tree err) = Tree err
+moved_to field (Root root_field) = Root root_field
+moved_to field (Meta at) = Meta field
+moved_to field NoMemory = NoMemory
+
+-- the item of the record of this name, if there is one
+abbrev pub TellsNamed : (stream : Entry) → List Record → (name : List ℕ)
+    → Result (Option Node) VacBad → BlockMap → Type 0
+TellsNamed stream records name result map =
+    AnswersOrTells result (IsFoundItem map stream (named name records))
+    (LacksRecord map stream records name)
 
 -- ---- roots
 

@@ -1,12 +1,12 @@
 //! The entries of a folder.
 
-ghost use Rattle.std.specs.Prelude.{◌≡◌, ◌+◌, ◌<◌, ◌≤◌, ◌^◌, [], IfOk, MatchOption};
+ghost use Rattle.std.specs.Prelude.{ℕ, ◌≡◌, ◌+◌, ◌*◌, ◌<◌, ◌≤◌, ◌^◌, [], IfOk, MatchOption};
 ghost use Rattle.std.specs.Prelude.{length, take, drop};
 ghost use Rattle.vt_tree.specs.Content.{size_of};
 ghost use Rattle.vt_tree.specs.Entries.{IsTreeEntry};
+ghost use Rattle.vac_read.specs.Asking.{ReadsFew, leaf_blocks};
 ghost use Rattle.vac_read.specs.Folders.{KeepsLeaf, IsEntryPlace, TellsLeaf, TellsBytes, TellsEntry};
 ghost use Rattle.vac_read.specs.Nodes.{IsDirectory};
-ghost use Rattle.vac_read.specs.Reading.{ReadsArchive};
 
 use crate::VacBad;
 use std::alloc::Global;
@@ -40,6 +40,13 @@ impl Directory {
         }
     }
 
+    /// The entry of the stream.
+    pub(crate) fn stream(&self) -> &Entry
+        ensures { result.now ≡ self.now.stream }
+    {
+        &self.stream
+    }
+
     /// The entry of this number, which has to be that of a directory, or not; this is the place of
     /// what names it in the folder's metadata.
     pub(crate) fn entry<B: Blocks>(
@@ -53,9 +60,10 @@ impl Directory {
         requires number { number ≤ 2 ^ 32 }
         ensures stream { self.new.stream ≡ self.old.stream }
         ensures entry { IfOk result (λ e. IsTreeEntry e × (e.is_dir ≡ is_dir)) }
-        ensures reads { ReadsArchive B.does B.holds B.score_of blocks.old blocks.new result
+        ensures reads { ReadsFew B.does B.holds B.score_of blocks.old blocks.new result
             (λ map. KeepsLeaf map self.old → KeepsLeaf map self.new
-            × TellsEntry self.old.stream number is_dir at result map) }
+            × TellsEntry self.old.stream number is_dir at result map)
+            (λ map n. n ≤ leaf_blocks self.old.stream) }
     {
         let Some((start, inside)) = place_of(&self.stream, number) else {
             return Err(VacBad::Meta { at });
@@ -71,9 +79,11 @@ impl Directory {
     fn read_leaf<B: Blocks>(&mut self, blocks: &mut B, start: u64) -> Result<(), VacBad>
         requires { IsDirectory self.old.stream }
         ensures stream { self.new.stream ≡ self.old.stream }
-        ensures reads { ReadsArchive B.does B.holds B.score_of blocks.old blocks.new result
+        ensures reads { ReadsFew B.does B.holds B.score_of blocks.old blocks.new result
             (λ map. KeepsLeaf map self.old → KeepsLeaf map self.new
-            × TellsLeaf self.old self.new start result map) }
+            × TellsLeaf self.old self.new start result map)
+            (λ map n. (leaf : ℕ) → start ≡ leaf * self.old.stream.dsize
+            → n ≤ leaf_blocks self.old.stream) }
     {
         if !self.leaf.is_empty() && self.start == start {
             return Ok(());

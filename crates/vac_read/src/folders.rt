@@ -1,14 +1,15 @@
 //! What is in the folders of an archive.
 
-ghost use Rattle.std.specs.Prelude.{IfOk, IfSome};
+ghost use Rattle.std.specs.Prelude.{[], IfOk, IfSome, OnOk};
 ghost use Rattle.std.specs.List.{All};
+ghost use Rattle.vac_read.specs.Asking.{FindAsks, ListAsks, ReadsFew};
+ghost use Rattle.vac_read.specs.Kept.{IsRightKept, KeepsStored, StaysKept};
 ghost use Rattle.vac_read.specs.Nodes.{AreNodeEntries, FitsToldItem};
 ghost use Rattle.vac_read.specs.Reading.{ReadsArchive, ListsFolder, FindsItem, WalksTo, ReadsNode};
 
-use crate::directory::Directory;
-use crate::items::{node_of, nodes_of};
-use crate::records::{find_named, records_of};
-use crate::{Node, Nodes, Stored, VacBad};
+use crate::items::nodes_of;
+use crate::records::records_of;
+use crate::{Kept, Node, Nodes, Stored, VacBad};
 use std::alloc::Global;
 use vt_base::{Bytes, Text};
 use vt_tree::{Blocks, read_range};
@@ -17,8 +18,8 @@ use vt_tree::{Blocks, read_range};
 /// can't stand in its metadata, or whose entry isn't there or is of another kind, is told.
 pub fn list<B: Blocks>(alloc: Global, blocks: &mut B, node: &Node) -> Result<Nodes, VacBad>
     requires { AreNodeEntries node.now.stored }
-    ensures lists { ReadsArchive B.does B.holds B.score_of blocks.old blocks.new result
-        (ListsFolder node.now.stored result) }
+    ensures lists { ReadsFew B.does B.holds B.score_of blocks.old blocks.new result
+        (ListsFolder node.now.stored result) (ListAsks (B.score_of []) node.now.stored) }
     ensures entries { IfOk result (All (λ n. AreNodeEntries n.stored)) }
     ensures items { IfOk result (All (λ n. FitsToldItem n.item)) }
 {
@@ -43,9 +44,10 @@ pub fn walk<B: Blocks>(
         (WalksTo node.now names.now result) }
     ensures entries { IfOk result (λ found. IfSome found (λ n. AreNodeEntries n.stored)) }
 {
+    let mut kept = Kept::new(alloc);
     let mut found = node.copied(alloc)?;
     for name in names {
-        match find_item(alloc, blocks, &found, name.as_slice())? {
+        match find_item(alloc, blocks, &mut kept, &found, name.as_slice())? {
             Some(next) => found = next,
             None => return Ok(None),
         }
@@ -55,28 +57,29 @@ pub fn walk<B: Blocks>(
 
 /// The item of this name in a folder; None exactly where it is absent, and below a file. The
 /// folder's records have to stand, and of these only the one of this name has to have its entries.
+/// Its records are read unless they are kept, and are kept then.
 pub fn find_item<B: Blocks>(
     alloc: Global,
     blocks: &mut B,
+    kept: &mut Kept,
     node: &Node,
     name: &[u8],
 ) -> Result<Option<Node>, VacBad>
     requires { AreNodeEntries node.now.stored }
-    ensures finds { ReadsArchive B.does B.holds B.score_of blocks.old blocks.new result
-        (FindsItem node.now.stored name.now result) }
+    ensures finds { ReadsFew B.does B.holds B.score_of blocks.old blocks.new result
+        (λ map. IsRightKept map kept.old → IsRightKept map kept.new
+        × FindsItem node.now.stored name.now result map)
+        (FindAsks (B.score_of []) node.now.stored kept.old) }
+    ensures kept { OnOk result (KeepsStored node.now.stored kept.new) }
+    ensures stays { StaysKept node.now.stored kept.old kept.new }
     ensures entries { IfOk result (λ found. IfSome found (λ n. AreNodeEntries n.stored)) }
     ensures item { IfOk result (λ found. IfSome found (λ n. FitsToldItem n.item)) }
 {
     let Stored::Folder { entries, metadata } = node.stored else {
         return Ok(None);
     };
-    let records = records_of(alloc, blocks, &entries, &metadata)?;
-    let Some((record, at)) = find_named(records, name) else {
-        return Ok(None);
-    };
-    let mut directory = Directory::new(alloc, entries);
-    let found = node_of(blocks, &mut directory, record, at)?;
-    Ok(Some(found))
+    let at = kept.enter(alloc, blocks, entries, metadata)?;
+    kept.find(alloc, blocks, at, name)
 }
 
 /// So many bytes of a file from this place on, and fewer where it ends before. A folder has none.

@@ -7,6 +7,7 @@ mod directory;
 mod error;
 mod folders;
 mod items;
+mod kept;
 pub mod laws;
 mod node;
 mod records;
@@ -14,4 +15,16 @@ mod records;
 pub use archive::Archive;
 pub use error::{RootField, VacBad};
 pub use folders::{find_item, list, read, walk};
+pub use kept::Kept;
 pub use node::{Node, Nodes, Stored};
+use vac_model::MAX_METADATA;
+
+/// What a folder that is kept counts beside its metadata, in bytes, so that at most 514 are kept.
+pub const KEPT_FOLDER: u64 = 65_536;
+
+const _: () = prove!(KEPT_FOLDER == 65_536);
+
+/// What all folders that are kept may count together, in bytes: as much as two of the largest do.
+pub const MAX_KEPT: u64 = 2 * (MAX_METADATA as u64 + KEPT_FOLDER);
+
+const _: () = prove!(MAX_KEPT == 33_685_504);

@@ -1,11 +1,15 @@
 //! The records of a folder's items.
 
-ghost use Rattle.std.specs.Prelude.{◌≡◌, ◌<◌, ◌^◌, None, IfOk, MatchOption, length};
+ghost use Rattle.std.specs.Prelude.{◌≡◌, ◌+◌, ◌<◌, ◌≤◌, ◌^◌, None, [], IfOk, OnOk, MatchOption, length, take};
 ghost use Rattle.std.specs.List.{AllByRecursion};
-ghost use Rattle.vac_meta.specs.Records.{FitsRecord, IsRecord, all_spelled, record_bytes};
-ghost use Rattle.vac_read.specs.Folders.{IsNamed, TellsRecords};
+ghost use Rattle.vt_tree.specs.Content.{size_of};
+ghost use Rattle.vac_meta.specs.Records.{AreRecords, Ascend, FitsRecord, IsRecord};
+ghost use Rattle.vac_meta.specs.Records.{all_spelled, record_bytes};
+ghost use Rattle.vac_model.specs.declared.TheConstants.{MAX_METADATA};
+ghost use Rattle.vac_read.specs.Asking.{ReadsFew, stream_blocks};
+ghost use Rattle.vac_read.specs.Broken.{entry_field};
+ghost use Rattle.vac_read.specs.Folders.{IsNamed, IsNamedAt, TellsRecords};
 ghost use Rattle.vac_read.specs.Nodes.{AreNodeEntries, named};
-ghost use Rattle.vac_read.specs.Reading.{ReadsArchive};
 ghost use Rattle.vac_read.specs.declared.node.Stored.{Stored};
 
 use crate::VacBad;
@@ -23,38 +27,74 @@ pub(crate) fn records_of<B: Blocks>(
     metadata: &Entry,
 ) -> Result<Records, VacBad>
     requires { AreNodeEntries (Stored.Folder entries.now metadata.now) }
-    ensures reads { ReadsArchive B.does B.holds B.score_of blocks.old blocks.new result
-        (TellsRecords entries.now metadata.now result) }
-    ensures each { IfOk result (AllByRecursion IsRecord) }
-    ensures short { IfOk result (λ records. length (all_spelled records) < 2 ^ 63) }
+    ensures reads { ReadsFew B.does B.holds B.score_of blocks.old blocks.new result
+        (TellsRecords entries.now metadata.now result)
+        (λ map n. n ≤ stream_blocks (B.score_of []) metadata.now map) }
+    ensures records { IfOk result AreRecords }
+    ensures short { IfOk result (λ records. length (all_spelled records)
+        ≤ size_of metadata.now) }
+    ensures most { OnOk result (size_of metadata.now ≤ MAX_METADATA) }
 {
     let size = size_of(metadata);
     if size_of(entries) > MAX_FILE || size > MAX_METADATA as u64 {
         return Err(VacBad::Tree(TreeErr::TooLong));
     }
     let bytes = read_range(alloc, blocks, metadata, 0, size as u32)?;
-    match decode(alloc, bytes.as_slice()) {
+    match decode(alloc, front(bytes.as_slice(), size as usize)) {
         Ok(records) => Ok(records),
         Err(MetaErr::Bad { at, .. }) => Err(VacBad::Meta { at }),
         Err(MetaErr::NoMemory) => Err(VacBad::NoMemory),
     }
 }
 
-/// The record of this name, and its place in the metadata; None where no record has it.
-pub(crate) fn find_named(records: Records, name: &[u8]) -> Option<(Record, usize)>
-    requires each { AllByRecursion IsRecord records }
-    requires short { length (all_spelled records) < 2 ^ 63 }
-    ensures { MatchOption result (named name.now records ≡ None)
-        (λ found. IsNamed records name.now found.0 found.1) }
+/// The record of this name, and those before it; None where no record has it. They are searched by halving, since
+/// they ascend by name.
+pub(crate) fn find_named<'a>(
+    records: &'a [Record],
+    name: &[u8],
+) -> Option<(&'a [Record], &'a Record)>
+    requires { Ascend None records.now }
+    ensures { MatchOption result (named name.now records.now ≡ None)
+        (λ found. IsNamed records.now name.now found.0.now found.1.now) }
+{
+    let Some(number) = place_named(records, name) else {
+        return None;
+    };
+    Some((&records[..number], &records[number]))
+}
+
+/// The number of the record of this name, if one has it.
+fn place_named(records: &[Record], name: &[u8]) -> Option<usize>
+    requires { Ascend None records.now }
+    ensures { MatchOption result (named name.now records.now ≡ None)
+        (IsNamedAt records.now name.now) }
+{
+    match records.binary_search_by(|record| record.name.as_slice().cmp(name)) {
+        Ok(number) => Some(number),
+        Err(_) => None,
+    }
+}
+
+/// Where the number of a record's entry stands in the metadata, behind these records.
+pub(crate) fn entry_field(before: &[Record], item: &Record) -> usize
+    requires each { AllByRecursion IsRecord before.now }
+    requires item { IsRecord item.now }
+    requires short { length (all_spelled before.now) + length (record_bytes item.now) < 2 ^ 63 }
+    ensures { result ≡ entry_field before.now item.now }
 {
     let mut place = 0;
-    for record in records.into_vec() {
-        if record.name.as_slice() == name {
-            return Some((record, place));
-        }
-        place += record_len(&record);
+    for record in before {
+        place += record_len(record);
     }
-    None
+    // Behind the name and the kind.
+    place + 2 + item.name.len() + 1
+}
+
+/// The first bytes, so many, or all where there are fewer.
+fn front(bytes: &[u8], n: usize) -> &[u8]
+    ensures { result.now ≡ take n bytes.now }
+{
+    &bytes[..n.min(bytes.len())]
 }
 
 /// How many bytes a record has.

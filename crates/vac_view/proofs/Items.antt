@@ -331,7 +331,7 @@ module _ (one_content : (map : BlockMap) (e : Entry) (a b : List ℕ) → IsFile
           let now = answered.0.top_stays ∙ is in (
             fids_stand turn.known.fids
                 (subst (λ (t : Node). AllByRecursion (λ e. IsRightFid map t e.1) turn.known.fids)
-                now answered.0.right),
+                now answered.0.right.fids),
             turns_stand turn.known turns now answered.1,
           )
 

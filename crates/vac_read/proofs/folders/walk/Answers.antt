@@ -23,11 +23,11 @@ returns-in_err-next-clause-walks g c =
     let split = split_at names i name c.loop-name-test.true c.name-item.is in
     rw (p.1, p.2) (reads_then g.B.Blocks.does g.B.Blocks.holds g.B.Scorer.score_of
     c.args.blocks.now c.loop-name.blocks c.find_item.new.blocks (tt {0}) (Err bad) (Err bad) _ _ _ refl
-    c.loop-name.invariant.reads c.in_err-next.ensures.finds
-    (λ map leads told some. subst (λ (l : List (List ℕ)). IsLost map node l bad) (sym split)
-    (lost_on map name (drop (suc i) names) c.loop-name.found bad node (take i names) leads
+    c.loop-name.invariant.reads c.in_err-next.ensures.finds.reads
+    (λ map so told some. subst (λ (l : List (List ℕ)). IsLost map node l bad) (sym split)
+    (lost_on map name (drop (suc i) names) c.loop-name.found bad node (take i names) so.1
     (subst (λ (l : List ℕ). IsUnfound map c.loop-name.found.stored l bad) c.as_slice.ensures
-    (told some)))))
+    ((told so.0).1 some)))))
 
 pub returns-in-None-clause-walks : goal.returns-in-None-clause-walks
 returns-in-None-clause-walks g c =
@@ -39,12 +39,12 @@ returns-in-None-clause-walks g c =
     let split = split_at names i name c.loop-name-test.true c.name-item.is in
     reads_then g.B.Blocks.does g.B.Blocks.holds g.B.Scorer.score_of
     c.args.blocks.now c.loop-name.blocks c.find_item.new.blocks (tt {0}) (Ok c.in_ok-next.field-0)
-    (Ok None) _ _ _ refl c.loop-name.invariant.reads c.in_ok-next.ensures.finds
-    (λ map leads finds. subst (λ (l : List (List ℕ)). Leads map (Some node) l None) (sym split)
-    (leads_nowhere map name (drop (suc i) names) node found (take i names) leads
+    (Ok None) _ _ _ refl c.loop-name.invariant.reads c.in_ok-next.ensures.finds.reads
+    (λ map so finds. subst (λ (l : List (List ℕ)). Leads map (Some node) l None) (sym split)
+    (leads_nowhere map name (drop (suc i) names) node found (take i names) so.1
     (subst (λ (l : List ℕ). FindsNode map found.stored l None) c.as_slice.ensures
     (subst (λ (o : Option Node). FindsNode map found.stored c.as_slice.result.now o) c.in-None.is
-    finds))))
+    (finds so.0).1))))
 
 pub loop-name-preserved : goal.loop-name-preserved
 loop-name-preserved g c =
@@ -61,13 +61,15 @@ loop-name-preserved g c =
       reads = reads_then g.B.Blocks.does g.B.Blocks.holds g.B.Scorer.score_of
           c.args.blocks.now c.loop-name.blocks c.find_item.new.blocks (tt {0})
           (Ok c.in_ok-next.field-0) (Ok (tt {0})) _ _ _ refl c.loop-name.invariant.reads
-          c.in_ok-next.ensures.finds
-          (λ map leads finds.
-          subst (λ (l : List (List ℕ)). Leads map (Some node) l (Some next)) (sym more)
-          (leads_one_more map name node found (Some next) (take i names) leads
-          (subst (λ (l : List ℕ). FindsNode map found.stored l (Some next)) c.as_slice.ensures
-          (subst (λ (o : Option Node). FindsNode map found.stored c.as_slice.result.now o) c.in-Some.is
-          finds))));
+          c.in_ok-next.ensures.finds.reads
+          (λ map so finds. (
+            (finds so.0).0,
+            subst (λ (l : List (List ℕ)). Leads map (Some node) l (Some next)) (sym more)
+                (leads_one_more map name node found (Some next) (take i names) so.1
+                (subst (λ (l : List ℕ). FindsNode map found.stored l (Some next)) c.as_slice.ensures
+                (subst (λ (o : Option Node). FindsNode map found.stored c.as_slice.result.now o)
+                c.in-Some.is (finds so.0).1))),
+          ));
     }
 
 pub returns-clause-walks : goal.returns-clause-walks
@@ -79,5 +81,5 @@ returns-clause-walks g c =
     reads_as g.B.Blocks.does g.B.Blocks.holds g.B.Scorer.score_of
     c.args.blocks.now c.loop-name.blocks (Ok (tt {0})) (Ok (Some found)) _ _ refl
     c.loop-name.invariant.reads
-    (λ map leads. subst (λ (l : List (List ℕ)). Leads map (Some node) l (Some found))
-    (take_all i names c.loop-name-test.false) leads)
+    (λ map so. subst (λ (l : List (List ℕ)). Leads map (Some node) l (Some found))
+    (take_all i names c.loop-name-test.false) so.1)

@@ -21,6 +21,7 @@ returns-in_err-copied c =
       top = c.self.inside.top;
       msize = c.self.inside.msize;
       fids = c.self.inside.fids;
+      kept = c.self.inside.kept;
     } in
     let new = sym c.contains.ensures ∙ c.if-contains.false in
     let few : length known.fids < 1024 =
@@ -38,6 +39,7 @@ returns-in_err-set c =
       top = c.self.inside.top;
       msize = c.self.inside.msize;
       fids = c.self.inside.fids;
+      kept = c.self.inside.kept;
     } in
     let new = sym c.contains.ensures ∙ c.if-contains.false in
     let few : length known.fids < 1024 =
@@ -57,6 +59,7 @@ invariant_of-self-2 c =
       top = c.self.inside.top;
       msize = c.self.inside.msize;
       fids = c.self.inside.fids;
+      kept = c.self.inside.kept;
     } in
     let set : c.set.new.self ≡ with_fid c.args.fid (at_top known) known.fids =
     c.in_ok-set.ensures.ok ∙ ap (λ (x : Fid). with_fid c.args.fid x known.fids)
@@ -76,6 +79,7 @@ returns c =
       top = c.self.inside.top;
       msize = c.self.inside.msize;
       fids = c.self.inside.fids;
+      kept = c.self.inside.kept;
     } in
     let new = sym c.contains.ensures ∙ c.if-contains.false in
     let few : length known.fids < 1024 =

@@ -13,12 +13,13 @@ pub invariant_of-self : goal.invariant_of-self
 invariant_of-self c = (
   c.self.invariant.0,
   subst (λ (l : List (ℕ × Fid)). IsKeptView
-      (record { top = c.self.inside.top; msize = c.self.inside.msize; fids = l }))
+      (record { top = c.self.inside.top; msize = c.self.inside.msize; fids = l; kept = c.self.inside.kept }))
       (sym c.remove.ensures)
       (kept_without (record {
         top = c.self.inside.top;
         msize = c.self.inside.msize;
         fids = c.self.inside.fids;
+        kept = c.self.inside.kept;
       }) c.args.fid c.self.invariant.1),
 )
 
@@ -28,9 +29,10 @@ returns c =
       top = c.self.inside.top;
       msize = c.self.inside.msize;
       fids = c.self.inside.fids;
+      kept = c.self.inside.kept;
     } in
     subst (λ (k : ViewState). SettlesSo c.args.tag k
-    (record { top = c.self.inside.top; msize = c.self.inside.msize; fids = c.remove.new.self })
+    (record { top = c.self.inside.top; msize = c.self.inside.msize; fids = c.remove.new.self; kept = c.self.inside.kept })
     c.encode.new.buf (Ok c.encode.result) (of_fid k c.args.fid
     (λ f. settled (with_known k (without_fid c.args.fid k.fids) r_clunk)))) c.self.view_is
     (clunked c.args.tag known c.encode.new.buf c.args.fid c.remove.new.self c.encode.result

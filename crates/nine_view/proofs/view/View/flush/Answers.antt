@@ -13,6 +13,7 @@ returns c =
       top = c.self.inside.top;
       msize = c.self.inside.msize;
       fids = c.self.inside.fids;
+      kept = c.self.inside.kept;
     } in
     let least = least_limit known c.self.invariant.1 in
     subst (λ (k : ViewState). SettlesRequest c.args.tag k k c.encode.new.buf (Ok c.encode.result)

@@ -42,7 +42,7 @@ returns-in_err-files-clause-keeps g c = λ f at.
     same
     (files_lacking g.B.Blocks.does g.B.Blocks.holds g.B.Scorer.score_of c.args.blocks.now
     c.list.new.blocks c.args.self.now c.args.fid c.in-Some.f.now c.in-Some.f.now.files bad
-    (sym c.is_some.ensures ∙ c.if-is_some.false) c.in_err-files.ensures.lists))
+    (sym c.is_some.ensures ∙ c.if-is_some.false) c.in_err-files.ensures.lists.reads))
 
 pub list-requires : goal.list-requires
 list-requires g c =
@@ -50,6 +50,7 @@ list-requires g c =
       top = c.self.inside.top;
       msize = c.self.inside.msize;
       fids = c.self.inside.fids;
+      kept = c.self.inside.kept;
     } in
     let f₀ : Fid = c.in-Some.f.now in
     let at₀ : fid_at c.args.fid known.fids ≡ Some f₀ = sym c.in-Some.ensures in
@@ -61,6 +62,7 @@ invariant_of-self g c =
       top = c.self.inside.top;
       msize = c.self.inside.msize;
       fids = c.self.inside.fids;
+      kept = c.self.inside.kept;
     } in
     let f₀ : Fid = c.in-Some.f.now in
     let at₀ : fid_at c.args.fid known.fids ≡ Some f₀ = sym c.in-Some.ensures in
@@ -86,6 +88,7 @@ returns-clause-keeps g c = λ f at.
       top = c.self.inside.top;
       msize = c.self.inside.msize;
       fids = c.self.inside.fids;
+      kept = c.self.inside.kept;
     } in
     let f₀ : Fid = c.in-Some.f.now in
     let at₀ : fid_at c.args.fid known.fids ≡ Some f₀ = sym c.in-Some.ensures in
@@ -98,11 +101,11 @@ returns-clause-keeps g c = λ f at.
     c.in-Some.ensures ∙ ap (λ (k : ViewState). fid_at c.args.fid k.fids) c.self.view_is ∙ at in
     let same : f₀ ≡ f = cc in
     let new : ViewState =
-    record { top = c.self.inside.top; msize = c.self.inside.msize; fids = fids } in
+    record { top = c.self.inside.top; msize = c.self.inside.msize; fids = fids; kept = c.self.inside.kept } in
     subst (λ (x : Fid). KeepsFiles g.B.Blocks.does g.B.Blocks.holds g.B.Scorer.score_of
     c.args.blocks.now c.list.new.blocks c.args.self.now new c.args.fid x (Ok tt) x.files) same
     (files_listed g.B.Blocks.does g.B.Blocks.holds g.B.Scorer.score_of c.args.blocks.now
     c.list.new.blocks c.args.self.now c.args.fid f₀ f₀.files files new
-    (sym c.is_some.ensures ∙ c.if-is_some.false) c.in_ok-files.ensures.lists
+    (sym c.is_some.ensures ∙ c.if-is_some.false) c.in_ok-files.ensures.lists.reads
     (ap (λ (l : List (ℕ × Fid)). record known { fids = l }) set
     ∙ ap (λ (k : ViewState). listed k c.args.fid f₀ files) c.self.view_is))

@@ -20,6 +20,7 @@ returns-in_default c =
       top = c.self.inside.top;
       msize = c.self.inside.msize;
       fids = c.self.inside.fids;
+      kept = c.self.inside.kept;
     } in
     rw c.into.ensures (subst (λ (k : ViewState). SettlesSo c.args.tag k k c.args.out.now
     (Err (Refused UnknownFid)) (of_fid k c.args.fid (λ f. settled (to_stat k c.args.msize f))))
@@ -33,6 +34,7 @@ stat_of-stat-requires c =
       top = c.self.inside.top;
       msize = c.self.inside.msize;
       fids = c.self.inside.fids;
+      kept = c.self.inside.kept;
     } in
     let f : Fid = c.in-Some.f.now in
     let at : fid_at c.args.fid known.fids ≡ Some f = sym c.in-Some.ensures in
@@ -48,6 +50,7 @@ returns-then-stat_len-msize c =
       top = c.self.inside.top;
       msize = c.self.inside.msize;
       fids = c.self.inside.fids;
+      kept = c.self.inside.kept;
     } in
     let f : Fid = c.in-Some.f.now in
     let at : fid_at c.args.fid known.fids ≡ Some f = sym c.in-Some.ensures in
@@ -66,6 +69,7 @@ returns c =
       top = c.self.inside.top;
       msize = c.self.inside.msize;
       fids = c.self.inside.fids;
+      kept = c.self.inside.kept;
     } in
     let f : Fid = c.in-Some.f.now in
     let at : fid_at c.args.fid known.fids ≡ Some f = sym c.in-Some.ensures in

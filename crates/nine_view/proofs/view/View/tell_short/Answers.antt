@@ -34,6 +34,7 @@ returns c =
       top = c.self.inside.top;
       msize = c.self.inside.msize;
       fids = c.self.inside.fids;
+      kept = c.self.inside.kept;
     } in
     let least = least_limit known c.self.invariant.1 in
     let len = length-map c.args.qids.now wire_qid in

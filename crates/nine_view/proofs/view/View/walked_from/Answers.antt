@@ -21,6 +21,7 @@ returns-in_default-clause-may c =
       top = c.self.inside.top;
       msize = c.self.inside.msize;
       fids = c.self.inside.fids;
+      kept = c.self.inside.kept;
     } in
     let none : fid_at c.args.fid known.fids ≡ None = sym c.in_default.ensures in
     rw c.into.ensures (subst (λ (k : ViewState). MayWalk k c.args.fid c.args.newfid c.args.names (Err (Refused UnknownFid)))
@@ -32,6 +33,7 @@ returns-then-names-gt-MAX_NAMES-clause-may c =
       top = c.self.inside.top;
       msize = c.self.inside.msize;
       fids = c.self.inside.fids;
+      kept = c.self.inside.kept;
     } in
     let at : fid_at c.args.fid known.fids ≡ Some c.in-Some.f.now = sym c.in-Some.ensures in
     rw c.into-then-names-gt-MAX_NAMES.ensures (subst (λ (k : ViewState). MayWalk k c.args.fid c.args.newfid c.args.names (Err (Refused TooManyNames)))
@@ -43,6 +45,7 @@ returns-then-is_some-clause-may c =
       top = c.self.inside.top;
       msize = c.self.inside.msize;
       fids = c.self.inside.fids;
+      kept = c.self.inside.kept;
     } in
     let at : fid_at c.args.fid known.fids ≡ Some c.in-Some.f.now = sym c.in-Some.ensures in
     let few : c.args.names ≤ 16 = c.if-names-gt-MAX_NAMES.false in
@@ -55,6 +58,7 @@ returns-then-newfid-eq-NO_FID-clause-may c =
       top = c.self.inside.top;
       msize = c.self.inside.msize;
       fids = c.self.inside.fids;
+      kept = c.self.inside.kept;
     } in
     let at : fid_at c.args.fid known.fids ≡ Some c.in-Some.f.now = sym c.in-Some.ensures in
     let few : c.args.names ≤ 16 = c.if-names-gt-MAX_NAMES.false in
@@ -68,6 +72,7 @@ returns-then-contains-clause-may c =
       top = c.self.inside.top;
       msize = c.self.inside.msize;
       fids = c.self.inside.fids;
+      kept = c.self.inside.kept;
     } in
     let at : fid_at c.args.fid known.fids ≡ Some c.in-Some.f.now = sym c.in-Some.ensures in
     let few : c.args.names ≤ 16 = c.if-names-gt-MAX_NAMES.false in
@@ -83,6 +88,7 @@ returns-then-len-ge-MAX_FIDS-clause-may c =
       top = c.self.inside.top;
       msize = c.self.inside.msize;
       fids = c.self.inside.fids;
+      kept = c.self.inside.kept;
     } in
     let at : fid_at c.args.fid known.fids ≡ Some c.in-Some.f.now = sym c.in-Some.ensures in
     let few : c.args.names ≤ 16 = c.if-names-gt-MAX_NAMES.false in
@@ -100,6 +106,7 @@ returns-in_err-place-clause-may c =
       top = c.self.inside.top;
       msize = c.self.inside.msize;
       fids = c.self.inside.fids;
+      kept = c.self.inside.kept;
     } in
     let f : Fid = c.in-Some.f.now in
     let at : fid_at c.args.fid known.fids ≡ Some f = sym c.in-Some.ensures in
@@ -117,6 +124,7 @@ returns-in_err-place-2-clause-may c =
       top = c.self.inside.top;
       msize = c.self.inside.msize;
       fids = c.self.inside.fids;
+      kept = c.self.inside.kept;
     } in
     let f : Fid = c.in-Some.f.now in
     let at : fid_at c.args.fid known.fids ≡ Some f = sym c.in-Some.ensures in
@@ -136,6 +144,7 @@ returns-then-newfid-fid-clause-told c =
       top = c.self.inside.top;
       msize = c.self.inside.msize;
       fids = c.self.inside.fids;
+      kept = c.self.inside.kept;
     } in
     let f : Fid = c.in-Some.f.now in
     let at : fid_at c.args.fid known.fids ≡ Some f = sym c.in-Some.ensures in
@@ -151,6 +160,7 @@ returns-then-newfid-fid-clause-way c =
       top = c.self.inside.top;
       msize = c.self.inside.msize;
       fids = c.self.inside.fids;
+      kept = c.self.inside.kept;
     } in
     let f : Fid = c.in-Some.f.now in
     let at : fid_at c.args.fid known.fids ≡ Some f = sym c.in-Some.ensures in
@@ -168,6 +178,7 @@ returns-clause-told c =
       top = c.self.inside.top;
       msize = c.self.inside.msize;
       fids = c.self.inside.fids;
+      kept = c.self.inside.kept;
     } in
     let f : Fid = c.in-Some.f.now in
     let at : fid_at c.args.fid known.fids ≡ Some f = sym c.in-Some.ensures in
@@ -183,6 +194,7 @@ returns-clause-way c =
       top = c.self.inside.top;
       msize = c.self.inside.msize;
       fids = c.self.inside.fids;
+      kept = c.self.inside.kept;
     } in
     let f : Fid = c.in-Some.f.now in
     let at : fid_at c.args.fid known.fids ≡ Some f = sym c.in-Some.ensures in
