@@ -53,8 +53,8 @@ folder_read folder before after = record {
 }
 
 -- So a folder may have been tried: all that it holds was, in the order of names, and of each file and
--- each folder in it that is left out for a failed call one may fail, where it tells them; and as many
--- calls have failed as are left out so.
+-- each folder in it that is left out for a failed call one may fail, where it tells them; and at least
+-- as many calls have failed as are left out so.
 pub record IsSeen (folder : FolderRead) (tried : Tried) : Type 0 where
   pub all : IsTrue folder.tells → whole tried ≡ in_order folder.held
   pub lacks : IsTrue folder.tells → LacksOnly folder.failing [] tried
@@ -171,8 +171,8 @@ refusal_of NoMemory = None
 
 -- Archiving was given up: of what is asked for an archive of what was found until then, and of all
 -- that stands behind it, the first was asked, and nothing else. No call was refused but the last,
--- where that is told. Where that is for a failed call of the folder, it was one that lists the folder
--- itself, and nothing was asked.
+-- where that is told. Where that is for a failed call of the folder, one that lists the folder
+-- itself may fail, and nothing was asked.
 pub record GivesUpArchive {S : Type 0} (does : S → Call → S → Type 0) (holds : S → Maps → Type 0)
     (score_of : List ℕ → List ℕ) (s s' : S) (bsize : ℕ) (folder : FolderRead)
     (err : VacErr) : Type 0 where

@@ -39,7 +39,7 @@ fn short_rows(conf: &Conf) -> Rows {
     );
     rows.is(
         "the caches' sizes",
-        (conf.mem, conf.icmem) == (67_108_864, 1_048_576),
+        (conf.mem, conf.icmem) == (1_048_576, 1_048_576),
     );
     rows.is("no filter", conf.filter.is_none());
     rows.is("every host", conf.addr.host.is_none());

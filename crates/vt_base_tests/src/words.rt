@@ -23,15 +23,15 @@ fn letter(asked: &Asked) -> char {
         Asked::Do(Command::View { .. }) => 'n',
         Asked::Help(_) => 'h',
         Asked::Version(_) => 'v',
-        Asked::Faulty(_) => 'f',
+        Asked::Faulty => 'f',
     }
 }
 
 /// The text that is told, if there is one.
 fn text(asked: &Asked) -> &str {
     match asked {
-        Asked::Help(text) | Asked::Version(text) | Asked::Faulty(text) => text.as_str(),
-        Asked::Do(_) => "",
+        Asked::Help(text) | Asked::Version(text) => text.as_str(),
+        Asked::Do(_) | Asked::Faulty => "",
     }
 }
 
@@ -142,12 +142,6 @@ const COMMANDS: [&str; 13] = [
 #[test]
 fn help_teaches(rt: HostRuntime) -> Result<(), Fail> {
     teaches(rt.alloc(), &["--help"], 'h', &COMMANDS).passes()
-}
-
-/// So does the short help, which no words at all are told.
-#[test]
-fn short_help_teaches(rt: HostRuntime) -> Result<(), Fail> {
-    teaches(rt.alloc(), &[], 'f', &COMMANDS).passes()
 }
 
 #[test]

@@ -32,7 +32,7 @@ pub spoken_asks : (words : List Text) (asked : Asked) → fault_of venti words �
 spoken_asks words (Do command) none said = (none, said)
 spoken_asks words (Help text) none said = absurd said
 spoken_asks words (Version text) none said = absurd said
-spoken_asks words (Faulty text) none said = (inr (none, said.0), inl said.1)
+spoken_asks words Faulty none said = inr (none, said)
 
 pub unspoken_asks : (words : List Text) (kind : ErrorKind) (asked : Asked)
     → (kind ≡ OutOfMemory) ⊎ IsAmong kind (fault_of venti words) → IsUnspoken kind asked → Asks words asked
@@ -45,12 +45,9 @@ unspoken_asks words kind (Version text) has is = elim has [
   | inl memory ↦ let both = sym is ∙ memory in absurd (cc)
   | inr among ↦ subst (λ k. IsAmong k (fault_of venti words)) is among
 ]
-unspoken_asks words kind (Faulty text) has is = elim has [
+unspoken_asks words kind Faulty has is = elim has [
   | inl memory ↦ absurd (is.2 memory)
-  | inr among ↦ (
-    inl (record { kind = kind; among = among; no_help = is.0; no_version = is.1 }),
-    ⊎_elim (λ none. inl none) (λ short. inr (subst (λ k. IsAmong k (fault_of venti words)) short among)) is.3,
-  )
+  | inr among ↦ inl (record { kind = kind; among = among; no_help = is.0; no_version = is.1 })
 ]
 
 -- ---- a command is asked for alone
@@ -63,7 +60,7 @@ pub alone : (words : List Text) (command : Command) (asked : Asked) → Asks wor
 alone words command (Do other) x y = let both : Some other ≡ Some command = sym y.1 ∙ x.1 in cc
 alone words command (Help text) x y = absurd (none_among _ _ x.0 y)
 alone words command (Version text) x y = absurd (none_among _ _ x.0 y)
-alone words command (Faulty text) x y = elim y.0 [
+alone words command Faulty x y = elim y [
   | inl refused ↦ absurd (none_among _ _ x.0 refused.among)
   | inr silent ↦ let both = sym silent.1 ∙ x.1 in absurd (cc)
 ]
@@ -81,7 +78,7 @@ pub no_words : (asked : Asked) → Asks [] asked → AsksForNothing asked
 no_words (Do command) asks = let wrong = sym nothing_taken ∙ asks.0 in absurd (cc)
 no_words (Help text) asks = absurd (⊎_elim (λ is. cc) (λ none. none) (subst (IsAmong DisplayHelp) nothing_taken asks))
 no_words (Version text) asks = absurd (⊎_elim (λ is. cc) (λ none. none) (subst (IsAmong DisplayVersion) nothing_taken asks))
-no_words (Faulty text) asks = tt
+no_words Faulty asks = tt
 
 pub session_spoken : spoken session_words ≡ Some (Session (codes ":memory:"))
 unfolding clap_on_literals

@@ -1,14 +1,14 @@
 -- The command line of the program, and what its words ask for (venti(8)). How words are read is
 -- clap's own relation: `fault_of` lists why it doesn't take them, and `subcommand_of` gives the
 -- subcommand and its values.
-use Rattle.std.specs.Prelude.{◌≡◌, ◌≢◌, ◌⊎◌, ⊤, true, List, [], ◌∷◌, Option, Some, None, codes, if◌then◌else◌, option_and_then, string_bytes}
+use Rattle.std.specs.Prelude.{◌≡◌, ◌≢◌, ◌⊎◌, ⊤, true, List, [], ◌∷◌, Option, Some, None, codes, if◌then◌else◌, option_and_then}
 use Rattle.std.specs.Str.{bytes_eq}
 use Rattle.clap.specs.Walk.{Row, Rule, Text, first_of}
 use Rattle.clap.specs.Simple.{App, Shape, new_app, new_rule, on_top, with_rule, with_subcommand, subcommand_of}
 use Rattle.clap.specs.Faults.{fault_of}
 use Rattle.clap.specs.Kinds.{IsAmong}
 use Rattle.clap.specs.declared.error.kind.ErrorKind.{ErrorKind}
-use Rattle.clap.specs.declared.error.kind.ErrorKind.TheVariants.{DisplayHelp, DisplayVersion, DisplayHelpOnMissingArgumentOrSubcommand, OutOfMemory}
+use Rattle.clap.specs.declared.error.kind.ErrorKind.TheVariants.{DisplayHelp, DisplayVersion, OutOfMemory}
 use Rattle.vt_cli.specs.declared.asked.Asked.{Asked}
 use Rattle.vt_cli.specs.declared.asked.Asked.TheVariants.{Do, Help, Version, Faulty}
 use Rattle.vt_cli.specs.declared.command.Command.{Command}
@@ -210,19 +210,16 @@ pub record AreRefused (words : List Text) : Type 0 where
   pub no_help : kind ≢ DisplayHelp
   pub no_version : kind ≢ DisplayVersion
 
--- The words ask for this. Short help is told only where clap misses a command.
+-- The words ask for this.
 abbrev pub Asks : (words : List Text) → Asked → Type 0
 Asks words (Do command) = (fault_of venti words ≡ []) × (spoken words ≡ Some command)
 Asks words (Help text) = IsAmong DisplayHelp (fault_of venti words)
 Asks words (Version text) = IsAmong DisplayVersion (fault_of venti words)
-Asks words (Faulty text) =
-    (AreRefused words ⊎ ((fault_of venti words ≡ []) × (spoken words ≡ None)))
-    × ((string_bytes text ≡ [])
-    ⊎ IsAmong DisplayHelpOnMissingArgumentOrSubcommand (fault_of venti words))
+Asks words Faulty = AreRefused words ⊎ ((fault_of venti words ≡ []) × (spoken words ≡ None))
 
 -- The words ask for nothing that the program knows.
 abbrev pub AsksForNothing : Asked → Type 0
-AsksForNothing (Faulty text) = ⊤
+AsksForNothing Faulty = ⊤
 AsksForNothing asked = ⊥
 
 -- nothing that the program knows can be asked for by them
@@ -238,7 +235,7 @@ session_words = codes "session" ∷ codes ":memory:" ∷ []
 -- what is asked where clap takes the words: a command, or nothing that is known
 abbrev pub IsSpoken : Option Command → Asked → Type 0
 IsSpoken said (Do command) = said ≡ Some command
-IsSpoken said (Faulty text) = (said ≡ None) × (string_bytes text ≡ [])
+IsSpoken said Faulty = said ≡ None
 IsSpoken said asked = ⊥
 
 -- what is asked where clap doesn't take the words: help, the version, or nothing that is known
@@ -246,6 +243,5 @@ abbrev pub IsUnspoken : ErrorKind → Asked → Type 0
 IsUnspoken kind (Do command) = ⊥
 IsUnspoken kind (Help text) = kind ≡ DisplayHelp
 IsUnspoken kind (Version text) = kind ≡ DisplayVersion
-IsUnspoken kind (Faulty text) =
+IsUnspoken kind Faulty =
     (kind ≢ DisplayHelp) × (kind ≢ DisplayVersion) × (kind ≢ OutOfMemory)
-    × ((string_bytes text ≡ []) ⊎ (kind ≡ DisplayHelpOnMissingArgumentOrSubcommand))

@@ -21,9 +21,8 @@ pub enum Asked {
     Help(String),
     /// To be told its version.
     Version(String),
-    /// Nothing that the program knows. Where there are no words, the text is its short help, and
-    /// else it is empty.
-    Faulty(String),
+    /// Nothing that the program knows.
+    Faulty,
 }
 
 /// What these words ask for, which stand behind the program's name.
@@ -46,7 +45,7 @@ fn spoken(alloc: Global, found: &ArgMatches<'_>) -> Result<Asked, AllocError>
     };
     match command {
         Some(command) => Ok(Asked::Do(command)),
-        None => Ok(Asked::Faulty(String::new(alloc))),
+        None => Ok(Asked::Faulty),
     }
 }
 
@@ -58,14 +57,11 @@ fn unspoken(alloc: Global, error: &Error) -> Result<Asked, AllocError>
         ErrorKind::OutOfMemory => Err(AllocError),
         ErrorKind::DisplayHelp => Ok(Asked::Help(text_of(alloc, error)?)),
         ErrorKind::DisplayVersion => Ok(Asked::Version(text_of(alloc, error)?)),
-        ErrorKind::DisplayHelpOnMissingArgumentOrSubcommand => {
-            Ok(Asked::Faulty(text_of(alloc, error)?))
-        }
-        _ => Ok(Asked::Faulty(String::new(alloc))),
+        _ => Ok(Asked::Faulty),
     }
 }
 
-/// What clap would print of it: help, the version, or what is wrong with the words.
+/// What clap would print of it: help, or the version.
 fn text_of(alloc: Global, error: &Error) -> Result<String, AllocError> {
     Ok(format!(in alloc; "{error}")?)
 }

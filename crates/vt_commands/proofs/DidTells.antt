@@ -28,7 +28,7 @@ module _ {R K I P D N L : Type 0} (disk : DiskOf D) (link : LinkOf L) (score : L
     (outcome : CommandOutcome) (work : Work R K I P D N L) where
   faulty_idle : (asked : Asked) → AsksForNothing asked → DoesAsked disk link score asked outcome work
       → EndsIdle (Err BadWords) outcome (IsIdle work)
-  faulty_idle (Faulty text) faulty does = does
+  faulty_idle Faulty faulty does = does
   faulty_idle asked faulty does = absurd faulty
 
   module _ (words : List (List ℕ)) (preface : List ℕ)

@@ -85,7 +85,7 @@ module _ {R K I P D N L : Type 0} (disk : DiskOf D) (outcome : CommandOutcome)
     asked_caused (Do command) does = or_words (does_caused command does)
     asked_caused (Help text) does = or_words (sink_caused does.1)
     asked_caused (Version text) does = or_words (sink_caused does.1)
-    asked_caused (Faulty text) does = subst (HasCauseIn (causes_of disk work)) (sym does.is) tt
+    asked_caused Faulty does = subst (HasCauseIn (causes_of disk work)) (sym does.is) tt
 
     module _ (words : List (List ℕ)) (preface : List ℕ)
         (does : DoesWords disk link score words preface outcome work) where
@@ -106,7 +106,7 @@ module _ {R K I P D N L : Type 0} (disk : DiskOf D) (outcome : CommandOutcome)
           of (Do command) asks does = inr does.1.folders
           of (Help text) asks does = inr does.1.folders
           of (Version text) asks does = inr does.1.folders
-          of (Faulty text) asks does = inr does.idle.folders
+          of Faulty asks does = inr does.idle.folders
 
   -- a word that was refused
   pub reading_idle : (IsWhy : CommandError → Type 0) → OnlyReading disk outcome work

@@ -78,15 +78,13 @@ DoesAsked disk link score (Do command) outcome work =
     DoesCommand disk link score command outcome work
 DoesAsked disk link score (Help text) outcome work = Shows (string_bytes text) outcome work
 DoesAsked disk link score (Version text) outcome work = Shows (string_bytes text) outcome work
-DoesAsked disk link score (Faulty text) outcome work =
+DoesAsked disk link score Faulty outcome work =
     EndsIdle (Err BadWords) outcome (IsIdle work)
 
--- what stands before the line on the fault sink: the short help, where there is no command, and
--- what an archive leaves out
+-- what stands before the line on the fault sink: what an archive leaves out
 abbrev pub preface_of : {R K I P D N L : Type 0} → (disk : DiskOf D) (link : LinkOf L)
     (score : List ℕ → List ℕ) (asked : Asked) (outcome : CommandOutcome) (work : Work R K I P D N L)
     → DoesAsked disk link score asked outcome work → List ℕ
-preface_of disk link score (Faulty text) outcome work does = string_bytes text
 preface_of disk link score (Do (Vac store folder size)) outcome work does = does.0
 preface_of disk link score asked outcome work does = []
 

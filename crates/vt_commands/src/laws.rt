@@ -53,7 +53,7 @@ use vt_use::{
 /// What follows from `did`, the clause of `run`, about each status.
 pub fn did_tells<R: Source, K: Sink, F: Sink, I: Files, P: Parts, N: Dialer>()
     // Words that ask for nothing that the program knows do nothing: nothing is read or handed out,
-    // and nothing is written but on the fault sink, a line behind the short help, if that is told.
+    // and nothing is written but on the fault sink, a line.
     ensures bad_words { (score : List ℕ → List ℕ) (words : List (List ℕ)) (status : ℕ)
         (work : Work R K I P P.Disk N N.Link) (complaint : StreamChange F)
         → Did P.Disk.Disk N.Link.Link score words status work complaint → AreFaulty words

@@ -34,8 +34,7 @@ use vt_partitions::Parts;
 /// store in memory, and prints what the rounds came to; its scores are by SHA-1, whatever the
 /// scorer. `vac` stores a folder, says what it leaves out of it, and prints what the archive is
 /// found by. `vacfs` shows an archive as a tree of files to a client that speaks 9P2000 on the
-/// source and the sink. Help and the version are printed on the sink; where there is no command,
-/// short help goes to the fault sink, in front of the line.
+/// source and the sink. Help and the version are printed on the sink.
 pub fn run<
     R: Source,
     K: Sink,
@@ -140,10 +139,7 @@ fn do_words<
             Ok(()),
             print(&mut host.streams.sink, &[text.as_bytes()]),
         ),
-        Ok(Asked::Faulty(text)) => (
-            host.fault_sink.put(text.as_bytes()),
-            Err(CommandError::BadWords),
-        ),
+        Ok(Asked::Faulty) => (Ok(()), Err(CommandError::BadWords)),
         Err(AllocError) => (Ok(()), Err(CommandError::NoMemory)),
     }
 }

@@ -1,4 +1,3 @@
--- short help goes before the line
 use Rattle.std.proofs.Common.{inl, inr, refl, rules, []}
 use Rattle.std.specs.Prelude.{map, string_bytes}
 use Rattle.vt_cli.specs.declared.asked.Asked.TheVariants.{Faulty}
@@ -8,13 +7,10 @@ use Rattle.vt_commands.proofs.program.do_words.Goals as goal
 
 pub returns-in-Ok-Faulty : goal.returns-in-Ok-Faulty
 returns-in-Ok-Faulty g c =
-    let text = string_bytes c.in-Ok-Faulty.text in
-    let asks : Asks (map g.W.AsStr.text c.args.words.now) (Faulty c.in-Ok-Faulty.text) = search
-    rules in
-    let x = c.put.ensures in (
-      text,
+    let asks : Asks (map g.W.AsStr.text c.args.words.now) Faulty = search rules in (
+      [],
       inl (
-        Faulty c.in-Ok-Faulty.text,
+        Faulty,
         asks,
         record {
           is = refl;
@@ -29,9 +25,7 @@ returns-in-Ok-Faulty g c =
         },
         refl,
       ),
-      said_as g.F.Sink c.args.host.now.fault_sink c.put.new.self text c.put.result
-          (rw c.as_bytes.ensures.value at x.appended) (rw c.as_bytes.ensures.value at x.failed)
-          x.cause,
+      unsaid g.F.Sink _ _ [] refl,
     )
 
 pub returns-in-Err : goal.returns-in-Err
