@@ -28,7 +28,7 @@ PROGRAM = "vt_prog"
 FOLDER = os.path.join(TOP, "crates", PROGRAM)
 LOG = os.path.join(FOLDER, "out", "build.log")
 # GiB of memory: what the checks that go on at a time may take by the peaks of each, what one takes at most, and what the
-# large ones do. Peaks hardly come at one time: of 6.3 GiB by these peaks 5.0 were seen.
+# large ones do. Peaks hardly come at one time: of 6.6 GiB by these peaks 4.9 were seen, and of 9.2 7.3.
 MEMORY, PEAK = 7.2, 1.4
 PEAKS = {
     "run_archives": 2.7, "run_base": 2.6, "vt_core": 2.6, "run_sessions": 2.5, "vt_rehearse": 2.4, "vt_use": 2.3,

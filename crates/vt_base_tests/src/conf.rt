@@ -60,6 +60,22 @@ fn a_configuration_is_read(rt: HostRuntime) -> Result<(), Fail> {
     rows.passes()
 }
 
+/// The sizes of the caches, of blocks and of index entries, if the text is a configuration.
+fn cache_sizes(alloc: Global, text: &[u8]) -> Option<(u64, u64)> {
+    match parse_conf(alloc, text) {
+        Ok(conf) => Some((conf.mem, conf.icmem)),
+        Err(_) => None,
+    }
+}
+
+#[test]
+fn caches_have_sizes_without_lines(rt: HostRuntime) -> Result<(), Fail> {
+    let sizes = cache_sizes(rt.alloc(), b"arenas a\nisect i\n");
+    let mut rows = Rows::new();
+    rows.is("64 MiB and 1 MiB", sizes == Some((67_108_864, 1_048_576)));
+    rows.passes()
+}
+
 /// Whether a configuration says what each of its lines says.
 fn long_rows(conf: &Conf) -> Rows {
     let filter = match &conf.filter {
