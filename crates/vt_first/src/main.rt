@@ -10,7 +10,7 @@ use vt_base::Sha1Scorer;
 use vt_conf::{cached_blocks, entry_room};
 use vt_empty::{Shape, fresh_store};
 use vt_handler::{Client, Streams};
-use vt_host::{StdClock, StdSink, StdSource};
+use vt_host::{ErrorLines, StdClock, StdSink, StdSource, System, ToldAs};
 use vt_out::Clock;
 use vt_session::Ended;
 use vt_shard::Sizes;
@@ -29,14 +29,17 @@ const SHAPE: Shape = Shape {
 /// How many bytes of blocks it keeps at hand, and how many of index entries.
 const MEM: u64 = 1 << 20;
 
-/// Ends with 0 where the session ended well, and else with 1.
+/// Ends with 0 where the session ended well, and else with 1. A read or a write that fails is told on
+/// standard error.
 fn main(rt: HostRuntime) -> ExitCode {
-    let now = StdClock(rt).now();
+    let alloc = rt.alloc();
+    let lines = ErrorLines::new(alloc, System(rt.stderr()));
+    let now = StdClock(System(rt)).now();
     let mut client = Streams {
-        source: StdSource::new(rt.stdin()),
-        sink: StdSink::new(rt.stdout()),
+        source: StdSource::new(ToldAs::new(System(rt.stdin()), alloc, "standard input", lines)),
+        sink: StdSink::new(ToldAs::new(System(rt.stdout()), alloc, "standard output", lines)),
     };
-    ExitCode::from(match serve(rt.alloc(), now, &mut client) {
+    ExitCode::from(match serve(alloc, now, &mut client) {
         Ended::Goodbye | Ended::Closed => 0,
         _ => 1,
     })

@@ -1,8 +1,10 @@
--- How a file is opened as a disk.
-use Rattle.std.specs.Prelude.{◌≡◌, ◌⊎◌, ℕ, ◌+◌, min, length, ◌<◌, ◌≤◌, Bool, true, false, List, [], ◌∷◌, ◌++◌, codes, Option, Some, None, is_some, unwrap_or, if◌then◌else◌}
+-- How a file is opened: as a disk, or to be read whole.
+use Rattle.std.specs.Prelude.{◌≡◌, ◌⊎◌, ℕ, ◌+◌, min, length, ◌<◌, ◌≤◌, Bool, true, false, List, [], ◌∷◌, ◌++◌, codes, Option, Some, None, IsUtf8, is_some, unwrap_or, if◌then◌else◌}
 use Rattle.std.specs.Fs.{new_options, with_read, with_write, with_create}
 use Rattle.std.specs.Path.{path_parent}
 use Rattle.std.specs.declared.fs.OpenOptions.{OpenOptions}
+use Rattle.vt_out.specs.declared.files.OutErr.{OutErr}
+use Rattle.vt_out.specs.declared.files.OutErr.TheVariants.{Failed, NoMemory}
 use Rattle.vt_host.specs.Calls.{Opening, FileCall, measured, resized, read, locked, synced}
 
 -- A file that is opened as a disk is read and written. It is made where it isn't there, if that is
@@ -28,15 +30,13 @@ GrowsFile wanted calls len =
     × (calls ≡ measured (Some found) ∷ resized wanted ok ∷ [])
     × (len ≡ if ok then Some wanted else None))
 
--- A file that may have been made or filled up is then synced, and so is the folder that it stands
--- in.
-abbrev pub syncs_of : (grow_to : Option ℕ) → List FileCall
-syncs_of None = []
-syncs_of (Some len) = synced true ∷ []
-
 -- a folder, and a file that is read whole, is read alone: it is never made, written or emptied
 abbrev pub read_options : OpenOptions
 read_options = with_read new_options true
+
+-- what is opened is opened in one of these ways
+abbrev pub IsWay : OpenOptions → Type 0
+IsWay how = (how ≡ read_options) ⊎ ((create : Bool) × (how ≡ disk_options create))
 
 -- the folder of a name without one is the working folder, and that of the top is the top
 abbrev pub folder_or_working : Option (List ℕ) → List ℕ
@@ -57,11 +57,12 @@ abbrev pub openings : (name : List ℕ) → (grow_to : Option ℕ) → List Open
 openings name None = opening name None true ∷ []
 openings name (Some len) = opening name (Some len) true ∷ folder_opening name true ∷ []
 
--- the calls of a file that became a disk of this length
+-- The calls of a file that became a disk of this length: it is synced last, so that a crash leaves
+-- it as it is.
 abbrev pub BecomesDisk : (grow_to : Option ℕ) (calls : List FileCall) (len : ℕ) → Type 0
 BecomesDisk grow_to calls len = (grown : List FileCall)
     × GrowsFile (wanted_length grow_to) grown (Some len)
-    × (calls ≡ locked true ∷ (grown ++ syncs_of grow_to))
+    × (calls ≡ locked true ∷ (grown ++ synced true ∷ []))
 
 -- the calls of one of which the last failed
 abbrev pub StopsShort : (grow_to : Option ℕ) (calls : List FileCall) → Type 0
@@ -87,10 +88,24 @@ StopsOpening {F = F} made name grow_to old new =
 abbrev pub file_opening : (name : List ℕ) (ok : Bool) → Opening
 file_opening name ok = record { how = read_options; name = name; ok = ok }
 
--- what was opened where no bytes of the file came: nothing or that file alone
-abbrev pub StopsReading : (name : List ℕ) → (old new : List Opening) → Type 0
-StopsReading name old new = (new ≡ old)
-    ⊎ ((ok : Bool) × (new ≡ old ++ file_opening name ok ∷ []))
+-- the calls of a file that was to be read whole, of which the last failed
+abbrev pub FailsToRead : (calls : List FileCall) → Type 0
+FailsToRead calls = (calls ≡ measured None ∷ [])
+    ⊎ ((len : ℕ) × (buf : List ℕ) × (calls ≡ measured (Some len) ∷ read 0 buf false ∷ []))
+
+-- The file of this name can't be read: a name that isn't UTF-8 is none of a file, and else its
+-- opening failed, or a call of it.
+abbrev pub CantRead : {F : Type 0} → (made : F → List FileCall) → (name : List ℕ)
+    → (old new : List Opening) → Type 0
+CantRead {F = F} made name old new = ((¬ IsUtf8 name) × (new ≡ old))
+    ⊎ (new ≡ old ++ file_opening name false ∷ [])
+    ⊎ ((new ≡ old ++ file_opening name true ∷ []) × ((file : F) × FailsToRead (made file)))
+
+-- what was opened where no bytes of the file came, by the cause
+abbrev pub StopsReading : {F : Type 0} → (made : F → List FileCall) → (name : List ℕ) → OutErr
+    → (old new : List Opening) → Type 0
+StopsReading made name Failed old new = CantRead made name old new
+StopsReading made name NoMemory old new = new ≡ old ++ file_opening name true ∷ []
 
 -- The calls of a file of which these bytes are the front: all of it, or one byte more than the
 -- limit.

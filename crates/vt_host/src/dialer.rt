@@ -20,6 +20,10 @@ pub struct StdDialer<N> {
     net: N,
     /// Failed calls of `dial`.
     faults: Faults,
+    // Of the link that is back, or none: what became of it is told with its counts.
+    /// Failed calls of its `take`, and below that of its `put`.
+    read_faults: Faults,
+    write_faults: Faults,
 }
 
 impl<N: Connector> StdDialer<N> {
@@ -33,6 +37,8 @@ impl<N: Connector> StdDialer<N> {
         StdDialer {
             net,
             faults: Faults::new(),
+            read_faults: Faults::new(),
+            write_faults: Faults::new(),
         }
     }
 }
@@ -51,17 +57,17 @@ where
     N::Input: Drop,
     N::Output: Drop,
 {
-    ghost use Rattle.std.specs.Prelude.{◌≡◌, [], false, IsTrue, IsSome, IfOk, OnOk};
+    ghost use Rattle.std.specs.Prelude.{◌≡◌, [], IsTrue, IsSome, IfOk, OnOk, OnErr};
     ghost use Rattle.vt_base.specs.Faults.{HasCause};
-    ghost use Rattle.vt_dial.specs.Dialled.{IsFreshLink, nobody};
-    ghost use Rattle.vt_host.specs.Dialling.{Connects, dialer_faults, dialer_net};
+    ghost use Rattle.vt_dial.specs.Dialled.{IsFreshLink, with_back, with_link};
+    ghost use Rattle.vt_host.specs.Dialling.{Connects, dialer_faults, dialer_net, linked_of};
     ghost use Rattle.vt_host.specs.Streams.{link_sink, link_source, sink_output, source_input};
 
     type Link = StdLink<N::Input, N::Output>;
 
-    ghost tells = { false };
+    ghost tells = { N.tells };
 
-    ghost dialled = { λ _. nobody };
+    ghost dialled = { λ dialer. linked_of (N.dialled dialer.net) dialer };
 
     ghost faults = { dialer_faults };
 
@@ -77,6 +83,12 @@ where
             → N.Output.made (sink_output (link_sink link)) ≡ []) }
         ensures connects { IsTrue N.tells → Connects address.now result
             (N.connected (dialer_net self.old)) (N.connected (dialer_net self.new)) }
+        ensures made { OnOk result (IsTrue N.tells
+            → linked_of (N.dialled (dialer_net self.new)) self.new
+            ≡ with_link address.now (linked_of (N.dialled (dialer_net self.old)) self.old)) }
+        ensures none { OnErr result (IsTrue N.tells
+            → linked_of (N.dialled (dialer_net self.new)) self.new
+            ≡ linked_of (N.dialled (dialer_net self.old)) self.old) }
         ensures cause { HasCause result (dialer_faults self.old) (dialer_faults self.new) }
     {
         let Some(name) = name_in(address) else {
@@ -89,9 +101,16 @@ where
 
     /// Closes the connection.
     fn done(&mut self, link: StdLink<N::Input, N::Output>)
-        ensures net { dialer_net self.new ≡ dialer_net self.old }
+        ensures back { IsTrue N.tells
+            → linked_of (N.dialled (dialer_net self.new)) self.new
+            ≡ with_back link (linked_of (N.dialled (dialer_net self.old)) self.old) }
+        ensures connected { IsTrue N.tells
+            → N.connected (dialer_net self.new) ≡ N.connected (dialer_net self.old) }
         ensures faults { dialer_faults self.new ≡ dialer_faults self.old }
     {
-        drop(link);
+        let (input, output, read_faults, write_faults) = link.into_parts();
+        self.net.close(input, output);
+        self.read_faults = read_faults;
+        self.write_faults = write_faults;
     }
 }

@@ -1,7 +1,8 @@
 //! Files that are read whole, by name.
 
-ghost use Rattle.std.specs.Prelude.{◌≡◌, ◌≤◌, ◌+◌, ◌++◌, ◌∷◌, [], true, IsTrue, IfOk, OnOk, OnErr, length};
+ghost use Rattle.std.specs.Prelude.{◌≡◌, ◌≤◌, ◌+◌, ◌++◌, ◌∷◌, [], true, IsTrue, IfErr, IfOk, OnOk, length};
 ghost use Rattle.vt_host.specs.Opening.{file_opening, ReadsFront, StopsReading};
+ghost use Rattle.vt_host.specs.ToldFiles.{FrontOf};
 
 use crate::disk::read_options;
 use crate::faults::Faults;
@@ -48,17 +49,27 @@ where
         → O.opened files.new ≡ O.opened files.old ++ file_opening name.now true ∷ []) }
     ensures made { IfOk result (λ bytes. IsTrue O.File.tells → (file : O.File)
         × ReadsFront limit bytes (O.File.made file)) }
-    ensures failed { OnErr result (IsTrue O.File.tells
-        → StopsReading name.now (O.opened files.old) (O.opened files.new)) }
+    ensures failed { IfErr result (λ why. IsTrue O.File.tells
+        → StopsReading O.File.made name.now why (O.opened files.old) (O.opened files.new)) }
+    ensures content { IfOk result (λ bytes. IsTrue O.File.tells → IsTrue O.still
+        → FrontOf (O.holds name.now) (limit + 1) bytes) }
 {
-    let name = str::from_utf8(name.as_slice()).map_err(|_| OutErr::Failed)?;
-    let mut file = files
-        .open(&read_options(), name)
-        .map_err(|_| OutErr::Failed)?;
-    let len = file.measure().map_err(|_| OutErr::Failed)?;
+    let Ok(name) = str::from_utf8(name.as_slice()) else {
+        return Err(OutErr::Failed);
+    };
+    let Ok(mut file) = files.open(&read_options(), name) else {
+        return Err(OutErr::Failed);
+    };
+    let Ok(len) = file.measure() else {
+        return Err(OutErr::Failed);
+    };
     let front = len.min(u64::from(limit) + 1) as usize;
-    let mut bytes = vec![in alloc; 0; front].map_err(|_| OutErr::NoMemory)?;
-    file.read_at(0, &mut bytes).map_err(|_| OutErr::Failed)?;
+    let Ok(mut bytes) = vec![in alloc; 0; front] else {
+        return Err(OutErr::NoMemory);
+    };
+    if file.read_at(0, &mut bytes).is_err() {
+        return Err(OutErr::Failed);
+    }
     Ok(Bytes::from_vec(bytes))
 }
 
@@ -66,15 +77,17 @@ impl<O: Opener> Files for StdFiles<O>
 where
     O::File: Drop,
 {
-    ghost use Rattle.std.specs.Prelude.{◌≡◌, ◌≤◌, ◌+◌, ◌++◌, ◌∷◌, [], true, false, None, IsTrue, IfOk, OnOk, OnErr, length};
+    ghost use Rattle.std.specs.Prelude.{◌≡◌, ◌≤◌, ◌+◌, ◌++◌, ◌∷◌, ◌&&◌, [], true, IsTrue, IfErr};
+    ghost use Rattle.std.specs.Prelude.{IfOk, OnOk, length};
     ghost use Rattle.vt_base.specs.Faults.{CountsFault};
     ghost use Rattle.vt_host.specs.Named.{files_faults, files_opener};
     ghost use Rattle.vt_host.specs.Opening.{file_opening, ReadsFront, StopsReading};
+    ghost use Rattle.vt_host.specs.ToldFiles.{FrontOf, content_told};
     ghost use Rattle.vt_out.specs.Files.{is_fault};
 
-    ghost tells = { false };
+    ghost tells = { O.File.tells && O.still };
 
-    ghost content = { λ _ _. None };
+    ghost content = { λ _ name. content_told (O.File.tells && O.still) (O.holds name) };
 
     ghost faults = { files_faults };
 
@@ -88,8 +101,11 @@ where
             ≡ O.opened (files_opener self.old) ++ file_opening name.now true ∷ []) }
         ensures made { IfOk result (λ bytes. IsTrue O.File.tells → (file : O.File)
             × ReadsFront limit bytes (O.File.made file)) }
-        ensures failed { OnErr result (IsTrue O.File.tells → StopsReading name.now
+        ensures failed { IfErr result (λ why. IsTrue O.File.tells
+            → StopsReading O.File.made name.now why
             (O.opened (files_opener self.old)) (O.opened (files_opener self.new))) }
+        ensures content { IfOk result (λ bytes. IsTrue O.File.tells → IsTrue O.still
+            → FrontOf (O.holds name.now) (limit + 1) bytes) }
         ensures cause { CountsFault is_fault result
             (files_faults self.old) (files_faults self.new) }
     {

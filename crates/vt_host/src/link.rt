@@ -1,5 +1,6 @@
 //! Connections of the system.
 
+use crate::faults::Faults;
 use crate::sink::StdSink;
 use crate::source::StdSource;
 use crate::system::{ReadCalls, WriteCalls};
@@ -16,6 +17,7 @@ pub struct StdLink<R, W> {
 
 impl<R: ReadCalls, W: WriteCalls> StdLink<R, W> {
     ghost use Rattle.std.specs.Prelude.{◌≡◌};
+    ghost use Rattle.vt_host.specs.Dialling.{link_of};
     ghost use Rattle.vt_host.specs.Streams.{link_sink, link_source, sink_output, source_input};
 
     /// Over the two directions of one connection.
@@ -30,29 +32,38 @@ impl<R: ReadCalls, W: WriteCalls> StdLink<R, W> {
             sink: StdSink::new(output),
         }
     }
+
+    /// The two directions, and how many calls of each have failed.
+    pub(crate) fn into_parts(self) -> (R, W, Faults, Faults)
+        ensures { self ≡ link_of (result.0, result.1) result.2 result.3 }
+    {
+        let StdLink { source, sink } = self;
+        let (input, read_faults) = source.into_parts();
+        let (output, write_faults) = sink.into_parts();
+        (input, output, read_faults, write_faults)
+    }
 }
 
 impl<R: ReadCalls, W: WriteCalls> Link for StdLink<R, W> {
-    ghost use Rattle.std.specs.Prelude.{◌≡◌, ◌≤◌, false, [], length, IfOk, OnOk, IsTrue};
+    ghost use Rattle.std.specs.Prelude.{◌≡◌, ◌≤◌, ◌&&◌, length, IfOk, OnOk, IsTrue};
     ghost use Rattle.std.specs.Io.KnownBytes.{Appends, ReadConsumes};
-    ghost use Rattle.vt_base.specs.Bytes.{AreBytes-none};
     ghost use Rattle.vt_base.specs.Faults.{HasCause};
-    ghost use Rattle.vt_host.specs.Passing.{TakesOnce, WritesThrough};
+    ghost use Rattle.vt_host.specs.Passing.{PutsBytes, TakesBytes, TakesOnce, WritesThrough};
     ghost use Rattle.vt_host.specs.Streams.{link_sink, link_source, sink_output, source_input};
 
-    ghost tells = { false };
+    ghost tells = { R.tells && W.tells };
 
-    ghost given = { λ _. [] };
+    ghost given = { λ link. R.given link.source.input };
 
-    ghost left = { λ _. [] };
+    ghost left = { λ link. R.left link.source.input };
 
-    ghost written = { λ _. [] };
+    ghost written = { λ link. W.went link.sink.output };
 
     ghost read_faults = { λ link. ⟦<StdSource<R> as Source>⟧.faults link.source };
 
     ghost write_faults = { λ link. ⟦<StdSink<W> as Sink>⟧.faults link.sink };
 
-    ghost left_bytes = { λ _. AreBytes-none };
+    ghost left_bytes = { λ link. R.left_bytes link.source.input };
 
     ghost read_faults_fit = { λ link. link.source.faults.fits };
 
@@ -64,6 +75,11 @@ impl<R: ReadCalls, W: WriteCalls> Link for StdLink<R, W> {
         ensures made { IsTrue R.tells → TakesOnce result buf.new
             (R.made (source_input (link_source self.old)))
             (R.made (source_input (link_source self.new))) }
+        ensures takes { IsTrue R.tells → TakesBytes result buf.old buf.new
+            (R.given (source_input (link_source self.old)))
+            (R.given (source_input (link_source self.new)))
+            (R.left (source_input (link_source self.old)))
+            (R.left (source_input (link_source self.new))) }
         ensures bytes { ReadConsumes (R.remaining (source_input (link_source self.old)))
             (R.remaining (source_input (link_source self.new))) result buf.new }
         ensures cause { HasCause result (⟦<StdLink<R, W> as Link>⟧.read_faults self.old)
@@ -78,6 +94,9 @@ impl<R: ReadCalls, W: WriteCalls> Link for StdLink<R, W> {
         ensures made { IsTrue W.tells → WritesThrough piece.now result
             (W.made (sink_output (link_sink self.old)))
             (W.made (sink_output (link_sink self.new))) }
+        ensures puts { IsTrue W.tells → PutsBytes result piece.now
+            (W.went (sink_output (link_sink self.old)))
+            (W.went (sink_output (link_sink self.new))) }
         ensures bytes { OnOk result (Appends (W.contents (sink_output (link_sink self.old)))
             (W.contents (sink_output (link_sink self.new))) piece.now) }
         ensures cause { HasCause result (⟦<StdLink<R, W> as Link>⟧.write_faults self.old)

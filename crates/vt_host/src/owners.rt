@@ -1,6 +1,10 @@
 //! The names of users and groups.
 
-ghost use Rattle.std.specs.Prelude.{◌≡◌, ◌<◌, ◌≤◌, [], length};
+ghost use Rattle.std.specs.Prelude.{◌≡◌, ◌<◌, ◌≤◌, [], length, IfOk, IfSome, IfNone};
+ghost use Rattle.std.specs.List.{before_first, after_first, position};
+ghost use Rattle.vt_host.specs.Cutting.{is_byte};
+ghost use Rattle.vt_host.specs.Owning.{NamesOwner};
+ghost use Rattle.vt_host.specs.declared.owners.Owner.{Owner};
 
 use std::alloc::{AllocError, Global};
 use vt_base::Text;
@@ -8,10 +12,10 @@ use vt_conf::parse_number;
 
 /// The name of a number.
 #[derive(Drop)]
-struct Owner {
+pub struct Owner {
     /// A user's number, or a group's.
-    id: u32,
-    name: Text,
+    pub id: u32,
+    pub name: Text,
 }
 
 /// What a file such as `/etc/passwd` or `/etc/group` says: in each line, parted by colons, a name,
@@ -19,13 +23,17 @@ struct Owner {
 #[derive(Drop)]
 pub struct Owners {
     /// In the order of the lines; of two of one number, the first is meant.
-    owners: Vec<Owner>,
+    pub owners: Vec<Owner>,
 }
 
-// No clause says which names these are: that is only tested (crates/vt_host_tests/src/owners.rt).
 impl Owners {
+    ghost use Rattle.std.specs.Prelude.{◌≡◌, IfOk};
+    ghost use Rattle.vt_host.specs.Owning.{OwnersIn, owner_name};
+
     /// What the lines of a file say. A line that is none of a number is skipped.
-    pub fn from_lines(alloc: Global, lines: &[u8]) -> Result<Self, AllocError> {
+    pub fn from_lines(alloc: Global, lines: &[u8]) -> Result<Self, AllocError>
+        ensures { IfOk result (λ owners. OwnersIn lines.now owners.owners.items) }
+    {
         let mut owners = Vec::new(alloc);
         let mut rest = lines;
         while !rest.is_empty() {
@@ -40,7 +48,9 @@ impl Owners {
     }
 
     /// The name of a number, by the first line that has it; where none has, its digits.
-    pub fn name_of(&self, alloc: Global, id: u32) -> Result<Text, AllocError> {
+    pub fn name_of(&self, alloc: Global, id: u32) -> Result<Text, AllocError>
+        ensures { IfOk result (λ name. name ≡ owner_name self.now.owners.items id) }
+    {
         for owner in &self.owners {
             if owner.id == id {
                 return Text::copy_of(alloc, owner.name.as_slice());
@@ -52,7 +62,11 @@ impl Owners {
 }
 
 /// What a line says, if it is that of a name and a number.
-fn owner_in(line: &[u8]) -> Option<(&[u8], u32)> {
+fn owner_in(line: &[u8]) -> Option<(&[u8], u32)>
+    ensures named { IfSome result (λ found. NamesOwner line.now
+        (record { id = found.1; name = found.0.now })) }
+    ensures none { IfNone result ((owner : Owner) → ¬ NamesOwner line.now owner) }
+{
     let (name, behind) = cut(line, b':');
     let (_, behind) = cut(behind, b':');
     let (digits, _) = cut(behind, b':');
@@ -61,12 +75,24 @@ fn owner_in(line: &[u8]) -> Option<(&[u8], u32)> {
 }
 
 /// The bytes before the first one that is this byte, and those behind it; where there is none, all,
-/// and none. The clause is for loops, which end by it.
+/// and none.
 pub(crate) fn cut(bytes: &[u8], separator: u8) -> (&[u8], &[u8])
+    ensures front { result.0.now ≡ before_first (is_byte separator) bytes.now }
+    ensures rest { result.1.now ≡ after_first (is_byte separator) bytes.now }
+
+    // (for loops, which end by it)
     ensures shorter { 0 < length bytes.now → length result.1.now < length bytes.now }
 {
-    match bytes.iter().position(|byte| *byte == separator) {
+    match place_of(bytes, separator) {
         Some(place) => (&bytes[..place], &bytes[place + 1..]),
         None => (bytes, &[]),
     }
+}
+
+/// The place of the first byte that is this byte.
+fn place_of(bytes: &[u8], separator: u8) -> Option<usize>
+    ensures place { result ≡ position (is_byte separator) bytes.now }
+    ensures within { IfSome result (λ place. place < length bytes.now) }
+{
+    bytes.iter().position(|byte| *byte == separator)
 }

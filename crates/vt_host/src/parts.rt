@@ -40,7 +40,9 @@ where
     O::File: Drop,
 {
     ghost use Rattle.std.specs.Prelude.{◌≡◌, ◌≤◌, ◌⊎◌, ◌++◌, false, IsTrue, IfOk, IfSome, OnOk, OnErr};
+    ghost use Rattle.std.specs.Prelude.{IsUtf8, length};
     ghost use Rattle.vt_base.specs.Faults.{HasCause};
+    ghost use Rattle.vt_disk.specs.Disk.{Only};
     ghost use Rattle.vt_host.specs.Disks.{disk_file, disk_size};
     ghost use Rattle.vt_host.specs.Named.{parts_files, parts_faults};
     ghost use Rattle.vt_host.specs.Opening.{openings, BecomesDisk, StopsOpening};
@@ -67,11 +69,16 @@ where
         ensures opened { OnOk result (IsTrue O.File.tells → O.opened (parts_files self.new)
             ≡ O.opened (parts_files self.old) ++ openings name.now grow_to) }
         ensures failed { OnErr result (IsTrue O.File.tells
-            → (O.opened (parts_files self.new) ≡ O.opened (parts_files self.old))
+            → ((¬ IsUtf8 name.now)
+            × (O.opened (parts_files self.new) ≡ O.opened (parts_files self.old)))
             ⊎ StopsOpening O.File.made name.now grow_to
             (O.opened (parts_files self.old)) (O.opened (parts_files self.new))) }
         ensures made { IfOk result (λ disk. IsTrue O.File.tells
             → BecomesDisk grow_to (O.File.made (disk_file disk)) (disk_size disk)) }
+        ensures sized { IfOk result (λ disk. IsTrue O.File.tells
+            → length (O.File.bytes (disk_file disk)) ≡ disk_size disk) }
+        ensures settled { IfOk result (λ disk. IsTrue O.File.tells
+            → Only (O.File.bytes (disk_file disk)) (O.File.images (disk_file disk))) }
         ensures cause { HasCause result (parts_faults self.old) (parts_faults self.new) }
     {
         let disk = match str::from_utf8(name.as_slice()) {

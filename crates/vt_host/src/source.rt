@@ -2,7 +2,7 @@
 
 ghost use Rattle.std.specs.Prelude.{◌≤◌, length, IfOk, IsTrue};
 ghost use Rattle.std.specs.Io.KnownBytes.{ReadConsumes};
-ghost use Rattle.vt_host.specs.Passing.{ReadsOnce};
+ghost use Rattle.vt_host.specs.Passing.{ReadsOnce, TakesBytes};
 
 use crate::faults::Faults;
 use crate::system::ReadCalls;
@@ -36,6 +36,14 @@ impl<R: ReadCalls> StdSource<R> {
             faults: Faults::new(),
         }
     }
+
+    /// The reader, and how many calls have failed.
+    pub(crate) fn into_parts(self) -> (R, Faults)
+        ensures { self ≡ record { input = result.0; faults = result.1 } }
+    {
+        let StdSource { input, faults } = self;
+        (input, faults)
+    }
 }
 
 /// Makes one read, as often as a signal interrupts it.
@@ -43,6 +51,8 @@ fn read_once<R: ReadCalls>(input: &mut R, buf: &mut [u8]) -> io::Result<usize>
     ensures fits { IfOk result (λ n. n ≤ length buf.old) }
     ensures made { IsTrue R.tells → ReadsOnce (record { buf = buf.new; answer = result })
         (R.made input.old) (R.made input.new) }
+    ensures takes { IsTrue R.tells → TakesBytes result buf.old buf.new
+        (R.given input.old) (R.given input.new) (R.left input.old) (R.left input.new) }
     ensures bytes { ReadConsumes (R.remaining input.old) (R.remaining input.new) result buf.new }
 {
     for _ in 0..RETRIES {
@@ -55,18 +65,17 @@ fn read_once<R: ReadCalls>(input: &mut R, buf: &mut [u8]) -> io::Result<usize>
 }
 
 impl<R: ReadCalls> Source for StdSource<R> {
-    ghost use Rattle.std.specs.Prelude.{◌≡◌, ◌≤◌, false, [], length, IfOk, IsTrue};
+    ghost use Rattle.std.specs.Prelude.{◌≤◌, length, IfOk, IsTrue};
     ghost use Rattle.std.specs.Io.KnownBytes.{ReadConsumes};
-    ghost use Rattle.vt_base.specs.Bytes.{AreBytes-none};
-    ghost use Rattle.vt_host.specs.Passing.{TakesOnce};
+    ghost use Rattle.vt_host.specs.Passing.{TakesBytes, TakesOnce};
     ghost use Rattle.vt_host.specs.Streams.{source_input};
     ghost use Rattle.vt_base.specs.Faults.{HasCause};
 
-    ghost tells = { false };
+    ghost tells = { R.tells };
 
-    ghost given = { λ _. [] };
+    ghost given = { λ source. R.given source.input };
 
-    ghost left = { λ _. [] };
+    ghost left = { λ source. R.left source.input };
 
     ghost faults = { λ source. source.faults.count };
 
@@ -74,7 +83,7 @@ impl<R: ReadCalls> Source for StdSource<R> {
 
     ghost kept = { λ _. tt };
 
-    ghost left_bytes = { λ _. AreBytes-none };
+    ghost left_bytes = { λ source. R.left_bytes source.input };
 
     ghost faults_fit = { λ source. source.faults.fits };
 
@@ -83,6 +92,9 @@ impl<R: ReadCalls> Source for StdSource<R> {
         ensures fits { IfOk result (λ n. n ≤ length buf.old) }
         ensures made { IsTrue R.tells → TakesOnce result buf.new
             (R.made (source_input self.old)) (R.made (source_input self.new)) }
+        ensures takes { IsTrue R.tells → TakesBytes result buf.old buf.new
+            (R.given (source_input self.old)) (R.given (source_input self.new))
+            (R.left (source_input self.old)) (R.left (source_input self.new)) }
         ensures bytes { ReadConsumes (R.remaining (source_input self.old))
             (R.remaining (source_input self.new)) result buf.new }
         ensures cause { HasCause result (⟦<StdSource<R> as Source>⟧.faults self.old)

@@ -3,7 +3,7 @@
 use crate::fakes::FakeClock;
 use std::test::Fail;
 use std::time::{Duration, SystemTime};
-use vt_host::StdClock;
+use vt_host::{StdClock, System};
 use vt_out::Clock;
 use vt_rows::Rows;
 
@@ -11,7 +11,7 @@ use vt_rows::Rows;
 fn a_clock_gives_the_time(rt: HostRuntime) -> Result<(), Fail> {
     let before = SystemTime::now(&rt)?;
     let seconds = before.duration_since(SystemTime::UNIX_EPOCH)?.as_secs();
-    let now = u64::from(StdClock(rt).now());
+    let now = u64::from(StdClock(System(rt)).now());
     let mut rows = Rows::new();
     rows.is("no time is before this one", seconds <= now);
     rows.is("a minute is not over", now <= seconds.saturating_add(60));

@@ -1,6 +1,6 @@
 //! Connections to hosts by their names.
 
-use crate::fakes::{FakeConnector, Notes};
+use crate::fakes::FakeConnector;
 use std::alloc::{AllocError, Global};
 use std::io;
 use std::io::Write;
@@ -10,7 +10,7 @@ use std::test::Fail;
 use vt_base::Text;
 use vt_conf::Address;
 use vt_dial::Dialer;
-use vt_host::StdDialer;
+use vt_host::{StdDialer, System};
 use vt_out::Link;
 use vt_rows::Rows;
 
@@ -25,9 +25,7 @@ fn address(alloc: Global, host: Option<&[u8]>, port: u16) -> Result<Address, All
 
 /// Whether a connection to this address is made, where the connection of this number fails.
 fn dials<R: Abort + Copy + Drop>(rt: R, alloc: Global, failing: usize, to: &Address) -> bool {
-    let mut dialer = StdDialer::new(FakeConnector {
-        notes: Notes::new(rt, alloc, failing),
-    });
+    let mut dialer = StdDialer::new(FakeConnector::new(rt, alloc, failing));
     dialer.dial(to).is_ok()
 }
 
@@ -67,7 +65,7 @@ fn a_connection_is_a_link(rt: HostRuntime) -> Result<(), Fail> {
     let port = listener.local_addr()?.port();
     let to = address(rt.alloc(), Some(b"127.0.0.1"), port)?;
     let mut rows = Rows::new();
-    let mut dialer = StdDialer::new(rt);
+    let mut dialer = StdDialer::new(System(rt));
     let mut link = dialer.dial(&to)?;
     let (mut peer, _) = listener.accept()?;
     peer.write_all(b"cde")?;

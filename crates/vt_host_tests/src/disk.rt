@@ -7,7 +7,7 @@ use std::test::Fail;
 use std::{env, fs, process};
 use vt_base::Failed;
 use vt_disk::Disk;
-use vt_host::FileDisk;
+use vt_host::{FileDisk, System};
 use vt_rows::Rows;
 
 /// A disk of 10,000 bytes is written and read.
@@ -54,7 +54,7 @@ fn a_file_is_a_disk(rt: HostRuntime) -> Result<(), Fail> {
         folder.display(),
         process::id(rt.process())
     )?;
-    let mut files = &rt;
+    let mut files = System(rt);
     let mut rows = Rows::new();
     let none = FileDisk::open(&mut files, name.as_str(), None);
     rows.is("a file that isn't there", none.is_err());
@@ -71,7 +71,7 @@ fn a_file_is_a_disk(rt: HostRuntime) -> Result<(), Fail> {
     rows.passes()
 }
 
-/// Opens files of 8 bytes. The opening of the first number fails, and of each file the call of the
+/// Opens files by name. The opening of the first number fails, and of each file the call of the
 /// second.
 pub fn opener<R: Abort + Copy + Drop>(
     rt: R,
@@ -81,7 +81,6 @@ pub fn opener<R: Abort + Copy + Drop>(
 ) -> FakeOpener<R> {
     FakeOpener {
         notes: Notes::new(rt, alloc, opening),
-        len: 8,
         file_failing: call,
     }
 }
@@ -97,7 +96,7 @@ fn see_sync<D: Disk>(rows: &mut Rows, disk: &mut D) {
     rows.is("a sync that fails", disk.sync() == Err(Failed));
     rows.is("a read", disk.read_at(3, &mut buf) == Ok(()));
     rows.is("the next sync", disk.sync() == Ok(()));
-    rows.is("what is read", buf == [7, 7]);
+    rows.is("what is read", buf == *b"ab");
 }
 
 #[test]

@@ -5,7 +5,7 @@ use std::os::unix::fs::symlink;
 use std::test::Fail;
 use std::{env, fs, process};
 use vt_base::{Failed, Text};
-use vt_host::StdFolders;
+use vt_host::{StdFolders, System};
 use vt_out::{Folder, Folders, Item, ItemKind, OutErr};
 use vt_rows::Rows;
 
@@ -148,7 +148,7 @@ fn a_folder_of_the_system_is_listed_and_read(rt: HostRuntime) -> Result<(), Fail
     let none = inside(alloc, name.as_str(), "e")?;
     make(rt, name.as_str())?;
     let mut rows = Rows::new();
-    let mut folders = StdFolders::new(rt, rt);
+    let mut folders = StdFolders::new(System(rt), System(rt));
     see_folder(&mut rows, alloc, &mut folders, name.as_str())?;
     see_none(&mut rows, alloc, &mut folders, 0, file.as_bytes())?;
     see_none(&mut rows, alloc, &mut folders, 1, none.as_bytes())?;
@@ -229,7 +229,7 @@ fn a_folder_of_many_files_is_listed_whole(rt: HostRuntime) -> Result<(), Fail> {
     let name = temp_name(rt, "many")?;
     make_many(rt, name.as_str(), 300)?;
     let mut rows = Rows::new();
-    let mut folders = StdFolders::new(rt, rt);
+    let mut folders = StdFolders::new(System(rt), System(rt));
     see_many(&mut rows, rt.alloc(), &mut folders, name.as_str(), 300)?;
     fs::remove_dir_all(&rt, name.as_str())?;
     rows.passes()

@@ -17,3 +17,7 @@ mod named;
 mod owners;
 #[cfg(test)]
 mod streams;
+#[cfg(test)]
+mod terminal;
+#[cfg(test)]
+mod told;

@@ -1,11 +1,11 @@
 //! Streams that break, and streams that keep a record of their calls.
 
-use crate::fakes::{FakeInput, FakeOutput, Notes};
+use crate::fakes::{FakeInput, FakeOutput};
 use std::io::{Read, Write};
 use std::test::Fail;
 use std::{fs, io, process};
 use vt_base::Failed;
-use vt_host::{FileDisk, StdSink, StdSource};
+use vt_host::{FileDisk, StdSink, StdSource, System};
 use vt_out::{Sink, Source};
 use vt_rows::Rows;
 
@@ -86,7 +86,7 @@ fn see_reads<S: Source>(rows: &mut Rows, source: &mut S) {
 #[test]
 fn a_broken_read_is_a_fault(rt: HostRuntime) -> Result<(), Fail> {
     let mut rows = Rows::new();
-    see_reads(&mut rows, &mut StdSource::new(Broken::new()));
+    see_reads(&mut rows, &mut StdSource::new(System(Broken::new())));
     rows.passes()
 }
 
@@ -103,16 +103,14 @@ fn see_pieces<S: Sink>(rows: &mut Rows, sink: &mut S, pieces: Pieces) {
 fn a_piece_is_written_whole_or_is_a_fault(rt: HostRuntime) -> Result<(), Fail> {
     let pieces: Pieces = [(b"abcde", Ok(())), (b"f", Err(Failed)), (b"g", Ok(()))];
     let mut rows = Rows::new();
-    see_pieces(&mut rows, &mut StdSink::new(Broken::new()), pieces);
+    see_pieces(&mut rows, &mut StdSink::new(System(Broken::new())), pieces);
     rows.passes()
 }
 
 #[test]
 fn a_piece_is_flushed(rt: HostRuntime) -> Result<(), Fail> {
     let pieces: Pieces = [(b"ab", Ok(())), (b"cd", Err(Failed)), (b"ef", Ok(()))];
-    let mut sink = StdSink::new(FakeOutput {
-        notes: Notes::new(rt, rt.alloc(), 3),
-    });
+    let mut sink = StdSink::new(FakeOutput::new(rt, rt.alloc(), 3));
     let mut rows = Rows::new();
     see_pieces(&mut rows, &mut sink, pieces);
     rows.passes()
@@ -120,9 +118,7 @@ fn a_piece_is_flushed(rt: HostRuntime) -> Result<(), Fail> {
 
 #[test]
 fn an_interrupted_read_is_made_again(rt: HostRuntime) -> Result<(), Fail> {
-    let mut source = StdSource::new(FakeInput {
-        notes: Notes::new(rt, rt.alloc(), 0),
-    });
+    let mut source = StdSource::new(FakeInput::new(rt, rt.alloc(), 0));
     let mut buf = [0; 3];
     let taken = source.take(&mut buf);
     let mut rows = Rows::new();
@@ -138,9 +134,9 @@ fn go<T: Send + Drop>(_value: T) {}
 fn adapters_may_go_to_other_threads(rt: HostRuntime) -> Result<(), Fail> {
     let name = format!(in rt.alloc(); "/proc/{}/stat", process::id(rt.process()))?;
     let file = fs::File::open(&rt, name.as_str())?;
-    go(StdSource::new(file));
-    go(StdSink::new(rt.stdout()));
-    if let Ok(disk) = FileDisk::open(&mut &rt, "", None) {
+    go(StdSource::new(System(file)));
+    go(StdSink::new(System(rt.stdout())));
+    if let Ok(disk) = FileDisk::open(&mut System(rt), "", None) {
         go(disk);
     }
     Ok(())

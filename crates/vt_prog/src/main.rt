@@ -11,22 +11,30 @@ use std::process::ExitCode;
 use std::rt::Env;
 use vt_commands::{end, run};
 use vt_handler::Streams;
-use vt_host::{FileParts, StdClock, StdDialer, StdFiles, StdFolders, StdSink, StdSource};
+use vt_host::{
+    Erasing, ErrorLines, FileParts, StdClock, StdDialer, StdFiles, StdFolders, StdSink, StdSource,
+    System, Terminal, Told, ToldAs, ToldNet,
+};
 
 /// Hands the system's streams, files, folders, connections and clock to `run` of `vt_commands`, and
-/// ends by the status that it tells.
+/// ends by the status that it tells. Each call of theirs that fails is told on standard error, but
+/// for those of standard error itself, of the clock by which a terminal is shown lines, and of the
+/// files that name users and groups, which a system may lack.
 fn main(rt: HostRuntime) -> ExitCode {
+    let alloc = rt.alloc();
+    let errors = Erasing::new(System(rt.stderr()), rt.stderr().is_terminal());
+    let lines = ErrorLines::new(alloc, errors);
     let mut host = Outside {
         streams: Streams {
-            source: StdSource::new(rt.stdin()),
-            sink: StdSink::new(rt.stdout()),
+            source: StdSource::new(ToldAs::new(System(rt.stdin()), alloc, "standard input", lines)),
+            sink: StdSink::new(ToldAs::new(System(rt.stdout()), alloc, "standard output", lines)),
         },
-        fault_sink: StdSink::new(rt.stderr()),
-        files: StdFiles::new(rt),
-        parts: FileParts::new(rt),
-        dialer: StdDialer::new(rt),
-        folders: StdFolders::new(rt, rt),
-        clock: StdClock(rt),
+        fault_sink: StdSink::new(errors),
+        files: StdFiles::new(Told::new(System(rt), alloc, lines)),
+        parts: FileParts::new(Told::new(System(rt), alloc, lines)),
+        dialer: StdDialer::new(ToldNet::new(System(rt), alloc, lines)),
+        folders: StdFolders::new(Told::new(System(rt), alloc, lines), System(rt)),
+        clock: StdClock(ToldAs::new(System(rt), alloc, "the clock", lines)),
         terminal: terminal(rt),
     };
     ExitCode::from(match arguments(&rt) {
@@ -36,10 +44,10 @@ fn main(rt: HostRuntime) -> ExitCode {
 }
 
 /// Standard error, if it is a terminal.
-fn terminal(rt: HostRuntime) -> Option<StdSink<Stderr>> {
+fn terminal(rt: HostRuntime) -> Option<Terminal<System<Stderr>, System<HostRuntime>>> {
     let output = rt.stderr();
     if output.is_terminal() {
-        Some(StdSink::new(output))
+        Some(Terminal::new(System(output), System(rt)))
     } else {
         None
     }

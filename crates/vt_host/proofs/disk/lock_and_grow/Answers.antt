@@ -15,7 +15,7 @@ returns-in_err-len-clause-failed g c =
     λ tells.
     let grown = c.in_err-len.ensures.calls tells in (
       locked true ∷ grown.0,
-      grown.1 ∙ ap (λ (l : List FileCall). l ++ grown.0) (c.in_ok-lock.ensures tells) ∙ append_assoc (made c.args.file.now) (locked true ∷ []) grown.0,
+      grown.1 ∙ ap (λ (l : List FileCall). l ++ grown.0) (c.in_ok-lock.ensures.noted tells) ∙ append_assoc (made c.args.file.now) (locked true ∷ []) grown.0,
       inr (inl (grown.0, subst (λ w. GrowsFile w grown.0 None) c.unwrap_or.ensures grown.2, refl)),
     ) in
     on_err c.from_residual-in_err-len.result
@@ -30,7 +30,7 @@ returns-in_err-sync-clause-failed g c =
     let old = made c.args.file.now in
     let last : List FileCall = synced false ∷ [] in (
       locked true ∷ (grown.0 ++ last),
-      c.in_err-sync.ensures tells ∙ ap (λ (l : List FileCall). l ++ last) (grown.1 ∙ ap (λ (l : List FileCall). l ++ grown.0) (c.in_ok-lock.ensures tells) ∙ append_assoc old (locked true ∷ []) grown.0)
+      c.in_err-sync.ensures.noted tells ∙ ap (λ (l : List FileCall). l ++ last) (grown.1 ∙ ap (λ (l : List FileCall). l ++ grown.0) (c.in_ok-lock.ensures.noted tells) ∙ append_assoc old (locked true ∷ []) grown.0)
           ∙ append_assoc old (locked true ∷ grown.0) last,
       inr (inr (grown.0, c.in_ok-len.len, subst (λ w. GrowsFile w grown.0 (Some c.in_ok-len.len)) c.unwrap_or.ensures grown.2, refl)),
     ) in
