@@ -731,10 +731,12 @@ fn still_names(alloc: Global, path: &str) -> io::Result<Vec<u8>>
 fn still_bytes(path: &[u8]) -> Option<&'static [u8]>
     ensures { IfSome result (λ bytes. still_bytes path.now ≡ Some bytes.now) }
 {
-    match path {
-        b"home/./f" => Some(b"abc"),
-        b"home/./g" => Some(b"wxyz"),
-        _ => None,
+    if path == b"home/./f".as_slice() {
+        Some(b"abc")
+    } else if path == b"home/./g".as_slice() {
+        Some(b"wxyz")
+    } else {
+        None
     }
 }
 
