@@ -193,10 +193,10 @@ const COLLISIONS: Session<'static> = (
 );
 
 /// Words that ask for a session, and what a failed row of such tells.
-type Over = (&'static [&'static str], Told);
+pub(crate) type Over = (&'static [&'static str], Told);
 
 /// Sessions are held over a store of each kind: one in memory, and that of a configuration.
-const OVER: [Over; 2] = [
+pub(crate) const OVER: [Over; 2] = [
     (
         &["session", ":memory:"],
         told!("a session over the store in memory"),
@@ -245,6 +245,126 @@ fn sessions_are_answered(rt: HostRuntime) -> Result<(), Fail> {
     rows.all()?;
     Ok(())
 }
+
+// ---- what is no message
+
+/// Messages under tag 9 whose types a client may not send.
+const UNKNOWN_TYPES: [&[u8]; 12] = [
+    b"\x00\x02\x01\x09",
+    b"\x00\x02\x03\x09",
+    b"\x00\x02\x07\x09",
+    b"\x00\x02\x08\x09",
+    b"\x00\x02\x09\x09",
+    b"\x00\x02\x0a\x09",
+    b"\x00\x02\x0b\x09",
+    b"\x00\x02\x0d\x09",
+    b"\x00\x02\x0f\x09",
+    b"\x00\x02\x11\x09",
+    b"\x00\x02\x12\x09",
+    b"\x00\x02\xff\x09",
+];
+
+/// What is said to each.
+const NOBODY_KNOWS: &[u8] = b"\x00\x13\x01\x09\x00\x0funknown message";
+
+/// Notes whether a session in which this message comes is told that nobody knows it.
+fn see_unknown(
+    rt: &impl Runtime,
+    rows: &mut Rows,
+    parts: &mut Partitions,
+    number: usize,
+    message: &[u8],
+) -> Result<(), AllocError> {
+    let session: Session<'_> = (
+        &[LINE, HELLO, message],
+        &[OUR_LINE, WELCOME, NOBODY_KNOWS],
+        0,
+        "",
+    );
+    see_session(rt, rows, parts, number, &session, &Sha1Scorer)
+}
+
+#[test]
+fn types_may_be_unknown(rt: HostRuntime) -> Result<(), Fail> {
+    let mut rows = Rows::new();
+    let mut parts = store(&rt, &mut rows)?;
+    for (number, message) in UNKNOWN_TYPES.into_iter().enumerate() {
+        see_unknown(&rt, &mut rows, &mut parts, number, message)?;
+    }
+    rows.all()?;
+    Ok(())
+}
+
+/// What is said to a hello under tag 7 that is none.
+const BAD_HELLO: &[u8] = b"\x00\x0f\x01\x07\x00\x0bbad message";
+
+/// A version of 1,025 bytes, one with a zero byte, and more codecs than the message has; then what ends the session: a
+/// size without a message, a size of no message, and a line of 1,025 bytes.
+const BAD_MESSAGES: [Session<'static>; 6] = [
+    (
+        &[
+            LINE,
+            HELLO,
+            b"\x04\x0a\x04\x07\x04\x01",
+            &[b'0'; 1_025],
+            b"\x00\x00\x00\x00\x00",
+        ],
+        &[OUR_LINE, WELCOME, BAD_HELLO],
+        0,
+        "",
+    ),
+    (
+        &[
+            LINE,
+            HELLO,
+            b"\x00\x0b\x04\x07\x00\x020\x00\x00\x00\x00\x00\x00",
+        ],
+        &[OUR_LINE, WELCOME, BAD_HELLO],
+        0,
+        "",
+    ),
+    (
+        &[
+            LINE,
+            HELLO,
+            b"\x00\x0d\x04\x07\x00\x0202\x00\x00\x00\x00\x05ab",
+        ],
+        &[OUR_LINE, WELCOME, BAD_HELLO],
+        0,
+        "",
+    ),
+    (
+        &[LINE, HELLO, b"\xff\xff"],
+        &[OUR_LINE, WELCOME],
+        5,
+        "venti: cut at 29\n",
+    ),
+    (
+        &[LINE, HELLO, b"\x00\x00"],
+        &[OUR_LINE, WELCOME],
+        5,
+        "venti: malformed at 27\n",
+    ),
+    (
+        &[b"venti-02-", &[b'x'; 1_015], b"\n"],
+        &[OUR_LINE],
+        5,
+        "venti: malformed at 1024\n",
+    ),
+];
+
+#[test]
+fn messages_may_be_bad(rt: HostRuntime) -> Result<(), Fail> {
+    let mut rows = Rows::new();
+    let mut parts = store(&rt, &mut rows)?;
+    for (number, session) in BAD_MESSAGES.iter().enumerate() {
+        see_session(&rt, &mut rows, &mut parts, number, session, &Sha1Scorer)?;
+    }
+    rows.all()?;
+    Ok(())
+}
+
+// ---- blocks
 
 /// A session in which the largest block is taken, and a larger one isn't.
 fn large_blocks(rt: &impl Runtime) -> Result<Talk, AllocError> {
@@ -336,79 +456,6 @@ fn pieces_leave_the_same(rt: HostRuntime) -> Result<(), Fail> {
     let mut parts = store(&rt, &mut rows)?;
     for (number, cut) in CUTS.into_iter().enumerate() {
         see_cut(&rt, &mut rows, &mut parts, number, cut)?;
-    }
-    rows.all()?;
-    Ok(())
-}
-
-/// A read that fails: what was taken is answered.
-fn see_failed_read(
-    rt: &impl Runtime,
-    rows: &mut Rows,
-    parts: &mut Partitions,
-    over: &Over,
-) -> Result<(), AllocError> {
-    let (words, told) = over;
-    let given = Given {
-        pieces: &[40],
-        failing: &[1],
-        ..Given::new(words, SAMPLE)
-    };
-    let wanted = Wanted {
-        status: 6,
-        output: &[OUR_LINE, WELCOME, WROTE_ABC],
-        complaint: b"venti: read fault\n",
-    };
-    run(rt, parts, &given)?.see(rows, 0, told, &wanted);
-    Ok(())
-}
-
-/// A write that fails: a front of the output stands.
-fn see_full_sink(
-    rt: &impl Runtime,
-    rows: &mut Rows,
-    parts: &mut Partitions,
-    over: &Over,
-) -> Result<(), AllocError> {
-    let (words, told) = over;
-    let given = Given {
-        room: 20,
-        ..Given::new(words, SAMPLE)
-    };
-    let ran = run(rt, parts, &given)?;
-    let wanted = Wanted {
-        status: 7,
-        output: &[&ran.output],
-        complaint: b"venti: write fault\n",
-    };
-    ran.see(rows, 1, told, &wanted);
-    rows.nth(
-        1,
-        "what went out is a front",
-        is_front(&ran.output, SAMPLE_OUTPUT),
-    );
-    Ok(())
-}
-
-/// Whether these bytes are a front of the parts, one behind another.
-fn is_front(bytes: &[u8], parts: &[&[u8]]) -> bool {
-    let mut left = bytes;
-    for part in parts {
-        match left.strip_prefix(*part) {
-            Some(behind) => left = behind,
-            None => return part.starts_with(left),
-        }
-    }
-    left.is_empty()
-}
-
-#[test]
-fn faults_leave_a_front(rt: HostRuntime) -> Result<(), Fail> {
-    let mut rows = Rows::new();
-    let mut parts = store(&rt, &mut rows)?;
-    for over in &OVER {
-        see_failed_read(&rt, &mut rows, &mut parts, over)?;
-        see_full_sink(&rt, &mut rows, &mut parts, over)?;
     }
     rows.all()?;
     Ok(())

@@ -4,7 +4,8 @@
 use std::alloc::{AllocError, Global};
 use std::test::Fail;
 use vt_host_memory::messages::{
-    GAVE_ABC, HELLO, LINE, OUR_LINE, READ_ABC, SYNC, SYNCED, WELCOME, WRITE_ABC, WROTE_ABC,
+    GAVE_ABC, HELLO, LINE, OUR_LINE, READ_ABC, READ_ABD, SYNC, SYNCED, WELCOME, WRITE_ABC,
+    WRITE_ABD, WROTE_ABC, WROTE_ABD,
 };
 use vt_host_memory::{
     Act, Bits, Commands, FILTERED, Given, INDEX, ONE_BUCKET, PARTITIONS, Partitions, Ran, Row,
@@ -13,16 +14,6 @@ use vt_host_memory::{
 };
 use vt_memdisk::CrashMode;
 use vt_rows::Rows;
-
-/// A write of `abd`, and a read of it.
-const WRITE_ABD: &[u8] = b"\x00\x09\x0e\x01\x0d\x00\x00\x00abd";
-
-/// The reply to that write, and a read by its score.
-const WROTE_ABD: &[u8] = b"\x00\x16\x0f\x01\
-\xcb\x4c\xc2\x8d\xf0\xfd\xbe\x0e\xcf\x9d\x96\x62\xe2\x94\xb1\x18\x09\x2a\x57\x35";
-
-const READ_ABD: &[u8] = b"\x00\x1a\x0c\x02\
-\xcb\x4c\xc2\x8d\xf0\xfd\xbe\x0e\xcf\x9d\x96\x62\xe2\x94\xb1\x18\x09\x2a\x57\x35\x0d\x00\x00\x03";
 
 /// The types of replies.
 const GIVEN: u8 = 13;

@@ -2,7 +2,7 @@
 
 use crate::bits::Bits;
 use crate::host::Runtime;
-use crate::partitions::Partitions;
+use crate::partitions::{Partitions, Twin};
 use crate::ran::Wanted;
 use crate::running::{Given, run};
 use crate::stores::{Commands, make};
@@ -42,19 +42,23 @@ pub enum Act {
     See(Told, &'static [Row]),
     /// From this place on these are the bytes of the partition of this name.
     Spoil(&'static str, u64, &'static [u8]),
+    /// From this place of its current frame on these are the bytes of this structure.
+    SpoilCurrent(Twin, u64, &'static [u8]),
+    /// The partition of this name has only its first so many bytes.
+    Cut(&'static str, u64),
 }
 
 /// Does these one behind another, where there is no partition yet, and notes what they come to.
 pub fn do_acts(rt: &impl Runtime, rows: &mut Rows, acts: &[Act]) -> Result<(), AllocError> {
     let mut parts = Partitions::new(rt.alloc());
     for next in acts {
-        act_next(rt, rows, &mut parts, next)?;
+        do_act(rt, rows, &mut parts, next)?;
     }
     Ok(())
 }
 
-/// Does this.
-fn act_next(
+/// Does this, and notes what it comes to.
+pub fn do_act(
     rt: &impl Runtime,
     rows: &mut Rows,
     parts: &mut Partitions,
@@ -66,6 +70,16 @@ fn act_next(
         Act::Spoil(name, at, bytes) => {
             let spoilt = parts.spoil(rt.alloc(), name, *at, bytes)?;
             rows.is("a partition has the places that are spoilt", spoilt);
+            Ok(())
+        }
+        Act::SpoilCurrent(twin, at, bytes) => {
+            let spoilt = parts.spoil_current(rt.alloc(), twin, *at, bytes)?;
+            rows.is("a frame has the places that are spoilt", spoilt);
+            Ok(())
+        }
+        Act::Cut(name, len) => {
+            let is_cut = parts.cut(rt.alloc(), name, *len)?;
+            rows.is("a partition is cut", is_cut);
             Ok(())
         }
     }

@@ -1,5 +1,7 @@
 //! What the clients of tests send, and what they are told: lines and messages of venti(6).
 
+use crate::bits::Bits;
+
 /// The client's line.
 pub const LINE: &[u8] = b"venti-02-test\n";
 
@@ -27,9 +29,33 @@ pub const READ_ABC: &[u8] = b"\x00\x1a\x0c\x02\
 /// What is replied to it.
 pub const GAVE_ABC: &[u8] = b"\x00\x05\x0d\x02abc";
 
+/// A write of `abd` as a block of type 13.
+pub const WRITE_ABD: &[u8] = b"\x00\x09\x0e\x01\x0d\x00\x00\x00abd";
+
+/// What is replied to it: the score of `abd`.
+pub const WROTE_ABD: &[u8] = b"\x00\x16\x0f\x01\
+\xcb\x4c\xc2\x8d\xf0\xfd\xbe\x0e\xcf\x9d\x96\x62\xe2\x94\xb1\x18\x09\x2a\x57\x35";
+
+/// A read of that score and type, of three bytes at most.
+pub const READ_ABD: &[u8] = b"\x00\x1a\x0c\x02\
+\xcb\x4c\xc2\x8d\xf0\xfd\xbe\x0e\xcf\x9d\x96\x62\xe2\x94\xb1\x18\x09\x2a\x57\x35\
+\x0d\x00\x00\x03";
+
+/// What is replied to it.
+pub const GAVE_ABD: &[u8] = b"\x00\x05\x0d\x02abd";
+
+/// What is replied to either read where there is no such block.
+pub const ABSENT: &[u8] = b"\x00\x11\x01\x02\x00\x0dno such block";
+
 pub const SYNC: &[u8] = b"\x00\x02\x10\x03";
 
 pub const SYNCED: &[u8] = b"\x00\x02\x11\x03";
 
 /// The end of a session, to which nothing is replied.
 pub const GOODBYE: &[u8] = b"\x00\x02\x06\x04";
+
+/// A session of two writes, a sync and a read.
+pub const SCRIPT: Bits = &[LINE, HELLO, WRITE_ABC, WRITE_ABD, SYNC, READ_ABC, GOODBYE];
+
+/// What is said in it.
+pub const SCRIPT_REPLIES: Bits = &[OUR_LINE, WELCOME, WROTE_ABC, WROTE_ABD, SYNCED, GAVE_ABC];

@@ -16,6 +16,18 @@ pub struct Partitions {
     parts: InMemory,
 }
 
+/// A structure on a partition that changes whole: two frames, and a selector behind them, whose first byte says by its
+/// lowest bit which of them is current.
+#[derive(Clone, Copy)]
+pub struct Twin {
+    /// The partition's name.
+    pub name: &'static str,
+    /// Where the first frame begins.
+    pub start: u64,
+    /// How many bytes a frame has.
+    pub frame: u64,
+}
+
 /// None.
 fn none(alloc: Global) -> InMemory {
     MemParts::new(alloc, Failing::new(Vec::new(alloc)))
@@ -90,6 +102,39 @@ impl Partitions {
         Ok(spoilt)
     }
 
+    /// From this place of its current frame on these are the bytes of this structure. Says whether it has such places.
+    pub fn spoil_current(
+        &mut self,
+        alloc: Global,
+        twin: &Twin,
+        at: u64,
+        bytes: &[u8],
+    ) -> Result<bool, AllocError> {
+        let name = Text::copy_of(alloc, twin.name.as_bytes())?;
+        let Ok(mut disk) = self.parts.part(alloc, &name, None) else {
+            return Ok(false);
+        };
+        let spoilt = match current_frame(&mut disk, twin) {
+            Some(start) => spoil_disk(&mut disk, start.saturating_add(at), bytes),
+            None => false,
+        };
+        self.parts.done(&name, disk);
+        Ok(spoilt)
+    }
+
+    /// The partition of this name has only its first so many bytes. Says whether it had more.
+    pub fn cut(&mut self, alloc: Global, name: &str, len: u64) -> Result<bool, AllocError> {
+        let name = Text::copy_of(alloc, name.as_bytes())?;
+        let Ok(mut disk) = self.parts.part(alloc, &name, None) else {
+            return Ok(false);
+        };
+        let front = front_of(alloc, &mut disk, len)?;
+        let mut short = MemDisk::failing(alloc, len, Vec::new(alloc))?;
+        let is_cut = len < disk.len() && spoil_disk(&mut short, 0, &front);
+        self.parts.done(&name, short);
+        Ok(is_cut)
+    }
+
     /// The partition of this name is as a crash leaves it. Says whether there is one.
     pub fn crash(
         &mut self,
@@ -112,4 +157,35 @@ fn spoil_disk<D: Disk>(disk: &mut D, at: u64, bytes: &[u8]) -> bool {
         return false;
     }
     disk.write_at(at, bytes).is_ok()
+}
+
+/// Where the current frame of a structure begins, if the disk has its selector.
+fn current_frame<D: Disk>(disk: &mut D, twin: &Twin) -> Option<u64> {
+    let second = twin.start.checked_add(twin.frame)?;
+    let mut selector = [0u8];
+    if !read_disk(disk, second.checked_add(twin.frame)?, &mut selector) {
+        return None;
+    }
+    if selector[0] % 2 == 0 {
+        Some(twin.start)
+    } else {
+        Some(second)
+    }
+}
+
+/// Reads the bytes of a disk from this place on, if it has such places.
+fn read_disk<D: Disk>(disk: &mut D, at: u64, bytes: &mut [u8]) -> bool {
+    if disk.len() < at || disk.len() - at < bytes.len() as u64 {
+        return false;
+    }
+    disk.read_at(at, bytes).is_ok()
+}
+
+/// The first so many bytes of a disk, or all of them.
+fn front_of<D: Disk>(alloc: Global, disk: &mut D, len: u64) -> Result<Vec<u8>, AllocError> {
+    let mut bytes = vec![in alloc; 0; disk.len().min(len) as usize]?;
+    if disk.read_at(0, &mut bytes).is_err() {
+        bytes.clear();
+    }
+    Ok(bytes)
 }

@@ -1,13 +1,14 @@
 //! Runs of the program.
 
 use crate::bits::joined;
+use crate::call_order::{CallOrder, NotedParts};
 use crate::host::{Lent, Runtime, confs, folder_named, run_lent, server_at, source_of, with_file};
 use crate::partitions::Partitions;
 use crate::ran::Ran;
 use std::alloc::{AllocError, Global};
 use vt_base::{Scorer, Sha1Scorer};
 use vt_dial::MemDialer;
-use vt_out::{MemFiles, MemFolders, MemSink};
+use vt_out::{MemFiles, MemFolders, MemSink, MemSource};
 
 /// What a run is given beside partitions and folders.
 #[derive(Clone, Copy)]
@@ -22,6 +23,8 @@ pub struct Given<'a> {
     pub failing: &'a [u64],
     /// How many bytes the sink takes.
     pub room: usize,
+    /// The calls by which bytes go to the sink that fail, numbered from 0.
+    pub failing_puts: &'a [u64],
     /// A file beside the configurations of tests.
     pub file: Option<(&'a str, &'a [u8])>,
     /// The server that can be dialled, if there is one.
@@ -48,6 +51,7 @@ impl<'a> Given<'a> {
             pieces: &[],
             failing: &[],
             room: 1 << 16,
+            failing_puts: &[],
             file: None,
             server: None,
         }
@@ -98,17 +102,49 @@ fn run_all<C: Scorer + Sync>(
     scorer: &C,
 ) -> Result<Ran, AllocError> {
     let alloc = rt.alloc();
-    let input = joined(alloc, given.input)?;
-    let lent = Lent {
-        source: source_of(alloc, input, given.pieces, given.failing)?,
-        sink: MemSink::new(alloc, given.room)?,
-        files: files_of(alloc, given.file)?,
-        dialer: dialer_of(alloc, given.server)?,
-        folders,
-    };
+    let lent = lent_of(alloc, folders, given)?;
     let (ran, back) = run_lent(rt, given.words, lent, parts.take(alloc), scorer)?;
     parts.put_back(back);
     Ok(ran)
+}
+
+/// Runs the program over these partitions, and notes the order of their calls.
+pub fn run_noted(
+    rt: &impl Runtime,
+    parts: &mut Partitions,
+    order: &CallOrder,
+    given: &Given<'_>,
+) -> Result<Ran, AllocError> {
+    let alloc = rt.alloc();
+    let lent = lent_of(alloc, no_folder(alloc)?, given)?;
+    let noted = NotedParts {
+        parts: parts.take(alloc),
+        order,
+    };
+    let (ran, back) = run_lent(rt, given.words, lent, noted, &Sha1Scorer)?;
+    let NotedParts {
+        parts: back,
+        order: _,
+    } = back;
+    parts.put_back(back);
+    Ok(ran)
+}
+
+/// What the program is lent of this, and these folders.
+fn lent_of(
+    alloc: Global,
+    folders: MemFolders,
+    given: &Given<'_>,
+) -> Result<Lent<MemSource, MemSink>, AllocError> {
+    let input = joined(alloc, given.input)?;
+    let failing_puts = Vec::from_slice(alloc, given.failing_puts)?;
+    Ok(Lent {
+        source: source_of(alloc, input, given.pieces, given.failing)?,
+        sink: MemSink::new(alloc, given.room)?.failing(failing_puts),
+        files: files_of(alloc, given.file)?,
+        dialer: dialer_of(alloc, given.server)?,
+        folders,
+    })
 }
 
 /// The configurations of tests, and this file.

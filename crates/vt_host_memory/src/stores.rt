@@ -1,8 +1,9 @@
 //! Stores that tests make.
 
+use crate::call_order::CallOrder;
 use crate::host::Runtime;
 use crate::partitions::Partitions;
-use crate::running::{Given, run};
+use crate::running::{Given, run, run_noted};
 use std::alloc::AllocError;
 use vt_rows::Rows;
 
@@ -109,21 +110,22 @@ pub fn all_but(
     let mut parts = Partitions::failing(rt.alloc(), first, span)?;
     for (other, (name, words)) in FILTERED.iter().enumerate() {
         if other != number {
-            add_made(rt, rows, &mut parts, name, words)?;
+            let alone = Partitions::new(rt.alloc());
+            add_made(rt, rows, &mut parts, alone, name, words)?;
         }
     }
     Ok(parts)
 }
 
-/// The partition of this name, which this command makes, is one of these.
+/// The partition of this name, which this command makes among others alone, is one of these.
 fn add_made(
     rt: &impl Runtime,
     rows: &mut Rows,
     parts: &mut Partitions,
+    mut alone: Partitions,
     name: &str,
     words: &[&str],
 ) -> Result<(), AllocError> {
-    let mut alone = Partitions::new(rt.alloc());
     let status = status_of(rt, &mut alone, words)?;
     rows.is("a command that makes a partition", status == 0);
     let is_there = parts.take_from(rt.alloc(), &mut alone, name)?;
@@ -151,4 +153,69 @@ pub fn failing_store(
         return Ok(None);
     }
     Ok(Some(parts))
+}
+
+// ---- the order of calls
+
+/// The names of the partitions of a small store.
+pub const NAMES: [&str; 3] = ["a.part", "i.part", "b.part"];
+
+/// A store of one arena of 32 KiB, four buckets and a filter: what makes each of `NAMES`, in their order, and then what
+/// puts the section to use.
+pub const SMALL_STORE: Commands = &[
+    &["fmtarenas", "a.part", "a0", "40960", "32768"],
+    &["fmtisect", "i.part", "i0", "92160"],
+    &["fmtbloom", "b.part", "8192", "8"],
+    INDEX,
+];
+
+/// The most calls whose order is noted.
+const NOTED: usize = 256;
+
+/// In which order calls come of the partitions of a new small store and of a run over it, which ends well; and how many
+/// of them make the store.
+pub fn noted(
+    rt: &impl Runtime,
+    rows: &mut Rows,
+    given: &Given<'_>,
+) -> Result<(CallOrder, usize), AllocError> {
+    let order = CallOrder::new(rt.alloc(), NOTED)?;
+    let mut parts = Partitions::new(rt.alloc());
+    for words in SMALL_STORE {
+        note(rt, rows, &mut parts, &order, &Given::new(words, &[]))?;
+    }
+    let made = order.made();
+    note(rt, rows, &mut parts, &order, given)?;
+    rows.is("the order of all calls is noted", order.made() <= NOTED);
+    Ok((order, made))
+}
+
+/// A run whose calls are noted ends well.
+fn note(
+    rt: &impl Runtime,
+    rows: &mut Rows,
+    parts: &mut Partitions,
+    order: &CallOrder,
+    given: &Given<'_>,
+) -> Result<(), AllocError> {
+    let ran = run_noted(rt, parts, order, given)?;
+    rows.is("a run whose calls are noted", ran.status == 0);
+    Ok(())
+}
+
+/// A small store. Of each of `NAMES` so many calls fail, from the one on that this list has for it: reads, writes and
+/// syncs are numbered together, from the partition's first call on, which is 0.
+pub fn store_failing(
+    rt: &impl Runtime,
+    rows: &mut Rows,
+    firsts: &[u64],
+    span: u64,
+) -> Result<Partitions, AllocError> {
+    let mut parts = Partitions::new(rt.alloc());
+    for ((name, words), first) in NAMES.iter().zip(SMALL_STORE).zip(firsts) {
+        let alone = Partitions::failing(rt.alloc(), *first, span)?;
+        add_made(rt, rows, &mut parts, alone, name, words)?;
+    }
+    make(rt, rows, &mut parts, &[INDEX])?;
+    Ok(parts)
 }
