@@ -2,7 +2,7 @@
 use Rattle.std.specs.Prelude.{ℕ, ◌==◌, if◌then◌else◌, List, [], codes, decimal}
 use Rattle.hex.specs.Hex.{encode_lower}
 use Rattle.vt_base.specs.declared.mount.MountField.{MountField}
-use Rattle.vt_base.specs.declared.mount.MountField.TheVariants.{Version, Number, Sealed, Used, Clumps, ArenaSize, Count, State, First, Total, Mark, M, K, Crowd, Arenas, Buckets}
+use Rattle.vt_base.specs.declared.mount.MountField.TheVariants.{Version, Number, Sealed, Used, Last, Clumps, ArenaSize, Count, State, First, Total, Mark, M, K, Crowd, Arenas, Buckets}
 use Rattle.vt_base.specs.declared.why.FieldValue.{FieldValue}
 use Rattle.vt_base.specs.declared.why.FieldValue.TheVariants as value
 
@@ -12,6 +12,7 @@ field_name Version = codes "version"
 field_name Number = codes "number"
 field_name Sealed = codes "sealed"
 field_name Used = codes "used"
+field_name Last = codes "last"
 field_name Clumps = codes "clumps"
 field_name ArenaSize = codes "arenasize"
 field_name Count = codes "count"

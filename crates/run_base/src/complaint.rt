@@ -246,6 +246,7 @@ fn name_of<'a>(field: MountField) -> &'a [u8]
         MountField::Number => b"number",
         MountField::Sealed => b"sealed",
         MountField::Used => b"used",
+        MountField::Last => b"last",
         MountField::Clumps => b"clumps",
         MountField::ArenaSize => b"arenasize",
         MountField::Count => b"count",

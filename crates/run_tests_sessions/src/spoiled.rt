@@ -15,7 +15,7 @@ const SESSION: &[&str] = &["session", "v.conf"];
 // ---- arenas by their version
 
 /// A version that no arena has, and what is told of it.
-const OTHER_VERSION: &str = "venti: a.part: version is 3, want 1\n";
+const OTHER_VERSION: &str = "venti: a.part: version is 3, want 2\n";
 
 /// An arena's clumps have all the room behind its head, and one of them an entry; what is told of that.
 const NO_ROOM: &str = "venti: a.part: used is 8217, want 8192\n";

@@ -207,7 +207,7 @@ module _ (score_of : List ℕ → List ℕ) (header block : List ℕ) (len : len
 
 -- at its place stands the clump of a block
 pub begins_there : (score_of : List ℕ → List ℕ) (region : Region) (old : Content) (before behind : List Stored) (s : Stored) (file bytes : List ℕ) (offset : ℕ)
-    → IsArenaContent score_of region.len old → HasBlocks region old.stored file → old.stored ≡ before ++ s ∷ behind → offset ≡ offset_of before
+    → IsArenaContent score_of region.len old → HasBlocks region old file → old.stored ≡ before ++ s ∷ behind → offset ≡ offset_of old.version before
     → bytes ≡ clump_at region offset file → BeginsWithClump score_of s bytes
 begins_there score_of region old before behind s file bytes offset content blocks split offset_is is = record {
   stored = stored score_of region old before behind s file content blocks split;

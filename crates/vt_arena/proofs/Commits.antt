@@ -1,8 +1,8 @@
 -- The head's change of a commit, call by call, and what a crash leaves.
-use Rattle.std.proofs.Common.{◌≡◌, ◌⊎◌, inl, inr, ⊎_elim, ℕ, ◌+◌, ◌-◌, ◌≤◌, Bool, true, false, is_some, List, [], ◌∷◌, ◌++◌, length, take, map, Option, Some, None, Ok, Err, Result, refl, sym, ◌∙◌, ap, subst, arith, length-append, append-nil}
-use Rattle.std.specs.Prelude.{IsSome, IfOk, OnOk, ◌↔◌, replicate}
+use Rattle.std.proofs.Common.{◌≡◌, ◌⊎◌, inl, inr, ⊎_elim, ℕ, ◌+◌, ◌≤◌, ◌==◌, Bool, true, false, is_some, List, [], ◌∷◌, ◌++◌, length, map, Option, Some, None, Ok, Err, Result, refl, sym, ◌∙◌, ap, subst, arith, length-append, append-nil}
+use Rattle.std.specs.Prelude.{All, IsSome, IsTrue, IfOk, OnOk, ◌↔◌, if◌then◌else◌}
 use Rattle.std.proofs.lemmas.Bool.{cases_eq}
-use Rattle.std.proofs.lemmas.List.{take_all, take_at, length-map}
+use Rattle.std.proofs.lemmas.List.{take_all, length-map}
 use Rattle.vt_disk.specs.declared.region.Region.{Region}
 use Rattle.vt_disk.specs.Disk.{SameBut, ChangesAt, Only, part}
 use Rattle.vt_twin.specs.declared.step.Step.{Step}
@@ -16,24 +16,55 @@ use Rattle.vt_twin.proofs.Sound.{sound_moved}
 use Rattle.vt_twin.proofs.Changes.{none_made, begun_made, is_changing}
 use Rattle.vt_twin.proofs.Steps.{sound_gives}
 use Rattle.vt_clump.specs.declared.packed.Packed.{Packed}
-use Rattle.vt_clump.specs.Spelling.{Stored, clump_bytes}
+use Rattle.vt_clump.specs.Spelling.{Stored, IsStoredBlock}
 use Rattle.vt_clump.specs.Clumps.{stored_of}
-use Rattle.vt_model.specs.declared.TheConstants.{ARENA_HEAD_LEN}
-use Rattle.vt_arena.specs.declared.TheConstants.{FRAME_LEN, FIELDS_LEN}
-use Rattle.vt_arena.specs.declared.head.ArenaHead.{ArenaHead}
+use Rattle.vt_model.specs.declared.TheConstants.{ARENA_HEAD_LEN, WRITTEN_VERSION}
+use Rattle.vt_arena.specs.declared.TheConstants.{FRAME_LEN}
 use Rattle.vt_arena.specs.Arena.{ArenaState, added_by_commit, next_content, pieces, after_last, content_after, HeadAdvances, PieceAdvances}
-use Rattle.vt_arena.specs.Heads.{fields_of, head_frame}
-use Rattle.vt_arena.specs.Layout.{Content, IsArenaContent, IsArena, HasBlocks, BytesStandAt, InHead, clumps_of, directory_of, clumps_place, directory_place, head_place, used_of, arena_head}
-use Rattle.vt_arena.specs.Places.{directory_room, arena_room}
+use Rattle.vt_arena.specs.Heads.{fields_of, head_frame, own_fields}
+use Rattle.vt_arena.specs.Layout.{Content, IsArenaContent, IsArena, HasBlocks, BytesStandAt, ClumpsStandAt, InHead, directory_of, clumps_place, directory_place, has_directory, head_place, used_of, arena_head}
+use Rattle.vt_arena.specs.Places.{IsVersion, arena_room, entries_len}
 use Rattle.vt_arena.specs.Sound.{IsSoundArena, HasPieces, GivesOldOrNext, HasBegunSelector, clumps_made}
-use Rattle.vt_arena.proofs.Layouts.{stands-sum, stands_same, flat_map-append, directory-append, length-clumps, length-directory, content_fits, All-stored}
+use Rattle.vt_arena.proofs.Layouts.{stands-sum, stands_same, directory-append, length-directory, content_fits, All-stored, all_take}
+use Rattle.vt_arena.proofs.Stage.{some_test}
+use Rattle.vt_arena.proofs.Standing.{stand-append, stand_same}
+use Rattle.vt_arena.proofs.Unique.{frame_fields, version_small}
 
--- the fields of a frame
-pub length-fields : (h : ArenaHead) → length h.chain.0 ≡ 20 → length (fields_of h) ≡ FIELDS_LEN
-length-fields h chain = omega (arith, chain)
+module _ (score_of : List ℕ → List ℕ) (a : ArenaState) (region : Region) (old : Content) (read : List ℕ) (images : List ℕ → Type 0)
+    (sound : IsSoundArena score_of a region old read images) where
+  -- blocks that are added are of the version that is written
+  added_version : (added_by_commit a ≡ []) ⊎ ((next_content a old).version ≡ WRITTEN_VERSION)
+  added_version = by a.staged
+    where
+      by : (ps : List Packed) → (map stored_of ps ≡ []) ⊎ ((if length ps == 0 then old.version else WRITTEN_VERSION) ≡ WRITTEN_VERSION)
+      by [] = inl refl
+      by (q ∷ ps) = inr (ap (λ (b : Bool). if b then old.version else WRITTEN_VERSION) (some_test (length ps)))
 
-pub frame_fields : (h : ArenaHead) → length h.chain.0 ≡ 20 → take FIELDS_LEN (head_frame h) ≡ fields_of h
-frame_fields h chain = take_at (fields_of h) (replicate (FRAME_LEN - FIELDS_LEN) 0) FIELDS_LEN (length-fields h chain)
+  -- what the blocks take in the next content
+  pub added_used : used_of WRITTEN_VERSION (added_by_commit a) ≡ used_of (next_content a old).version (added_by_commit a)
+  added_used = ⊎_elim
+      (λ (none : added_by_commit a ≡ []). ap (used_of WRITTEN_VERSION) none ∙ ap (used_of (next_content a old).version) (sym none))
+      (λ (one : (next_content a old).version ≡ WRITTEN_VERSION). ap (λ (v : ℕ). used_of v (added_by_commit a)) (sym one))
+      added_version
+
+  pub old_used : used_of old.version old.stored ≡ used_of (next_content a old).version old.stored
+  old_used = ⊎_elim
+      (λ (none : old.stored ≡ []). ap (used_of old.version) none ∙ ap (used_of (next_content a old).version) (sym none))
+      (λ (same : (next_content a old).version ≡ old.version). ap (λ (v : ℕ). used_of v old.stored) (sym same))
+      sound.version
+
+  -- clumps stand there as they stood
+  added_stand : (p : ℕ) (file : List ℕ) → ClumpsStandAt WRITTEN_VERSION p (added_by_commit a) file → ClumpsStandAt (next_content a old).version p (added_by_commit a) file
+  added_stand p file stand = ⊎_elim
+      (λ (none : added_by_commit a ≡ []). subst (λ (l : List Stored). ClumpsStandAt (next_content a old).version p l file) (sym none) tt)
+      (λ (one : (next_content a old).version ≡ WRITTEN_VERSION). subst (λ (v : ℕ). ClumpsStandAt v p (added_by_commit a) file) (sym one) stand)
+      added_version
+
+  old_stand : (p : ℕ) (file : List ℕ) → ClumpsStandAt old.version p old.stored file → ClumpsStandAt (next_content a old).version p old.stored file
+  old_stand p file stand = ⊎_elim
+      (λ (none : old.stored ≡ []). subst (λ (l : List Stored). ClumpsStandAt (next_content a old).version p l file) (sym none) tt)
+      (λ (same : (next_content a old).version ≡ old.version). subst (λ (v : ℕ). ClumpsStandAt v p old.stored file) (sym same) stand)
+      sound.version
 
 -- old and new clumps, old and new entries
 module _ (score_of : List ℕ → List ℕ) (a : ArenaState) (region : Region) (old : Content) (read : List ℕ) (images : List ℕ → Type 0)
@@ -51,25 +82,48 @@ module _ (score_of : List ℕ → List ℕ) (a : ArenaState) (region : Region) (
       at [] is = subst (λ (ps : List Packed). BytesStandAt (directory_place region (length old.stored + length a.staged)) (directory_of (map stored_of ps)) file) (sym is) refl
       at (p ∷ ps) is = made.directory (omega (arith, written, ap (λ (l : List Packed). length l) is))
 
-  pub joined : (file : List ℕ) → HasBlocks region old.stored file → HasPieces a region old file → HasBlocks region (next_content a old).stored file
-  joined file blocks made =
-      let more : List Stored = added_by_commit a in
-      let fits = content_fits score_of region.len (next_content a old) sound.next_content_is in
-      let counted : length (old.stored ++ more) ≡ length old.stored + length more = length-append old.stored more in
-      let clumps_len : length (clumps_of old.stored) ≡ used_of old.stored = length-clumps score_of old.stored sound.content.stored in
-      let more_len : length (directory_of more) ≡ directory_room (length more) =
-      length-directory score_of more (All-stored score_of a.staged sound.packed) in
-      let clumps : BytesStandAt (clumps_place region old.stored) (clumps_of more) file =
-      subst (λ (l : List Stored). BytesStandAt (clumps_place region old.stored) (clumps_of l) file) all_clumps made.clumps in
-      record {
-        clumps = subst (λ (l : List ℕ). BytesStandAt (region.start + ARENA_HEAD_LEN) l file) (sym (flat_map-append clump_bytes old.stored more))
-            (stands-sum (region.start + ARENA_HEAD_LEN) (clumps_of old.stored) (clumps_of more) file blocks.clumps
-            (subst (λ (at : ℕ). BytesStandAt at (clumps_of more) file) (omega (arith, clumps_len)) clumps));
-        directory = subst (λ (l : List ℕ). BytesStandAt (directory_place region (length (old.stored ++ more))) l file) (sym (directory-append old.stored more))
-            (subst (λ (k : ℕ). BytesStandAt (directory_place region k) (directory_of more ++ directory_of old.stored) file) (sym counted)
-            (stands-sum (directory_place region (length old.stored + length more)) (directory_of more) (directory_of old.stored) file (entries file made)
-            (subst (λ (at : ℕ). BytesStandAt at (directory_of old.stored) file) (omega (arith, more_len, fits, counted)) blocks.directory)));
-      }
+  -- old and new clumps
+  clumps_joined : (file : List ℕ) → HasBlocks region old file → HasPieces a region old file
+      → ClumpsStandAt (next_content a old).version (region.start + ARENA_HEAD_LEN) (next_content a old).stored file
+  clumps_joined file blocks made =
+      let more : ClumpsStandAt WRITTEN_VERSION (clumps_place region old.version old.stored) (added_by_commit a) file =
+      subst (λ (l : List Stored). ClumpsStandAt WRITTEN_VERSION (clumps_place region old.version old.stored) l file) all_clumps made.clumps in
+      stand-append (next_content a old).version (region.start + ARENA_HEAD_LEN) old.stored (added_by_commit a) file
+      (old_stand score_of a region old read images sound (region.start + ARENA_HEAD_LEN) file blocks.clumps)
+      (added_stand score_of a region old read images sound (clumps_place region (next_content a old).version old.stored) file
+      (subst (λ (n : ℕ). ClumpsStandAt WRITTEN_VERSION (region.start + ARENA_HEAD_LEN + n) (added_by_commit a) file) (old_used score_of a region old read images sound) more))
+
+  -- old and new entries, where there are any
+  entries_joined : (file : List ℕ) → HasBlocks region old file → HasPieces a region old file → IsTrue (has_directory (next_content a old))
+      → BytesStandAt (directory_place region (length (next_content a old).stored)) (directory_of (next_content a old).stored) file
+  entries_joined file blocks made there =
+      subst (λ (l : List ℕ). BytesStandAt (directory_place region (length (old.stored ++ added_by_commit a))) l file) (sym (directory-append old.stored (added_by_commit a)))
+      (subst (λ (k : ℕ). BytesStandAt (directory_place region k) (directory_of (added_by_commit a) ++ directory_of old.stored) file) (sym counted)
+      (stands-sum (directory_place region (length old.stored + length (added_by_commit a))) (directory_of (added_by_commit a)) (directory_of old.stored) file (entries file made)
+      (subst (λ (at : ℕ). BytesStandAt at (directory_of old.stored) file) (omega (arith, more_len, fits, counted))
+      (⊎_elim
+      (λ (none : old.stored ≡ []). subst (λ (l : List Stored). BytesStandAt (directory_place region (length l)) (directory_of l) file) (sym none) refl)
+      (λ (on : IsTrue (has_directory old)). blocks.directory on)
+      (sound.grows there)))))
+    where
+      counted : length (old.stored ++ added_by_commit a) ≡ length old.stored + length (added_by_commit a)
+      counted = length-append old.stored (added_by_commit a)
+
+      fits : used_of (next_content a old).version (old.stored ++ added_by_commit a) + entries_len (length (old.stored ++ added_by_commit a)) ≤ arena_room region.len
+      fits = content_fits score_of region.len (next_content a old) sound.next_content_is
+
+      more_len : length (directory_of (added_by_commit a)) ≡ entries_len (length (added_by_commit a))
+      more_len = length-directory score_of (added_by_commit a) (All-stored score_of a.staged sound.packed)
+
+  pub joined : (file : List ℕ) → HasBlocks region old file → HasPieces a region old file → HasBlocks region (next_content a old) file
+  joined file blocks made = record { clumps = clumps_joined file blocks made; directory = entries_joined file blocks made }
+
+-- the fields of the frame that the head changes to
+next_fields : (score_of : List ℕ → List ℕ) (a : ArenaState) (region : Region) (old : Content) (read : List ℕ) (images : List ℕ → Type 0)
+    → IsSoundArena score_of a region old read images → own_fields (head_frame a.next) ≡ fields_of a.next
+next_fields score_of a region old read images sound =
+    let same : (next_content a old).version ≡ a.next.version = λ i. (sym sound.next i).version in
+    frame_fields a.next (version_small a.next.version (subst IsVersion same sound.next_content_is.version)) sound.chain
 
 -- What a crash between two calls leaves.
 module _ (score_of : List ℕ → List ℕ) (a : ArenaState) (region : Region) (old : Content) (read : List ℕ) (images : List ℕ → Type 0)
@@ -80,7 +134,7 @@ module _ (score_of : List ℕ → List ℕ) (a : ArenaState) (region : Region) (
   pub gives_old : current_frame region a.twin.frame_len c ≡ sound.frame → IsArena score_of region a.number old c
   gives_old is = record {
     content = sound.content;
-    head = ap (λ (l : List ℕ). take FIELDS_LEN l) (at_frame is) ∙ sound.fields ∙ ap fields_of sound.head;
+    head = ap own_fields (at_frame is) ∙ sound.fields ∙ ap fields_of sound.head;
     blocks = sound.kept c left;
   }
 
@@ -88,7 +142,7 @@ module _ (score_of : List ℕ → List ℕ) (a : ArenaState) (region : Region) (
   gives_next made is =
       let begun = sound.begun (is_changing a.twin (omega (arith, made))) in record {
         content = sound.next_content_is;
-        head = ap (λ (l : List ℕ). take FIELDS_LEN l) (at_frame is ∙ begun.1) ∙ frame_fields a.next sound.chain ∙ ap fields_of sound.next;
+        head = ap own_fields (at_frame is ∙ begun.1) ∙ next_fields score_of a region old read images sound ∙ ap fields_of sound.next;
         blocks = joined score_of a region old read images sound begun.0 c (sound.kept c left) (sound.synced made c left);
       }
 
@@ -112,7 +166,9 @@ begin_sound score_of a region old read images rest written sound = record {
   chain = sound.chain;
   packed = sound.packed;
   content = sound.content;
-  next_content_is = record { stored = sound.next_content_is.stored; fit = sound.next_content_is.fit };
+  next_content_is = record { version = sound.next_content_is.version; stored = sound.next_content_is.stored; linked = sound.next_content_is.linked; fit = sound.next_content_is.fit };
+  version = sound.version;
+  grows = sound.grows;
   begun = λ some. (written, refl);
   frame = sound.frame;
   twin = record {
@@ -133,7 +189,7 @@ begin_sound score_of a region old read images rest written sound = record {
 module _ (score_of : List ℕ → List ℕ) (a : ArenaState) (region : Region) (old : Content) (read reads : List ℕ) (before after : List ℕ → Type 0)
     (least : 32768 ≤ region.len) (changes : ChangesAt (InHead region) before after) (same : SameBut (InHead region) read reads)
     (sound : IsSoundArena score_of a region old read before) where
-  fits : used_of (next_content a old).stored + directory_room (length (next_content a old).stored) ≤ arena_room region.len
+  fits : used_of (next_content a old).version (next_content a old).stored + entries_len (length (next_content a old).stored) ≤ arena_room region.len
   fits = content_fits score_of region.len (next_content a old) sound.next_content_is
 
   counted : length (old.stored ++ added_by_commit a) ≡ length old.stored + length (added_by_commit a)
@@ -142,17 +198,22 @@ module _ (score_of : List ℕ → List ℕ) (a : ArenaState) (region : Region) (
   stays : (place : ℕ) (bytes file files : List ℕ) → region.start + ARENA_HEAD_LEN ≤ place → SameBut (InHead region) file files → BytesStandAt place bytes file → BytesStandAt place bytes files
   stays place bytes file files behind but = stands_same (InHead region) place bytes file files but (λ i above below here. omega (arith, above, behind, here.1))
 
-  blocks_after : (c : List ℕ) → after c → HasBlocks region old.stored c
+  clumps_stay : (v place : ℕ) (stored : List Stored) (file files : List ℕ) → All (IsStoredBlock score_of) stored → region.start + ARENA_HEAD_LEN ≤ place → SameBut (InHead region) file files
+      → ClumpsStandAt v place stored file → ClumpsStandAt v place stored files
+  clumps_stay v place stored file files all behind but = stand_same score_of (InHead region) v place stored file files all but (λ i above below here. omega (arith, above, behind, here.1))
+
+  blocks_after : (c : List ℕ) → after c → HasBlocks region old c
   blocks_after c left =
       let from = changes c left in
       let blocks = sound.kept from.0 from.1 in record {
-        clumps = stays (region.start + ARENA_HEAD_LEN) (clumps_of old.stored) from.0 c (omega arith) from.2 blocks.clumps;
-        directory = stays (directory_place region (length old.stored)) (directory_of old.stored) from.0 c (omega (arith, fits, counted, least)) from.2 blocks.directory;
+        clumps = clumps_stay old.version (region.start + ARENA_HEAD_LEN) old.stored from.0 c sound.content.stored (omega arith) from.2 blocks.clumps;
+        directory = λ there. stays (directory_place region (length old.stored)) (directory_of old.stored) from.0 c (omega (arith, fits, counted, least)) from.2 (blocks.directory there);
       }
 
   pieces_after : (file files : List ℕ) → SameBut (InHead region) file files → HasPieces a region old file → HasPieces a region old files
   pieces_after file files but made = record {
-    clumps = stays (clumps_place region old.stored) (clumps_of (clumps_made a)) file files (omega arith) but made.clumps;
+    clumps = clumps_stay WRITTEN_VERSION (clumps_place region old.version old.stored) (clumps_made a) file files
+        (all_take (IsStoredBlock score_of) a.written (added_by_commit a) (All-stored score_of a.staged sound.packed)) (omega arith) but made.clumps;
     directory = λ written.
         stays (directory_place region (length old.stored + length a.staged)) (directory_of (added_by_commit a)) file files
         (omega (arith, fits, counted, least, length-map a.staged stored_of)) but (made.directory written);
@@ -177,7 +238,9 @@ module _ (score_of : List ℕ → List ℕ) (a : ArenaState) (region : Region) (
     chain = sound.chain;
     packed = sound.packed;
     content = sound.content;
-    next_content_is = record { stored = sound.next_content_is.stored; fit = sound.next_content_is.fit };
+    next_content_is = record { version = sound.next_content_is.version; stored = sound.next_content_is.stored; linked = sound.next_content_is.linked; fit = sound.next_content_is.fit };
+    version = sound.version;
+    grows = sound.grows;
     begun = λ still. let begun = sound.begun some in (begun.0, next_is ∙ begun.1);
     frame = sound.frame;
     twin = twin;
@@ -187,7 +250,7 @@ module _ (score_of : List ℕ → List ℕ) (a : ArenaState) (region : Region) (
     synced = λ made c left. ⊎_elim
         (λ was. let it = synced_after was c left in record { clumps = it.clumps; directory = it.directory })
         (λ settled. let is = settled c left in record {
-          clumps = ap (λ (l : List ℕ). part (clumps_place region old.stored) (length (clumps_of (clumps_made a))) l) is ∙ read_after.clumps;
+          clumps = subst (λ (l : List ℕ). ClumpsStandAt WRITTEN_VERSION (clumps_place region old.version old.stored) (clumps_made a) l) (sym is) read_after.clumps;
           directory = λ written.
               ap (λ (l : List ℕ). part (directory_place region (length old.stored + length a.staged)) (length (directory_of (added_by_commit a))) l) is ∙ read_after.directory written;
         })
@@ -203,18 +266,20 @@ module _ (score_of : List ℕ → List ℕ) (a : ArenaState) (region : Region) (
         len = sound.len;
         frame_len = sound.frame_len;
         head = sound.next;
-        next = sound.next ∙ (λ i. arena_head score_of a.number (record { sealed = a.next.sealed; stored = sym all i }));
+        next = sound.next ∙ (λ i. arena_head score_of a.number (record { version = (next_content a old).version; sealed = a.next.sealed; stored = sym all i }));
         chain = sound.chain;
         packed = λ j d below. absurd (omega (arith, below));
         content = sound.next_content_is;
-        next_content_is = subst (λ (l : List Stored). IsArenaContent score_of region.len (record { sealed = a.next.sealed; stored = l })) (sym all)
-            (record { stored = sound.next_content_is.stored; fit = sound.next_content_is.fit });
+        next_content_is = subst (λ (l : List Stored). IsArenaContent score_of region.len (record { version = (next_content a old).version; sealed = a.next.sealed; stored = l })) (sym all)
+            (record { version = sound.next_content_is.version; stored = sound.next_content_is.stored; linked = sound.next_content_is.linked; fit = sound.next_content_is.fit });
+        version = inr refl;
+        grows = λ there. inr there;
         begun = λ some. cc;
         frame = next_frame a.twin;
         twin = twin;
-        fields = ap (λ (l : List ℕ). take FIELDS_LEN l) begun.1 ∙ frame_fields a.next sound.chain;
+        fields = ap own_fields begun.1 ∙ next_fields score_of a region old read before sound;
         kept = λ c left. joined score_of a region old read before sound begun.0 c (blocks_after c left) (synced_after made c left);
-        written = record { clumps = refl; directory = λ written. absurd (omega (arith, written)) };
+        written = record { clumps = tt; directory = λ written. absurd (omega (arith, written)) };
         synced = λ calls. absurd (omega (arith, calls));
       }
 

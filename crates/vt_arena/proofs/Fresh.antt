@@ -1,6 +1,6 @@
 -- A settled arena is sound for a fresh one.
-use Rattle.std.proofs.Common.{◌≡◌, ℕ, ◌+◌, ◌*◌, ◌<◌, ◌≤◌, List, [], ◌++◌, refl, sym, ◌∙◌, ap, subst, arith, append-nil}
-use Rattle.std.specs.Prelude.{slice_index}
+use Rattle.std.proofs.Common.{◌≡◌, inr, ℕ, ◌+◌, ◌*◌, ◌<◌, ◌≤◌, List, [], ◌++◌, refl, sym, ◌∙◌, ap, subst, arith, append-nil}
+use Rattle.std.specs.Prelude.{IsTrue, slice_index}
 use Rattle.std.proofs.Math.Nat.{mod-lt}
 use Rattle.vt_disk.specs.declared.region.Region.{Region}
 use Rattle.vt_disk.specs.Disk.{SameBut}
@@ -13,7 +13,7 @@ use Rattle.vt_arena.specs.declared.head.ArenaHead.{ArenaHead}
 use Rattle.vt_arena.specs.Arena.{fresh_arena}
 use Rattle.vt_arena.specs.Faults.{CanStand}
 use Rattle.vt_arena.specs.Heads.{fields_of}
-use Rattle.vt_arena.specs.Layout.{Content, IsArenaContent, IsArena, arena_head}
+use Rattle.vt_arena.specs.Layout.{Content, IsArenaContent, IsArena, arena_head, has_directory}
 use Rattle.vt_arena.specs.Sound.{IsRegion, IsSettled, IsSoundArena}
 use Rattle.vt_arena.proofs.Regions.{frame_in_region, named_in_region, blocks_in_region}
 
@@ -39,6 +39,8 @@ fresh_sound score_of region size number current old head read images is settled 
   packed = λ k d below. absurd (omega (arith, below));
   content = arena.content;
   next_content_is = subst (λ (c : Content). IsArenaContent score_of region.len c) same arena.content;
+  version = inr refl;
+  grows = λ there. inr (subst (λ (c : Content). IsTrue (has_directory c)) (sym same) there);
   begun = λ some. cc;
   frame = current_frame region FRAME_LEN read;
   twin = record {
@@ -52,7 +54,7 @@ fresh_sound score_of region size number current old head read images is settled 
   };
   fields = arena.head ∙ ap fields_of (sym head_is);
   kept = λ c left. blocks_in_region score_of region old read c least (settled c left) arena.content arena.blocks;
-  written = record { clumps = refl; directory = λ written. absurd (omega (arith, written)) };
+  written = record { clumps = tt; directory = λ written. absurd (omega (arith, written)) };
   synced = λ made. absurd (omega (arith, made));
 }
   where
@@ -65,5 +67,5 @@ fresh_sound score_of region size number current old head read images is settled 
     own : head ≡ arena_head score_of head.number old
     own = head_is ∙ ap (λ (n : ℕ). arena_head score_of n old) (sym stand.number_is)
 
-    same : old ≡ record { sealed = head.sealed; stored = old.stored ++ [] }
-    same i = record { sealed = sym (ap (λ (h : ArenaHead). h.sealed) head_is) i; stored = sym (append-nil old.stored) i }
+    same : old ≡ record { version = old.version; sealed = head.sealed; stored = old.stored ++ [] }
+    same i = record { version = old.version; sealed = sym (ap (λ (h : ArenaHead). h.sealed) head_is) i; stored = sym (append-nil old.stored) i }

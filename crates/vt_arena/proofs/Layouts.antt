@@ -1,5 +1,5 @@
 -- Lengths of clumps, entries and directories, and parts of a file.
-use Rattle.std.proofs.Common.{◌≡◌, ℕ, zero, suc, ◌+◌, ◌-◌, ◌<◌, ◌≤◌, List, [], ◌∷◌, ◌++◌, length, take, drop, map, reverse, refl, sym, ◌∙◌, ap, subst, arith, append-nil, append_assoc, length-append, length-take, take-append-drop}
+use Rattle.std.proofs.Common.{◌≡◌, ℕ, zero, suc, ◌+◌, ◌-◌, ◌*◌, ◌<◌, ◌≤◌, ◌==◌, true, false, cond, List, [], ◌∷◌, ◌++◌, length, take, drop, map, reverse, refl, sym, ◌∙◌, ap, subst, arith, append-nil, append_assoc, length-append, length-take, take-append-drop}
 use Rattle.std.specs.Prelude.{All, sum_by, slice_index}
 use Rattle.std.specs.List.{flat_map}
 use Rattle.std.proofs.lemmas.List.{take-take, drop-take, drop-drop, get_or-take, get_or-drop, reverse-append, length-map, map-append}
@@ -12,8 +12,10 @@ use Rattle.vt_clump.specs.declared.packed.Packed.{Packed}
 use Rattle.vt_clump.specs.Spelling.{Stored, IsStoredBlock, clump_bytes}
 use Rattle.vt_clump.specs.Clumps.{IsPacked, stored_of}
 use Rattle.vt_clump.proofs.ReadBack.{length-spelled}
-use Rattle.vt_arena.specs.Layout.{Content, IsArenaContent, BytesStandAt, entry_bytes, arena_entry, clumps_of, directory_of, used_of}
-use Rattle.vt_arena.specs.Places.{block_room, directory_room, arena_room, lengths_of, Fit}
+use Rattle.vt_model.specs.Places.{whole_units}
+use Rattle.vt_model.specs.declared.TheConstants.{CLUMP_HEADER_LEN, DIRECTORY_ENTRY_LEN, WRITTEN_VERSION}
+use Rattle.vt_arena.specs.Layout.{Content, IsArenaContent, BytesStandAt, entry_bytes, arena_entry, directory_of, used_of}
+use Rattle.vt_arena.specs.Places.{block_room, directory_room, arena_room, entries_len, lengths_of, Fit}
 use Rattle.vt_arena.specs.Whole.{staged_room, staged_directory}
 
 -- what a write touches lies in the written range
@@ -96,45 +98,64 @@ module _ {X : Type 0} (P : X → Type 0) where
   all_take n xs all k d below =
       subst P (sym (get_or-take n xs k d (omega (arith, length-take n xs)))) (all k d (omega (arith, length-take n xs)))
 
+-- a clump takes no less than it has, and a directory no less than its entries have
+pub room_least : (version n : ℕ) → 38 + n ≤ block_room version n
+room_least version n = elim (version == 2) as
+    (λ t. CLUMP_HEADER_LEN + n ≤ cond t (whole_units (CLUMP_HEADER_LEN + n)) (CLUMP_HEADER_LEN + n)) [
+      | true ↦ omega arith
+      | false ↦ omega arith
+    ]
+
+pub entries_least : (version k : ℕ) → entries_len k ≤ directory_room version k
+entries_least version k = elim (version == 2) as
+    (λ t. DIRECTORY_ENTRY_LEN * k ≤ cond t (whole_units (DIRECTORY_ENTRY_LEN * k)) (DIRECTORY_ENTRY_LEN * k)) [
+      | true ↦ omega arith
+      | false ↦ omega arith
+    ]
+
 -- what blocks use
-pub used-append : (xs ys : List Stored) → used_of (xs ++ ys) ≡ used_of xs + used_of ys
-used-append xs ys = ap (λ (l : List ℕ). sum_by block_room l) (map-append (λ (s : Stored). length s.block) xs ys) ∙ sum_by-append block_room (lengths_of xs) (lengths_of ys)
+module _ (version : ℕ) where
+  pub used-append : (xs ys : List Stored) → used_of version (xs ++ ys) ≡ used_of version xs + used_of version ys
+  used-append xs ys = ap (λ (l : List ℕ). sum_by (block_room version) l) (map-append (λ (s : Stored). length s.block) xs ys) ∙ sum_by-append (block_room version) (lengths_of xs) (lengths_of ys)
 
-pub used-cons : (s : Stored) (xs : List Stored) → used_of (s ∷ xs) ≡ block_room (length s.block) + used_of xs
-used-cons s xs = sum_by-cons block_room (length s.block) (lengths_of xs)
+  pub used-cons : (s : Stored) (xs : List Stored) → used_of version (s ∷ xs) ≡ block_room version (length s.block) + used_of version xs
+  used-cons s xs = sum_by-cons (block_room version) (length s.block) (lengths_of xs)
 
-pub used_take : (n : ℕ) (xs : List Stored) → used_of (take n xs) ≤ used_of xs
-used_take n xs =
-    omega (arith, ap used_of (sym (take-append-drop n xs)), used-append (take n xs) (drop n xs))
+  pub used_take : (n : ℕ) (xs : List Stored) → used_of version (take n xs) ≤ used_of version xs
+  used_take n xs =
+      omega (arith, ap (used_of version) (sym (take-append-drop n xs)), used-append (take n xs) (drop n xs))
+
+  pub fit_of : (len : ℕ) (stored : List Stored) → used_of version stored + directory_room version (length stored) ≤ arena_room len → Fit version len stored
+  fit_of len stored fits =
+      subst (λ (k : ℕ). used_of version stored + directory_room version k ≤ arena_room len) (sym (length-map stored (λ (s : Stored). length s.block))) fits
 
 -- the room of a content
-pub content_fits : (score_of : List ℕ → List ℕ) (len : ℕ) (a : Content) → IsArenaContent score_of len a → used_of a.stored + directory_room (length a.stored) ≤ arena_room len
-content_fits score_of len a is = omega (arith, is.fit, length-map a.stored (λ (s : Stored). length s.block))
+module _ (score_of : List ℕ → List ℕ) (len : ℕ) (a : Content) (is : IsArenaContent score_of len a) where
+  pub content_room : used_of a.version a.stored + directory_room a.version (length a.stored) ≤ arena_room len
+  content_room =
+      subst (λ (k : ℕ). used_of a.version a.stored + directory_room a.version k ≤ arena_room len) (length-map a.stored (λ (s : Stored). length s.block)) is.fit
 
-pub fit_of : (len : ℕ) (stored : List Stored) → used_of stored + directory_room (length stored) ≤ arena_room len → Fit len stored
-fit_of len stored fits = omega (arith, fits, length-map stored (λ (s : Stored). length s.block))
+  pub content_fits : used_of a.version a.stored + entries_len (length a.stored) ≤ arena_room len
+  content_fits = omega (arith, content_room, entries_least a.version (length a.stored))
 
 module _ (score_of : List ℕ → List ℕ) where
-  pub spelled_len : (s : Stored) → IsStoredBlock score_of s → length (clump_bytes s) ≡ block_room (length s.block)
+  pub spelled_len : (s : Stored) → IsStoredBlock score_of s → length (clump_bytes s) ≡ 38 + length s.block
   spelled_len s is = ap (λ (l : List ℕ). length l) (sym (append-nil (clump_bytes s))) ∙ omega (arith, length-spelled score_of s [] is)
 
-  pub length-clumps : (ss : List Stored) → All (IsStoredBlock score_of) ss → length (clumps_of ss) ≡ used_of ss
-  length-clumps [] all = refl
-  length-clumps (s ∷ ss) all =
-      length-append (clump_bytes s) (clumps_of ss)
-      ∙ (λ i. spelled_len s (all_head (IsStoredBlock score_of) s ss all) i + length-clumps ss (all_tail (IsStoredBlock score_of) s ss all) i)
-      ∙ sym (used-cons s ss)
+  -- a clump takes no less than its bytes are
+  pub spelled_room : (version : ℕ) (s : Stored) → IsStoredBlock score_of s → length (clump_bytes s) ≤ block_room version (length s.block)
+  spelled_room version s is = omega (arith, spelled_len s is, room_least version (length s.block))
 
   pub length-entry : (s : Stored) → IsStoredBlock score_of s → length (arena_entry s) ≡ 25
   length-entry s is = omega (arith, is.score_len)
 
-  pub length-directory : (ss : List Stored) → All (IsStoredBlock score_of) ss → length (directory_of ss) ≡ directory_room (length ss)
+  pub length-directory : (ss : List Stored) → All (IsStoredBlock score_of) ss → length (directory_of ss) ≡ entries_len (length ss)
   length-directory [] all = refl
   length-directory (s ∷ ss) all =
       let from : reverse (s ∷ ss) ≡ reverse ss ++ (s ∷ []) = reverse-append (s ∷ []) ss in
       let split : directory_of (s ∷ ss) ≡ directory_of ss ++ (arena_entry s ++ []) = ap (λ (l : List Stored). flat_map arena_entry l) from ∙ flat_map-append arena_entry (reverse ss) (s ∷ []) in
       let entry : length (arena_entry s) ≡ 25 = length-entry s (all_head (IsStoredBlock score_of) s ss all) in
-      let rest : length (directory_of ss) ≡ directory_room (length ss) = length-directory ss (all_tail (IsStoredBlock score_of) s ss all) in
+      let rest : length (directory_of ss) ≡ entries_len (length ss) = length-directory ss (all_tail (IsStoredBlock score_of) s ss all) in
       ap (λ (l : List ℕ). length l) split
       ∙ omega (arith, length-append (directory_of ss) (arena_entry s ++ []), length-append (arena_entry s) [], entry, rest)
 
@@ -143,12 +164,12 @@ module _ (score_of : List ℕ → List ℕ) where
   All-stored (p ∷ ps) all zero d below = (all_head (IsPacked score_of) p ps all).stored
   All-stored (p ∷ ps) all (suc k) d below = All-stored ps (all_tail (IsPacked score_of) p ps all) k d (omega arith)
 
-  pub used-packed : (ps : List Packed) → All (IsPacked score_of) ps → used_of (map stored_of ps) ≡ staged_room ps
+  pub used-packed : (ps : List Packed) → All (IsPacked score_of) ps → used_of WRITTEN_VERSION (map stored_of ps) ≡ staged_room ps
   used-packed [] all = refl
   used-packed (p ∷ ps) all =
-      used-cons (stored_of p) (map stored_of ps)
-      ∙ (λ i. block_room (sym (all_head (IsPacked score_of) p ps all).len i) + used-packed ps (all_tail (IsPacked score_of) p ps all) i)
-      ∙ sym (sum_by-cons (λ (q : Packed). block_room q.len) p ps)
+      used-cons WRITTEN_VERSION (stored_of p) (map stored_of ps)
+      ∙ (λ i. block_room WRITTEN_VERSION (sym (all_head (IsPacked score_of) p ps all).len i) + used-packed ps (all_tail (IsPacked score_of) p ps all) i)
+      ∙ sym (sum_by-cons (λ (q : Packed). block_room WRITTEN_VERSION q.len) p ps)
 
   pub entry_is : (p : Packed) → IsPacked score_of p → packed_entry p ≡ arena_entry (stored_of p)
   entry_is p is i = entry_bytes (is.kind i) (is.len i) (is.score i)
@@ -159,8 +180,3 @@ module _ (score_of : List ℕ → List ℕ) where
       reversed-append packed_entry (p ∷ []) ps
       ∙ (λ i. directory-packed ps (all_tail (IsPacked score_of) p ps all) i ++ (entry_is p (all_head (IsPacked score_of) p ps all) i ++ []))
       ∙ sym (directory-append (stored_of p ∷ []) (map stored_of ps))
-
--- one more
-pub clumps-push : (ss : List Stored) (s : Stored) → clumps_of (ss ++ s ∷ []) ≡ clumps_of ss ++ clump_bytes s
-clumps-push [] s = append-nil (clump_bytes s)
-clumps-push (t ∷ ts) s = ap (λ (l : List ℕ). clump_bytes t ++ l) (clumps-push ts s) ∙ sym (append_assoc (clump_bytes t) (clumps_of ts) (clump_bytes s))

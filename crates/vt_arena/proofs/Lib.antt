@@ -1,3 +1,4 @@
+pub mod ArenaFound
 pub mod Blocks
 pub mod Clumps
 pub mod Commits
@@ -10,8 +11,10 @@ pub mod Layouts
 pub mod Memory
 pub mod Pieces
 pub mod Regions
+pub mod Sectors
 pub mod Sound
 pub mod Stage
+pub mod Standing
 pub mod Unique
 pub mod Walks
 pub mod Writes

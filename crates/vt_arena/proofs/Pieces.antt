@@ -16,14 +16,15 @@ use Rattle.vt_twin.proofs.Sound.{sound_elsewhere}
 use Rattle.vt_clump.specs.declared.packed.Packed.{Packed}
 use Rattle.vt_clump.specs.Spelling.{Stored, IsStoredBlock, clump_bytes}
 use Rattle.vt_clump.specs.Clumps.{IsPacked, stored_of}
-use Rattle.vt_model.specs.declared.TheConstants.{ARENA_HEAD_LEN}
+use Rattle.vt_model.specs.declared.TheConstants.{ARENA_HEAD_LEN, WRITTEN_VERSION}
 use Rattle.vt_arena.specs.declared.TheConstants.{FRAME_LEN}
 use Rattle.vt_arena.specs.Arena.{ArenaState, added_by_commit, after_piece, with_failure}
-use Rattle.vt_arena.specs.Layout.{Content, HasBlocks, BytesStandAt, clumps_of, directory_of, clumps_place, directory_place, head_place, used_of}
-use Rattle.vt_arena.specs.Places.{directory_room}
+use Rattle.vt_arena.specs.Layout.{Content, HasBlocks, BytesStandAt, ClumpsStandAt, directory_of, clumps_place, directory_place, head_place, used_of}
+use Rattle.vt_arena.specs.Places.{entries_len}
 use Rattle.vt_arena.specs.Sound.{IsRegion, IsSoundArena, HasPieces, clumps_made}
 use Rattle.vt_arena.specs.Whole.{staged_room, staged_directory}
-use Rattle.vt_arena.proofs.Layouts.{touched_within, stands-sum, stands_same, length-clumps, length-directory, directory-packed, used-packed, All-stored, all_take, clumps-push}
+use Rattle.vt_arena.proofs.Layouts.{touched_within, stands_same, length-directory, directory-packed, used-packed, All-stored, all_take}
+use Rattle.vt_arena.proofs.Standing.{stand-append, stand_same}
 
 -- the head's twin has its place
 pub head_room : (region : Region) (size n : ℕ) → IsRegion region size → n ≡ FRAME_LEN → FitsTwin (head_place region) n size
@@ -52,7 +53,7 @@ twin_elsewhere t region size is frame_len P apart old read reads before after sa
 module _ (score_of : List ℕ → List ℕ) (s : ArenaState) (region : Region) (size : ℕ) (old : Content) (read reads : List ℕ) (before after : List ℕ → Type 0)
     (is_region : IsRegion region size) (rest : s.twin.change ≡ None) (place n : ℕ)
     (changes : ChangesAt (Touches place n) before after) (same : SameBut (Touches place n) read reads) (few : s.written ≤ length s.staged)
-    (low : clumps_place region old.stored + length (clumps_of (clumps_made s)) ≤ place)
+    (low : clumps_place region old.version old.stored + used_of WRITTEN_VERSION (clumps_made s) ≤ place)
     (high : place + n ≤ directory_place region (length old.stored))
     (sound : IsSoundArena score_of s region old read before) where
   twin_stays : IsSoundTwin s.twin region sound.frame reads after
@@ -60,18 +61,20 @@ module _ (score_of : List ℕ → List ℕ) (s : ArenaState) (region : Region) (
       (λ i touched above below. omega (arith, (touched_within place n i touched).0, low, below))
       sound.frame read reads before after same changes sound.twin
 
-  blocks_stay : (c : List ℕ) → after c → HasBlocks region old.stored c
+  blocks_stay : (c : List ℕ) → after c → HasBlocks region old c
   blocks_stay c left =
       let from = changes c left in
       let blocks = sound.kept from.0 from.1 in record {
-        clumps = stands_same (Touches place n) (region.start + ARENA_HEAD_LEN) (clumps_of old.stored) from.0 c from.2
-            (λ i over under touched. omega (arith, under, (touched_within place n i touched).0, length-clumps score_of old.stored sound.content.stored, low)) blocks.clumps;
-        directory = stands_same (Touches place n) (directory_place region (length old.stored)) (directory_of old.stored) from.0 c from.2
-            (λ i over under touched. omega (arith, over, (touched_within place n i touched).1, high)) blocks.directory;
+        clumps = stand_same score_of (Touches place n) old.version (region.start + ARENA_HEAD_LEN) old.stored from.0 c sound.content.stored from.2
+            (λ i over under touched. omega (arith, under, (touched_within place n i touched).0, low)) blocks.clumps;
+        directory = λ there. stands_same (Touches place n) (directory_place region (length old.stored)) (directory_of old.stored) from.0 c from.2
+            (λ i over under touched. omega (arith, over, (touched_within place n i touched).1, high)) (blocks.directory there);
       }
 
-  pub clumps_stay : BytesStandAt (clumps_place region old.stored) (clumps_of (clumps_made s)) reads
-  clumps_stay = stands_same (Touches place n) (clumps_place region old.stored) (clumps_of (clumps_made s)) read reads same
+  pub clumps_stay : ClumpsStandAt WRITTEN_VERSION (clumps_place region old.version old.stored) (clumps_made s) reads
+  clumps_stay =
+      stand_same score_of (Touches place n) WRITTEN_VERSION (clumps_place region old.version old.stored) (clumps_made s) read reads
+      (all_take (IsStoredBlock score_of) s.written (added_by_commit s) (All-stored score_of s.staged sound.packed)) same
       (λ i over under touched. omega (arith, under, (touched_within place n i touched).0, low)) sound.written.clumps
 
   -- a write that failed
@@ -84,7 +87,9 @@ module _ (score_of : List ℕ → List ℕ) (s : ArenaState) (region : Region) (
     chain = sound.chain;
     packed = sound.packed;
     content = sound.content;
-    next_content_is = record { stored = sound.next_content_is.stored; fit = sound.next_content_is.fit };
+    next_content_is = record { version = sound.next_content_is.version; stored = sound.next_content_is.stored; linked = sound.next_content_is.linked; fit = sound.next_content_is.fit };
+    version = sound.version;
+    grows = sound.grows;
     begun = sound.begun;
     frame = sound.frame;
     twin = twin_stays;
@@ -104,7 +109,9 @@ module _ (score_of : List ℕ → List ℕ) (s : ArenaState) (region : Region) (
     chain = sound.chain;
     packed = sound.packed;
     content = sound.content;
-    next_content_is = record { stored = sound.next_content_is.stored; fit = sound.next_content_is.fit };
+    next_content_is = record { version = sound.next_content_is.version; stored = sound.next_content_is.stored; linked = sound.next_content_is.linked; fit = sound.next_content_is.fit };
+    version = sound.version;
+    grows = sound.grows;
     begun = λ some. absurd (none_some s.twin.change rest some);
     frame = sound.frame;
     twin = twin_stays;
@@ -127,15 +134,14 @@ added_more staged w p below is =
     ∙ ap (λ (l : List Stored). l ++ stored_of p ∷ []) (sym (take-map stored_of w staged))
 
 -- how many bytes the clumps are that were written
-pub made_len : (score_of : List ℕ → List ℕ) (staged : List Packed) (w : ℕ) → All (IsPacked score_of) staged → length (clumps_of (take w (map stored_of staged))) ≡ staged_room (take w staged)
+pub made_len : (score_of : List ℕ → List ℕ) (staged : List Packed) (w : ℕ) → All (IsPacked score_of) staged → used_of WRITTEN_VERSION (take w (map stored_of staged)) ≡ staged_room (take w staged)
 made_len score_of staged w packed =
-    length-clumps score_of (take w (map stored_of staged)) (all_take (IsStoredBlock score_of) w (map stored_of staged) (All-stored score_of staged packed))
-    ∙ ap used_of (take-map stored_of w staged)
+    ap (used_of WRITTEN_VERSION) (take-map stored_of w staged)
     ∙ used-packed score_of (take w staged) (all_take (IsPacked score_of) w staged packed)
 
 -- the numbers of a sound arena's head
 pub head_used : (score_of : List ℕ → List ℕ) (s : ArenaState) (region : Region) (old : Content) (read : List ℕ) (images : List ℕ → Type 0) → IsSoundArena score_of s region old read images
-    → (s.head.used ≡ used_of old.stored) × (s.head.clumps ≡ length old.stored)
+    → (s.head.used ≡ used_of old.version old.stored) × (s.head.clumps ≡ length old.stored)
 head_used score_of s region old read images sound = ((λ i. (sound.head i).used), (λ i. (sound.head i).clumps))
 
 -- the next clump
@@ -146,8 +152,8 @@ module _ (score_of : List ℕ → List ℕ) (s : ArenaState) (region : Region) (
     (below : s.written < length s.staged) (p : Packed) (is : p ≡ get_or s.staged s.written p) (n_is : n ≡ length p.bytes)
     (end room : ℕ) (end_is : end ≡ s.head.used + staged_room (take s.written s.staged))
     (place_is : place ≡ region.start + (ARENA_HEAD_LEN + end))
-    (fits : end + length p.bytes + directory_room s.head.clumps + ARENA_HEAD_LEN ≤ region.len) where
-  clump_low : clumps_place region old.stored + length (clumps_of (clumps_made s)) ≤ place
+    (fits : end + length p.bytes + entries_len s.head.clumps + ARENA_HEAD_LEN ≤ region.len) where
+  clump_low : clumps_place region old.version old.stored + used_of WRITTEN_VERSION (clumps_made s) ≤ place
   clump_low = omega (arith, made_len score_of s.staged s.written sound.packed, (head_used score_of s region old read before sound).0, end_is, place_is)
 
   clump_high : place + n ≤ directory_place region (length old.stored)
@@ -159,18 +165,17 @@ module _ (score_of : List ℕ → List ℕ) (s : ArenaState) (region : Region) (
   pub clump_made : part place n reads ≡ p.bytes → IsSoundArena score_of (after_piece s) region old reads after
   clump_made new =
       let is_packed : IsPacked score_of p = subst (λ (q : Packed). IsPacked score_of q) (sym is) (sound.packed s.written p below) in
-      let low : length (clumps_of (clumps_made s)) ≡ staged_room (take s.written s.staged) = made_len score_of s.staged s.written sound.packed in
+      let low : used_of WRITTEN_VERSION (clumps_made s) ≡ staged_room (take s.written s.staged) = made_len score_of s.staged s.written sound.packed in
       let used = (head_used score_of s region old read before sound).0 in
       let piece : BytesStandAt place p.bytes reads = ap (λ (m : ℕ). part place m reads) (sym n_is) ∙ new in
-      let further : BytesStandAt (clumps_place region old.stored + length (clumps_of (clumps_made s))) (clump_bytes (stored_of p)) reads =
+      let further : BytesStandAt (clumps_place region old.version old.stored + used_of WRITTEN_VERSION (clumps_made s)) (clump_bytes (stored_of p)) reads =
       subst (λ (at : ℕ). BytesStandAt at (clump_bytes (stored_of p)) reads) (omega (arith, place_is, end_is, used, low))
       (subst (λ (l : List ℕ). BytesStandAt place l reads) is_packed.bytes piece) in
-      let both : clumps_of (take (s.written + 1) (added_by_commit s)) ≡ clumps_of (clumps_made s) ++ clump_bytes (stored_of p) =
-      ap clumps_of (added_more s.staged s.written p below is) ∙ clumps-push (clumps_made s) (stored_of p) in
+      let both : take (s.written + 1) (added_by_commit s) ≡ clumps_made s ++ stored_of p ∷ [] = added_more s.staged s.written p below is in
       let stays = clumps_stay score_of s region size old read reads before after is_region rest place n changes same (omega (arith, below)) clump_low clump_high sound in
       write_made score_of s region size old read reads before after is_region rest place n changes same (omega (arith, below)) clump_low clump_high sound (s.written + 1) (record {
-        clumps = subst (λ (l : List ℕ). BytesStandAt (clumps_place region old.stored) l reads) (sym both)
-            (stands-sum (clumps_place region old.stored) (clumps_of (clumps_made s)) (clump_bytes (stored_of p)) reads stays further);
+        clumps = subst (λ (l : List Stored). ClumpsStandAt WRITTEN_VERSION (clumps_place region old.version old.stored) l reads) (sym both)
+            (stand-append WRITTEN_VERSION (clumps_place region old.version old.stored) (clumps_made s) (stored_of p ∷ []) reads stays (further, tt));
         directory = λ more. absurd (omega (arith, below, more));
       })
 
@@ -179,9 +184,9 @@ module _ (score_of : List ℕ → List ℕ) (s : ArenaState) (region : Region) (
     (is_region : IsRegion region size) (rest : s.twin.change ≡ None) (place n : ℕ)
     (changes : ChangesAt (Touches place n) before after) (same : SameBut (Touches place n) read reads)
     (sound : IsSoundArena score_of s region old read before) (written : s.written ≡ length s.staged)
-    (n_is : n ≡ directory_room (length s.staged)) (place_is : place ≡ region.start + (region.len - directory_room (s.head.clumps + length s.staged)))
-    (fits : directory_room (s.head.clumps + length s.staged) + s.head.used + staged_room s.staged + ARENA_HEAD_LEN ≤ region.len) where
-  directory_low : clumps_place region old.stored + length (clumps_of (clumps_made s)) ≤ place
+    (n_is : n ≡ entries_len (length s.staged)) (place_is : place ≡ region.start + (region.len - entries_len (s.head.clumps + length s.staged)))
+    (fits : entries_len (s.head.clumps + length s.staged) + s.head.used + staged_room s.staged + ARENA_HEAD_LEN ≤ region.len) where
+  directory_low : clumps_place region old.version old.stored + used_of WRITTEN_VERSION (clumps_made s) ≤ place
   directory_low =
       let all : staged_room (take s.written s.staged) ≡ staged_room s.staged = ap staged_room (take_all s.written s.staged (omega (arith, written))) in
       omega (arith, made_len score_of s.staged s.written sound.packed, all, (head_used score_of s region old read before sound).0, place_is, fits)
@@ -201,7 +206,7 @@ module _ (score_of : List ℕ → List ℕ) (s : ArenaState) (region : Region) (
       let same_clumps : clumps_made s ≡ take (s.written + 1) (added_by_commit s) =
       take_all s.written (added_by_commit s) (omega (arith, count, written)) ∙ sym (take_all (s.written + 1) (added_by_commit s) (omega (arith, count, written))) in
       write_made score_of s region size old read reads before after is_region rest place n changes same (omega (arith, written)) directory_low directory_high sound (s.written + 1) (record {
-        clumps = subst (λ (l : List Stored). BytesStandAt (clumps_place region old.stored) (clumps_of l) reads) same_clumps
+        clumps = subst (λ (l : List Stored). ClumpsStandAt WRITTEN_VERSION (clumps_place region old.version old.stored) l reads) same_clumps
             (clumps_stay score_of s region size old read reads before after is_region rest place n changes same (omega (arith, written)) directory_low directory_high sound);
         directory = λ made. subst (λ (at : ℕ). BytesStandAt at (directory_of (added_by_commit s)) reads) (omega (arith, place_is, numbers.1, fits))
             (ap (λ (m : ℕ). part place m reads) len ∙ new ∙ is);

@@ -1,5 +1,5 @@
 -- An arena lies in its region.
-use Rattle.std.proofs.Common.{◌≡◌, ℕ, ◌+◌, ◌*◌, ◌%◌, ◌<◌, ◌≤◌, List, length, take, ◌∙◌, ap, arith}
+use Rattle.std.proofs.Common.{◌≡◌, ℕ, ◌+◌, ◌*◌, ◌%◌, ◌<◌, ◌≤◌, List, length, ◌∙◌, ap, arith}
 use Rattle.std.specs.Prelude.{slice_index}
 use Rattle.std.proofs.Math.Nat.{mod-lt}
 use Rattle.vt_disk.specs.declared.region.Region.{Region}
@@ -7,8 +7,10 @@ use Rattle.vt_disk.specs.Region.{region_bytes}
 use Rattle.vt_twin.specs.Frames.{current_frame, frame_of, named_number}
 use Rattle.vt_model.specs.declared.TheConstants.{ARENA_HEAD_LEN}
 use Rattle.vt_arena.specs.declared.TheConstants.{FRAME_LEN}
-use Rattle.vt_arena.specs.Layout.{Content, IsArenaContent, IsArena, HasBlocks, clumps_of, directory_of, directory_place}
-use Rattle.vt_arena.proofs.Layouts.{part_inside, byte_inside, stands_inside, length-clumps, length-directory, content_fits}
+use Rattle.vt_arena.specs.Layout.{Content, IsArenaContent, IsArena, HasBlocks, directory_of, directory_place}
+use Rattle.vt_arena.specs.Heads.{own_fields}
+use Rattle.vt_arena.proofs.Layouts.{part_inside, byte_inside, stands_inside, length-directory, content_fits}
+use Rattle.vt_arena.proofs.Standing.{stand_there}
 
 module _ (region : Region) (old new : List ℕ) (least : ARENA_HEAD_LEN ≤ region.len) (same : region_bytes region new ≡ region_bytes region old) where
   -- a frame, and the number of the current one
@@ -25,19 +27,19 @@ module _ (region : Region) (old new : List ℕ) (least : ARENA_HEAD_LEN ≤ regi
       ∙ frame_in_region (named_number region FRAME_LEN old) (mod-lt (slice_index old (region.start + 2 * FRAME_LEN)) (omega arith))
 
 pub blocks_in_region : (score_of : List ℕ → List ℕ) (region : Region) (a : Content) (old new : List ℕ) → ARENA_HEAD_LEN ≤ region.len
-    → region_bytes region new ≡ region_bytes region old → IsArenaContent score_of region.len a → HasBlocks region a.stored old → HasBlocks region a.stored new
+    → region_bytes region new ≡ region_bytes region old → IsArenaContent score_of region.len a → HasBlocks region a old → HasBlocks region a new
 blocks_in_region score_of region a old new least same content blocks =
     let fits = content_fits score_of region.len a content in record {
-      clumps = stands_inside region old new same (region.start + ARENA_HEAD_LEN) (clumps_of a.stored) (omega arith)
-          (omega (arith, fits, least, length-clumps score_of a.stored content.stored)) blocks.clumps;
-      directory = stands_inside region old new same (directory_place region (length a.stored)) (directory_of a.stored) (omega (arith, fits, least))
-          (omega (arith, fits, least, length-directory score_of a.stored content.stored)) blocks.directory;
+      clumps = stand_there score_of a.version (region.start + ARENA_HEAD_LEN) a.stored old new content.stored
+          (λ p bytes above below. stands_inside region old new same p bytes (omega (arith, above)) (omega (arith, below, fits, least))) blocks.clumps;
+      directory = λ there. stands_inside region old new same (directory_place region (length a.stored)) (directory_of a.stored) (omega (arith, fits, least))
+          (omega (arith, fits, least, length-directory score_of a.stored content.stored)) (blocks.directory there);
     }
 
 pub arena_in_region : (score_of : List ℕ → List ℕ) (region : Region) (number : ℕ) (a : Content) (old new : List ℕ) → ARENA_HEAD_LEN ≤ region.len
     → region_bytes region new ≡ region_bytes region old → IsArena score_of region number a old → IsArena score_of region number a new
 arena_in_region score_of region number a old new least same arena = record {
   content = arena.content;
-  head = ap (λ (l : List ℕ). take 43 l) (current_in_region region old new least same) ∙ arena.head;
+  head = ap own_fields (current_in_region region old new least same) ∙ arena.head;
   blocks = blocks_in_region score_of region a old new least same arena.content arena.blocks;
 }

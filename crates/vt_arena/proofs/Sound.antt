@@ -1,19 +1,46 @@
 -- What is done to the rest of the disk leaves an arena sound.
-use Rattle.std.proofs.Common.{◌≡◌, ℕ, ◌+◌, List, length, arith}
+use Rattle.std.proofs.Common.{◌≡◌, ℕ, ◌+◌, ◌≤◌, List, length, sym, subst, arith}
 use Rattle.vt_disk.specs.declared.region.Region.{Region}
-use Rattle.vt_disk.specs.Disk.{SameBut}
+use Rattle.vt_disk.specs.Disk.{AreAmong, SameBut}
 use Rattle.vt_disk.specs.Region.{Inside, ChangesWithin, region_bytes}
 use Rattle.vt_disk.proofs.Bytes.{part_same}
 use Rattle.std.proofs.Common.{length-append}
 use Rattle.std.proofs.lemmas.List.{length-map}
+use Rattle.vt_twin.proofs.Sound.{reads_sound}
 use Rattle.vt_clump.specs.Spelling.{IsStoredBlock}
 use Rattle.vt_clump.specs.Clumps.{stored_of}
 use Rattle.vt_arena.specs.Arena.{ArenaState, added_by_commit, next_content}
-use Rattle.vt_arena.specs.Layout.{Content, clumps_of, directory_of, clumps_place, directory_place}
+use Rattle.vt_model.specs.declared.TheConstants.{WRITTEN_VERSION}
+use Rattle.vt_arena.specs.Layout.{Content, directory_of, clumps_place, directory_place, used_of}
 use Rattle.vt_arena.specs.Sound.{IsRegion, IsSoundArena, HasPieces, clumps_made}
-use Rattle.vt_arena.proofs.Layouts.{stands_inside, length-clumps, length-directory, used-append, content_fits, All-stored, all_take, used_take}
+use Rattle.vt_arena.proofs.Layouts.{stands_inside, length-directory, used-append, content_fits, All-stored, all_take, used_take}
+use Rattle.vt_arena.proofs.Commits.{added_used, old_used}
+use Rattle.vt_arena.proofs.Standing.{stand_there}
 use Rattle.vt_arena.proofs.Regions.{blocks_in_region}
 use Rattle.vt_arena.proofs.Pieces.{twin_elsewhere}
+
+-- a read or a sync leaves it sound
+pub arena_read : (score_of : List ℕ → List ℕ) (a : ArenaState) (region : Region) (old : Content) (read reads : List ℕ) (images after : List ℕ → Type 0) → reads ≡ read → AreAmong after images
+    → IsSoundArena score_of a region old read images → IsSoundArena score_of a region old reads after
+arena_read score_of a region old read reads images after same among sound = record {
+  len = sound.len;
+  frame_len = sound.frame_len;
+  head = sound.head;
+  next = sound.next;
+  chain = sound.chain;
+  packed = sound.packed;
+  content = sound.content;
+  next_content_is = sound.next_content_is;
+  version = sound.version;
+  grows = sound.grows;
+  begun = sound.begun;
+  frame = sound.frame;
+  twin = reads_sound a.twin region sound.frame read reads images after same among sound.twin;
+  fields = sound.fields;
+  kept = λ c left. sound.kept c (among c left);
+  written = subst (λ (file : List ℕ). HasPieces a region old file) (sym same) sound.written;
+  synced = λ made c left. sound.synced made c (among c left);
+}
 
 module _ (score_of : List ℕ → List ℕ) (a : ArenaState) (region : Region) (size : ℕ) (old : Content) (is_region : IsRegion region size)
     (other : Region) (apart : (i : ℕ) → Inside other i → ¬ Inside region i)
@@ -26,18 +53,26 @@ module _ (score_of : List ℕ → List ℕ) (a : ArenaState) (region : Region) (
   pieces_stay file files but made =
       let news = All-stored score_of a.staged sound.packed in
       let fits = content_fits score_of region.len (next_content a old) sound.next_content_is in
-      let used = used-append old.stored (added_by_commit a) in
       let count = length-append old.stored (added_by_commit a) in
       let staged = length-map a.staged stored_of in
-      let clumps_len = length-clumps score_of (clumps_made a) (all_take (IsStoredBlock score_of) a.written (added_by_commit a) news) in
-      let entries_len = length-directory score_of (added_by_commit a) news in record {
-        clumps = stands_inside region file files (bytes_stay file files but) (clumps_place region old.stored) (clumps_of (clumps_made a)) (omega arith)
-            (omega (arith, fits, used, is_region.len.0, clumps_len, used_take a.written (added_by_commit a))) made.clumps;
+      let entries_is = length-directory score_of (added_by_commit a) news in record {
+        clumps = stand_there score_of WRITTEN_VERSION (clumps_place region old.version old.stored) (clumps_made a) file files
+            (all_take (IsStoredBlock score_of) a.written (added_by_commit a) news)
+            (λ p bytes above below.
+            stands_inside region file files (bytes_stay file files but) p bytes (omega (arith, above))
+            (omega (arith, below, pieces_within, is_region.len.0, fits))) made.clumps;
         directory = λ written.
             stands_inside region file files (bytes_stay file files but) (directory_place region (length old.stored + length a.staged)) (directory_of (added_by_commit a))
-            (omega (arith, fits, used, count, staged, is_region.len.0))
-            (omega (arith, fits, used, count, staged, is_region.len.0, entries_len)) (made.directory written);
+            (omega (arith, fits, count, staged, is_region.len.0))
+            (omega (arith, fits, count, staged, is_region.len.0, entries_is)) (made.directory written);
       }
+    where
+      -- what the pieces take is part of what the next content does
+      pieces_within : used_of old.version old.stored + used_of WRITTEN_VERSION (clumps_made a) ≤ used_of (next_content a old).version (next_content a old).stored
+      pieces_within =
+          let less = used_take WRITTEN_VERSION a.written (added_by_commit a) in
+          let all = used-append (next_content a old).version old.stored (added_by_commit a) in
+          omega (arith, less, all, added_used score_of a region old read before sound, old_used score_of a region old read before sound)
 
   pub arena_elsewhere : IsSoundArena score_of a region old reads after
   arena_elsewhere = record {
@@ -49,6 +84,8 @@ module _ (score_of : List ℕ → List ℕ) (a : ArenaState) (region : Region) (
     packed = sound.packed;
     content = sound.content;
     next_content_is = sound.next_content_is;
+    version = sound.version;
+    grows = sound.grows;
     begun = sound.begun;
     frame = sound.frame;
     twin = twin_elsewhere a.twin region size is_region sound.frame_len (Inside other)

@@ -1,41 +1,104 @@
 -- The bytes of an arena stand for one content, and its head reads back.
-use Rattle.std.proofs.Common.{◌≡◌, ℕ, ◌+◌, ◌^◌, ◌≤◌, Bool, true, false, List, [], ◌∷◌, ◌++◌, length, drop, refl, sym, ◌∙◌, ap, arith}
-use Rattle.std.specs.Prelude.{All, slice_index}
-use Rattle.std.proofs.lemmas.List.{drop_at, take_all}
-use Rattle.byteorder.specs.Endian.{big_bytes}
+use Rattle.std.proofs.Common.{◌≡◌, inl, inr, ℕ, ◌+◌, ◌-◌, ◌^◌, ◌<◌, ◌≤◌, ◌==◌, Bool, true, false, cond, List, [], ◌++◌, length, take, drop, refl, sym, ◌∙◌, ap, subst, arith, append_assoc, length-append}
+use Rattle.std.specs.Prelude.{replicate, slice_index, if◌then◌else◌}
+use Rattle.std.proofs.lemmas.Bool.Decides.{Decides-eqb}
+use Rattle.std.proofs.lemmas.List.{drop_at, drop-drop, take_at}
+use Rattle.byteorder.specs.Endian.{big_bytes, big_number}
 use Rattle.byteorder.specs.Numbers.{big_number-reads_back}
 use Rattle.vt_disk.specs.declared.region.Region.{Region}
-use Rattle.vt_disk.specs.Disk.{part}
-use Rattle.vt_clump.specs.Spelling.{Stored, IsStoredBlock, clump_bytes, stored_in}
-use Rattle.vt_clump.proofs.ReadBack.{stored_in-spelled}
 use Rattle.vt_model.specs.declared.TheConstants.{ARENA_HEAD_LEN}
 use Rattle.vt_arena.specs.declared.head.ArenaHead.{ArenaHead}
-use Rattle.vt_arena.specs.Faults.{CanStand}
-use Rattle.vt_arena.specs.Heads.{fields_of, flag_of, clump_count_in, used_in, IsHeadOf}
-use Rattle.vt_arena.specs.Layout.{Content, IsArenaContent, IsArena, clumps_of, used_of, chain_of_blocks, arena_head}
-use Rattle.vt_arena.proofs.Layouts.{all_head, all_tail, length-clumps, content_fits}
+use Rattle.vt_arena.specs.declared.TheConstants.{FRAME_LEN, FIELDS_LEN, LAST_LEN}
+use Rattle.vt_arena.specs.Heads.{fields_of, fields_with, fields_len, flag_of, head_frame, last_field, last_in, own_fields, version_in, clump_count_in, used_in}
+use Rattle.vt_arena.specs.Layout.{Content, IsArenaContent, IsArena, ClumpsStandAt, arena_head, used_of}
+use Rattle.vt_arena.specs.Places.{IsVersion}
+use Rattle.vt_arena.proofs.Layouts.{content_fits}
+use Rattle.vt_arena.proofs.Standing.{one_list}
 
-same_stored : (score_of : List ℕ → List ℕ) (xs ys : List Stored) → All (IsStoredBlock score_of) xs → All (IsStoredBlock score_of) ys → length xs ≡ length ys → clumps_of xs ≡ clumps_of ys → xs ≡ ys
-same_stored score_of [] [] all_x all_y many same = refl
-same_stored score_of [] (y ∷ ys) all_x all_y many same = absurd (omega (arith, many))
-same_stored score_of (x ∷ xs) [] all_x all_y many same = absurd (omega (arith, many))
-same_stored score_of (x ∷ xs) (y ∷ ys) all_x all_y many same =
-    let first : x ≡ y =
-    sym (stored_in-spelled score_of x (clumps_of xs) (all_head (IsStoredBlock score_of) x xs all_x))
-    ∙ ap (λ (l : List ℕ). stored_in l) same
-    ∙ stored_in-spelled score_of y (clumps_of ys) (all_head (IsStoredBlock score_of) y ys all_y) in
-    let rest : clumps_of xs ≡ clumps_of ys =
-    sym (drop_at (clump_bytes x) (clumps_of xs) (length (clump_bytes x)) refl)
-    ∙ ap (λ (l : List ℕ). drop (length (clump_bytes x)) l) same
-    ∙ drop_at (clump_bytes y) (clumps_of ys) (length (clump_bytes x)) (ap (λ (s : Stored). length (clump_bytes s)) (sym first)) in
-    (λ i. first i ∷ same_stored score_of xs ys (all_tail (IsStoredBlock score_of) x xs all_x) (all_tail (IsStoredBlock score_of) y ys all_y) (omega (arith, many)) rest i)
+-- ---- fields
+
+pub version_small : (version : ℕ) → IsVersion version → version < 65536
+version_small version is = omega (arith, is)
+
+-- a number that only version 2 has
+pub where_two : (version m n : ℕ) → (version ≡ 2 → m ≡ n) → (if version == 2 then m else 0) ≡ (if version == 2 then n else 0)
+where_two version m n same =
+    (elim (version == 2) as (λ t. (version == 2) ≡ t → cond t m 0 ≡ cond t n 0) [
+      | true ↦ λ is. same ((Decides-eqb version 2).0 is)
+      | false ↦ λ is. refl
+    ]) refl
+
+-- what stands in a frame behind the fields that a head has
+abbrev zeros : List ℕ
+zeros = replicate (FRAME_LEN - FIELDS_LEN) 0
+
+abbrev frame_rest : (second : Bool) (last : ℕ) → List ℕ
+frame_rest true last = zeros
+frame_rest false last = big_bytes LAST_LEN last ++ zeros
+
+module _ (h : ArenaHead) where
+  -- the bytes behind the chain
+  fields_at_43 : (behind : List ℕ) → length h.chain.0 ≡ 20 → drop 43 (fields_with h behind) ≡ behind
+  fields_at_43 behind chain =
+      sym (drop-drop 20 23 (fields_with h behind)) ∙ drop_at h.chain.0 behind 20 chain
+
+  pub fields-append : (one more : List ℕ) → fields_with h one ++ more ≡ fields_with h (one ++ more)
+  fields-append one more =
+      ap (λ (l : List ℕ). fields_with (record h { chain = record { 0 = [] } }) l) (append_assoc h.chain.0 one more)
+
+  pub length-fields : length h.chain.0 ≡ 20 → length (fields_of h) ≡ fields_len h.version
+  length-fields chain =
+      omega (arith, chain, length-append h.chain.0 (last_field h.version h.last), of_last (h.version == 2))
+    where
+      of_last : (t : Bool) → length (cond t (big_bytes LAST_LEN h.last) []) + 43 ≡ cond t 47 43
+      of_last true = refl
+      of_last false = refl
+
+  -- what a head's fields begin with
+  pub reads_version : (behind : List ℕ) → h.version < 65536 → version_in (fields_with h behind) ≡ h.version
+  reads_version behind small =
+      big_number-reads_back 2 h.version (drop 6 (fields_with h behind)) small
+
+  pub reads_last : (behind : List ℕ) → h.version < 65536 → h.last < 2 ^ 32 → length h.chain.0 ≡ 20
+      → last_in (fields_of h ++ behind) ≡ (if h.version == 2 then h.last else 0)
+  reads_last behind small fits chain =
+      ap (λ (v : ℕ). if v == 2 then big_number LAST_LEN (drop 43 (fields_of h ++ behind)) else 0)
+      (ap version_in (fields-append (last_field h.version h.last) behind) ∙ reads_version (last_field h.version h.last ++ behind) small)
+      ∙ where_two h.version (big_number LAST_LEN (drop 43 (fields_of h ++ behind))) h.last
+      (λ two. ap (λ (l : List ℕ). big_number LAST_LEN l)
+      (ap (λ (l : List ℕ). drop 43 l) (fields-append (last_field h.version h.last) behind)
+      ∙ fields_at_43 (last_field h.version h.last ++ behind) chain
+      ∙ ap (λ (v : ℕ). last_field v h.last ++ behind) two)
+      ∙ big_number-reads_back LAST_LEN h.last behind fits)
+
+  -- the fields that a frame begins with are the head's own
+  pub own_of : (behind : List ℕ) → h.version < 65536 → length h.chain.0 ≡ 20 → own_fields (fields_of h ++ behind) ≡ fields_of h
+  own_of behind small chain =
+      take_at (fields_of h) behind (fields_len (version_in (fields_of h ++ behind)))
+      (length-fields chain ∙ sym (ap fields_len (ap version_in (fields-append (last_field h.version h.last) behind)
+      ∙ reads_version (last_field h.version h.last ++ behind) small)))
+
+  pub frame_fields : h.version < 65536 → length h.chain.0 ≡ 20 → own_fields (head_frame h) ≡ fields_of h
+  frame_fields small chain =
+      ap own_fields (rest_is (h.version == 2)) ∙ own_of (frame_rest (h.version == 2) h.last) small chain
+    where
+      rest_is : (t : Bool) → head_frame h ≡ fields_with h (cond t (big_bytes LAST_LEN h.last) []) ++ frame_rest t h.last
+      rest_is true = refl
+      rest_is false =
+          fields-append (big_bytes LAST_LEN h.last) zeros
+          ∙ sym (fields-append [] (big_bytes LAST_LEN h.last ++ zeros))
+
+-- ---- one content
 
 module _ (score_of : List ℕ → List ℕ) (len number : ℕ) (most : len ≤ 2 ^ 30) (a : Content) (is : IsArenaContent score_of len a) where
   pub read_clumps : clump_count_in (fields_of (arena_head score_of number a)) ≡ length a.stored
-  read_clumps = big_number-reads_back 4 (length a.stored) (big_bytes 8 (used_of a.stored) ++ chain_of_blocks score_of a.stored) (omega (arith, content_fits score_of len a is, most))
+  read_clumps = big_number-reads_back 4 (length a.stored) (drop 15 (fields_of (arena_head score_of number a))) (omega (arith, content_fits score_of len a is, most))
 
-  pub read_used : used_in (fields_of (arena_head score_of number a)) ≡ used_of a.stored
-  read_used = big_number-reads_back 8 (used_of a.stored) (chain_of_blocks score_of a.stored) (omega (arith, content_fits score_of len a is, most))
+  pub read_used : used_in (fields_of (arena_head score_of number a)) ≡ used_of a.version a.stored
+  read_used = big_number-reads_back 8 (used_of a.version a.stored) (drop 23 (fields_of (arena_head score_of number a))) (omega (arith, content_fits score_of len a is, most))
+
+  pub read_version : version_in (fields_of (arena_head score_of number a)) ≡ a.version
+  read_version = big_number-reads_back 2 a.version (drop 6 (fields_of (arena_head score_of number a))) (version_small a.version is.version)
 
 same_flag : (a b : Bool) → flag_of a ≡ flag_of b → a ≡ b
 same_flag true true is = refl
@@ -50,28 +113,63 @@ one_content score_of region number a b file most is_a is_b =
     let sealed : a.sealed ≡ b.sealed = same_flag a.sealed b.sealed (ap (λ (l : List ℕ). slice_index l 10) heads) in
     let many : length a.stored ≡ length b.stored =
     sym (read_clumps score_of region.len number most a is_a.content) ∙ ap (λ (l : List ℕ). clump_count_in l) heads ∙ read_clumps score_of region.len number most b is_b.content in
-    let used : used_of a.stored ≡ used_of b.stored =
-    sym (read_used score_of region.len number most a is_a.content) ∙ ap (λ (l : List ℕ). used_in l) heads ∙ read_used score_of region.len number most b is_b.content in
-    let lens : length (clumps_of a.stored) ≡ length (clumps_of b.stored) =
-    length-clumps score_of a.stored is_a.content.stored ∙ used ∙ sym (length-clumps score_of b.stored is_b.content.stored) in
-    let bytes : clumps_of a.stored ≡ clumps_of b.stored = sym is_a.blocks.clumps ∙ ap (λ (n : ℕ). part (region.start + ARENA_HEAD_LEN) n file) lens ∙ is_b.blocks.clumps in
-    let stored : a.stored ≡ b.stored = same_stored score_of a.stored b.stored is_a.content.stored is_b.content.stored many bytes in
-    (λ i. record { sealed = sealed i; stored = stored i })
+    let version : a.version ≡ b.version =
+    sym (read_version score_of region.len number most a is_a.content) ∙ ap (λ (l : List ℕ). version_in l) heads ∙ read_version score_of region.len number most b is_b.content in
+    let stored : a.stored ≡ b.stored =
+    one_list score_of a.version (region.start + ARENA_HEAD_LEN) a.stored b.stored file is_a.content.stored is_b.content.stored many is_a.blocks.clumps
+    (subst (λ (v : ℕ). ClumpsStandAt v (region.start + ARENA_HEAD_LEN) b.stored file) (sym version) is_b.blocks.clumps) in
+    (λ i. record { version = version i; sealed = sealed i; stored = stored i })
 
--- the head that the fields of an arena give is that of its content
-pub head_reads : (score_of : List ℕ → List ℕ) (len number : ℕ) (old : Content) (h : ArenaHead) (fields : List ℕ) → len ≤ 2 ^ 30 → IsArenaContent score_of len old
-    → length fields ≤ 43 → fields ≡ fields_of (arena_head score_of number old) → IsHeadOf fields h → CanStand number len h → h ≡ arena_head score_of number old
-head_reads score_of len number old h fields most content short is of stand =
-    let clumps : h.clumps ≡ length old.stored = of.clumps ∙ ap (λ (l : List ℕ). clump_count_in l) is ∙ read_clumps score_of len number most old content in
-    let used : h.used ≡ used_of old.stored = of.used ∙ ap (λ (l : List ℕ). used_in l) is ∙ read_used score_of len number most old content in
-    let sealed : h.sealed ≡ old.sealed = same_flag h.sealed old.sealed (of.sealed ∙ ap (λ (l : List ℕ). slice_index l 10) is) in
-    let chain_len : length (chain_of_blocks score_of old.stored) ≤ 20 = omega (arith, short, ap (λ (l : List ℕ). length l) is) in
-    let chain : h.chain.0 ≡ chain_of_blocks score_of old.stored = of.chain ∙ ap (λ (l : List ℕ). part 23 20 l) is ∙ take_all 20 (chain_of_blocks score_of old.stored) chain_len in
+-- ---- one head
+
+-- the numbers of a head have their widths
+pub record HasWidths (h : ArenaHead) : Type 0 where
+  pub version : IsVersion h.version
+  pub clumps : h.clumps < 2 ^ 32
+  pub used : h.used < 2 ^ 64
+  pub last : h.last < 2 ^ 32
+
+-- two heads with the same fields are one, where version 1 says nothing of its last clump
+pub one_head : (h k : ArenaHead) → HasWidths h → HasWidths k → h.number ≡ k.number → length h.chain.0 ≡ 20
+    → (h.version ≡ 1 → h.last ≡ 0) → (k.version ≡ 1 → k.last ≡ 0) → fields_of h ≡ fields_of k → h ≡ k
+one_head h k wide_h wide_k number chain_h none_h none_k same =
+    let small_h : h.version < 65536 = version_small h.version wide_h.version in
+    let small_k : k.version < 65536 = version_small k.version wide_k.version in
+    let version : h.version ≡ k.version =
+    sym (reads_version h (last_field h.version h.last) small_h) ∙ ap version_in same ∙ reads_version k (last_field k.version k.last) small_k in
+    let sealed : h.sealed ≡ k.sealed = same_flag h.sealed k.sealed (ap (λ (l : List ℕ). slice_index l 10) same) in
+    let clumps : h.clumps ≡ k.clumps =
+    sym (big_number-reads_back 4 h.clumps (drop 15 (fields_of h)) wide_h.clumps) ∙ ap clump_count_in same ∙ big_number-reads_back 4 k.clumps (drop 15 (fields_of k)) wide_k.clumps in
+    let used : h.used ≡ k.used =
+    sym (big_number-reads_back 8 h.used (drop 23 (fields_of h)) wide_h.used) ∙ ap used_in same ∙ big_number-reads_back 8 k.used (drop 23 (fields_of k)) wide_k.used in
+    let behind : h.chain.0 ++ last_field h.version h.last ≡ k.chain.0 ++ last_field k.version k.last = ap (λ (l : List ℕ). drop 23 l) same in
+    let tail : length (last_field h.version h.last) ≡ length (last_field k.version k.last) =
+    ap (λ (v : ℕ). length (last_field v h.last)) version ∙ same_tail (k.version == 2) h.last k.last in
+    let chain_k : length k.chain.0 ≡ 20 =
+    omega (arith, chain_h, tail, ap (λ (l : List ℕ). length l) behind, length-append h.chain.0 (last_field h.version h.last), length-append k.chain.0 (last_field k.version k.last)) in
+    let chain : h.chain.0 ≡ k.chain.0 =
+    sym (take_at h.chain.0 (last_field h.version h.last) 20 chain_h) ∙ ap (λ (l : List ℕ). take 20 l) behind ∙ take_at k.chain.0 (last_field k.version k.last) 20 chain_k in
+    let last : h.last ≡ k.last = lasts wide_h.version (λ two.
+    sym (big_number-reads_back LAST_LEN h.last [] wide_h.last)
+    ∙ ap (λ (v : ℕ). big_number LAST_LEN (last_field v h.last ++ [])) (sym two)
+    ∙ ap (λ (l : List ℕ). big_number LAST_LEN (l ++ []))
+    (sym (drop_at h.chain.0 (last_field h.version h.last) 20 chain_h) ∙ ap (λ (l : List ℕ). drop 20 l) behind ∙ drop_at k.chain.0 (last_field k.version k.last) 20 chain_k)
+    ∙ ap (λ (v : ℕ). big_number LAST_LEN (last_field v k.last ++ [])) (sym version ∙ two)
+    ∙ big_number-reads_back LAST_LEN k.last [] wide_k.last) version in
     (λ i. record {
-      version = stand.version i;
-      number = stand.number_is i;
+      version = version i;
+      number = number i;
       sealed = sealed i;
       clumps = clumps i;
       used = used i;
       chain = record { 0 = chain i };
+      last = last i;
     })
+  where
+    same_tail : (t : Bool) (m n : ℕ) → length (cond t (big_bytes LAST_LEN m) []) ≡ length (cond t (big_bytes LAST_LEN n) [])
+    same_tail true m n = refl
+    same_tail false m n = refl
+
+    lasts : IsVersion h.version → (h.version ≡ 2 → h.last ≡ k.last) → h.version ≡ k.version → h.last ≡ k.last
+    lasts (inl one) two version = none_h one ∙ sym (none_k (sym version ∙ one))
+    lasts (inr second) two version = two second

@@ -19,7 +19,7 @@ use Rattle.vt_model.specs.declared.TheConstants.{ARENA_HEAD_LEN}
 use Rattle.vt_arena.specs.Arena.{ArenaState, PieceAdvances, changing, pieces}
 use Rattle.vt_arena.specs.Heads.{head_frame}
 use Rattle.vt_arena.specs.Layout.{Content, directory_place, head_place}
-use Rattle.vt_arena.specs.Places.{directory_room}
+use Rattle.vt_arena.specs.Places.{entries_len}
 use Rattle.vt_arena.specs.Sound.{IsRegion, IsSoundArena}
 use Rattle.vt_arena.specs.Whole.{staged_room, staged_directory}
 use Rattle.vt_arena.specs.Written.{clump_at, next_piece, next_commit_call}
@@ -82,9 +82,9 @@ changing_first a none = ap (λ (o : Option FrameChange). if is_some o then a.twi
 -- A write of a piece lies on the disk.
 module _ (a : ArenaState) (region : Region) (size : ℕ) (is_region : IsRegion region size)
     (room : (p : Packed) → a.written < length a.staged → p ≡ get_or a.staged a.written p
-    → a.head.used + staged_room (take a.written a.staged) + length p.bytes + directory_room a.head.clumps + ARENA_HEAD_LEN ≤ region.len)
-    (entries : directory_room (a.head.clumps + length a.staged) + a.head.used + staged_room a.staged + ARENA_HEAD_LEN ≤ region.len)
-    (entries_len : length (staged_directory a.staged) ≡ directory_room (length a.staged)) where
+    → a.head.used + staged_room (take a.written a.staged) + length p.bytes + entries_len a.head.clumps + ARENA_HEAD_LEN ≤ region.len)
+    (entries : entries_len (a.head.clumps + length a.staged) + a.head.used + staged_room a.staged + ARENA_HEAD_LEN ≤ region.len)
+    (entries_is : length (staged_directory a.staged) ≡ entries_len (length a.staged)) where
   pub piece_fits : CallFits (next_piece a region) size
   piece_fits = ⊎_elim
       (λ (below : a.written < length a.staged).
@@ -94,7 +94,7 @@ module _ (a : ArenaState) (region : Region) (size : ℕ) (is_region : IsRegion r
       (omega (arith, room it.0 below it.1, is_region.within)))
       (λ (all : length a.staged ≤ a.written).
       subst (λ (call : DeviceCall). CallFits call size) (sym (is_directory a region all))
-      (omega (arith, entries, entries_len, is_region.within)))
+      (omega (arith, entries, entries_is, is_region.within)))
       (cases_lt a.written (length a.staged))
 
 -- What a write of a piece leaves.
@@ -102,9 +102,9 @@ module _ {D E : Type 0} (disk : DiskOf D) (a : ArenaState) (region : Region) (be
     (next : a.written < pieces a) (calls counted : CallCount) (result : Result Step E)
     (makes : CallMade disk (next_piece a region) result calls counted before after)
     (room : (p : Packed) → a.written < length a.staged → p ≡ get_or a.staged a.written p
-    → a.head.used + staged_room (take a.written a.staged) + length p.bytes + directory_room a.head.clumps + ARENA_HEAD_LEN ≤ region.len)
-    (entries : directory_room (a.head.clumps + length a.staged) + a.head.used + staged_room a.staged + ARENA_HEAD_LEN ≤ region.len)
-    (entries_len : length (staged_directory a.staged) ≡ directory_room (length a.staged)) where
+    → a.head.used + staged_room (take a.written a.staged) + length p.bytes + entries_len a.head.clumps + ARENA_HEAD_LEN ≤ region.len)
+    (entries : entries_len (a.head.clumps + length a.staged) + a.head.used + staged_room a.staged + ARENA_HEAD_LEN ≤ region.len)
+    (entries_is : length (staged_directory a.staged) ≡ entries_len (length a.staged)) where
   -- a clump
   module _ (below : a.written < length a.staged) where
     p : Packed
@@ -156,7 +156,7 @@ module _ {D E : Type 0} (disk : DiskOf D) (a : ArenaState) (region : Region) (be
     there : ℕ
     there = directory_place region (a.head.clumps + length a.staged)
 
-    there_is : there ≡ region.start + (region.len - directory_room (a.head.clumps + length a.staged))
+    there_is : there ≡ region.start + (region.len - entries_len (a.head.clumps + length a.staged))
     unfolding there
     there_is = omega (arith, entries)
 
@@ -166,7 +166,7 @@ module _ {D E : Type 0} (disk : DiskOf D) (a : ArenaState) (region : Region) (be
 
     pub directory_within : WritesWithin disk region 1 before after
     directory_within = writes_in_region disk region there (length (staged_directory a.staged))
-        (omega (arith, there_is)) (omega (arith, there_is, entries, entries_len)) before after directory.writes
+        (omega (arith, there_is)) (omega (arith, there_is, entries, entries_is)) before after directory.writes
 
     pub directory_sound : (new : ArenaState) → PieceAdvances result a new → (score_of : List ℕ → List ℕ) (old : Content)
         → a.twin.change ≡ None → IsTrue disk.tells → length (disk.bytes before) ≡ disk.size before
@@ -181,14 +181,14 @@ module _ {D E : Type 0} (disk : DiskOf D) (a : ArenaState) (region : Region) (be
             subst (λ (s : ArenaState). IsSoundArena score_of s region old (disk.bytes after) (disk.images after)) (sym steps)
             (directory_failed score_of a region (disk.size before) old (disk.bytes before) (disk.bytes after) (disk.images before) (disk.images after)
             is_region rest there (length (staged_directory a.staged)) directory.writes.images (directory.writes.bytes told) sound
-            (omega (arith, all, next)) entries_len there_is (omega (arith, entries)))
+            (omega (arith, all, next)) entries_is there_is (omega (arith, entries)))
         by (Ok step) steps written =
             subst (λ (s : ArenaState). IsSoundArena score_of s region old (disk.bytes after) (disk.images after)) (sym steps.1)
             (directory_made score_of a region (disk.size before) old (disk.bytes before) (disk.bytes after) (disk.images before) (disk.images after)
             is_region rest there (length (staged_directory a.staged)) directory.writes.images (directory.writes.bytes told) sound
-            (omega (arith, all, next)) entries_len there_is (omega (arith, entries))
+            (omega (arith, all, next)) entries_is there_is (omega (arith, entries))
             (ap (λ (l : List ℕ). part there (length (staged_directory a.staged)) l) (written told)
-            ∙ part-with_bytes there (staged_directory a.staged) (disk.bytes before) (omega (arith, fits, there_is, entries, entries_len, is_region.within))))
+            ∙ part-with_bytes there (staged_directory a.staged) (disk.bytes before) (omega (arith, fits, there_is, entries, entries_is, is_region.within))))
 
   pub piece_within : WritesWithin disk region 1 before after
   piece_within = ⊎_elim clump_within directory_within (cases_lt a.written (length a.staged))

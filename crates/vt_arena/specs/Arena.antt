@@ -1,11 +1,12 @@
 -- An arena as its calls see it.
-use Rattle.std.specs.Prelude.{◌≡◌, ℕ, ◌+◌, min, nat_lt, Bool, ◌||◌, true, false, is_some, if◌then◌else◌, List, [], ◌∷◌, ◌++◌, length, map, Result, Ok, Err}
+use Rattle.std.specs.Prelude.{◌≡◌, ℕ, ◌+◌, ◌==◌, min, nat_lt, Bool, ◌&&◌, ◌||◌, true, false, is_some, if◌then◌else◌, List, [], ◌∷◌, ◌++◌, length, map, Result, Ok, Err}
 use Rattle.vt_twin.specs.declared.step.Step.{Step}
 use Rattle.vt_twin.specs.declared.step.Step.TheVariants.{More, Done}
 use Rattle.vt_twin.specs.Twin.{TwinState, fresh, with_change, without_spare, after_call, twin_after_last, twin_after_fault, twin_calls_made}
 use Rattle.vt_clump.specs.declared.packed.Packed.{Packed}
 use Rattle.vt_clump.specs.Spelling.{Stored}
 use Rattle.vt_clump.specs.Clumps.{stored_of}
+use Rattle.vt_model.specs.declared.TheConstants.{WRITTEN_VERSION}
 use Rattle.vt_arena.specs.declared.head.ArenaHead.{ArenaHead}
 use Rattle.vt_arena.specs.declared.TheConstants.{FRAME_LEN}
 use Rattle.vt_arena.specs.Heads.{head_frame}
@@ -39,9 +40,16 @@ fresh_arena len current head = record {
   failed = false;
 }
 
--- a block of n bytes fits behind what is committed and what is staged
+-- The version of an arena with this head: one without clumps counts as one of the version that is
+-- written, since its first commit writes it so.
+abbrev pub version_counted : ArenaHead → ℕ
+version_counted head = if head.clumps == 0 then WRITTEN_VERSION else head.version
+
+-- a block of n bytes fits behind what is committed and what is staged; only an arena of the version
+-- that is written takes more
 abbrev pub fits : ArenaState → (n : ℕ) → Bool
-fits a n = has_room a.len a.next.used a.next.clumps n
+fits a n = version_counted a.next == WRITTEN_VERSION
+    && has_room WRITTEN_VERSION a.len a.next.used a.next.clumps n
 
 -- a call of a commit was made, and the commit isn't done
 abbrev pub is_committing : ArenaState → Bool
@@ -52,8 +60,9 @@ abbrev pub with_staged : (score_of : List ℕ → List ℕ) → Packed → Arena
 with_staged score_of p a = record a {
   staged = a.staged ++ p ∷ [];
   next = record a.next {
+    version = WRITTEN_VERSION;
     clumps = a.next.clumps + 1;
-    used = a.next.used + block_room p.len;
+    used = a.next.used + block_room WRITTEN_VERSION p.len;
     chain = record { 0 = score_of (a.next.chain.0 ++ entry_bytes p.kind p.len p.score.0) };
   };
 }
@@ -68,7 +77,11 @@ added_by_commit a = map stored_of a.staged
 
 -- what the arena stands for behind the commit under way
 abbrev pub next_content : ArenaState → Content → Content
-next_content a old = record { sealed = a.next.sealed; stored = old.stored ++ added_by_commit a }
+next_content a old = record {
+  version = if length a.staged == 0 then old.version else WRITTEN_VERSION;
+  sealed = a.next.sealed;
+  stored = old.stored ++ added_by_commit a;
+}
 
 -- The pieces of a commit are a clump for each of so many blocks and, where there are any, their
 -- directory.

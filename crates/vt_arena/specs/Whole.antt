@@ -4,7 +4,7 @@ use Rattle.std.specs.List.{flat_map}
 use Rattle.std.specs.Option.{ForSome}
 use Rattle.vt_twin.specs.Twin.{twin_calls_made}
 use Rattle.vt_clump.specs.declared.packed.Packed.{Packed}
-use Rattle.vt_model.specs.declared.TheConstants.{DIRECTORY_ENTRY_LEN}
+use Rattle.vt_model.specs.declared.TheConstants.{DIRECTORY_ENTRY_LEN, WRITTEN_VERSION}
 use Rattle.vt_arena.specs.declared.TheConstants.{FRAME_LEN, FIELDS_LEN, STAGED_MAX}
 use Rattle.vt_arena.specs.declared.arena.Arena.TheInside.{Inside}
 use Rattle.vt_arena.specs.Arena.{ArenaState, commit_pieces}
@@ -26,7 +26,7 @@ state_of a = record {
 
 -- what staged clumps take
 abbrev pub staged_room : List Packed → ℕ
-staged_room staged = sum_by (λ p. block_room p.len) staged
+staged_room staged = sum_by (λ p. block_room WRITTEN_VERSION p.len) staged
 
 -- The directory of staged clumps, in which the last entry stands first.
 abbrev pub staged_directory : List Packed → List ℕ
@@ -51,8 +51,10 @@ pub record IsWholeArena (a : Inside) : Type 0 where
   pub frame_len : a.twin.frame_len ≡ FRAME_LEN
   pub runs : a.failed ≡ false → a.twin.failed ≡ false
   pub len_is : IsArenaLen a.len
-  -- the next head counts what is committed and what is staged, and there is room for it
-  pub room : a.next.used + directory_room a.next.clumps ≤ arena_room a.len
+  -- there is room for what is committed; the next head counts that and what is staged, and there is
+  -- room for it too
+  pub fit : a.head.used + directory_room a.head.version a.head.clumps ≤ arena_room a.len
+  pub room : a.next.used + directory_room a.next.version a.next.clumps ≤ arena_room a.len
   pub used : a.next.used ≡ a.head.used + staged_room a.staged.items
   pub clumps : a.next.clumps ≡ a.head.clumps + length a.staged.items
   pub few : length a.staged.items ≤ STAGED_MAX

@@ -3,7 +3,7 @@
 ghost use Rattle.std.specs.Prelude.{◌≡◌, ◌↔◌, ◌+◌, ◌%◌, ◌<◌, ◌≤◌, ℕ, List, [], length, IsTrue, IsFalse, IsSome, true, IfOk, None, Some, Ok, Err};
 
 use crate::committing::entry_bytes;
-use crate::head::{ArenaHead, Found};
+use crate::head::{ArenaHead, Found, version_counted};
 use crate::{DIRECTORY_MAX, FRAME_LEN, STAGED_MAX, block_room, has_room};
 use std::alloc::{AllocError, Global};
 use std::marker::Model;
@@ -11,7 +11,7 @@ use vt_base::fields::put;
 use vt_base::{Bytes, Scorer};
 use vt_clump::Packed;
 use vt_disk::{CallCount, CallError, Disk, Region};
-use vt_model::DIRECTORY_ENTRY_LEN;
+use vt_model::{DIRECTORY_ENTRY_LEN, WRITTEN_VERSION};
 use vt_twin::{Step, Twin, TwinErr};
 
 /// How many bytes a link of the chain is the score of: the chain before it, and an entry.
@@ -40,7 +40,7 @@ pub struct Arena {
     pub(crate) directory: Vec<u8>,
     /// How many pieces of the commit under way were written: clumps, then their directory.
     pub(crate) written: usize,
-    /// How many bytes the clumps are, those counted that the commit under way has written.
+    /// How many bytes the clumps take, those counted that the commit under way has written.
     pub(crate) end: u64,
     /// The buffer of the head's next frame, while no change of the head is under way.
     pub(crate) buffer: Option<Bytes>,
@@ -63,12 +63,13 @@ impl Model for Arena {
 }
 
 impl Arena {
+    ghost use Rattle.vt_model.specs.declared.TheConstants.{WRITTEN_VERSION};
     ghost use Rattle.vt_disk.specs.Calls.{WritesWithin, IsSynced};
     ghost use Rattle.vt_base.specs.Faults.{CountsFault};
     ghost use Rattle.vt_disk.specs.DeviceCalls.{CallMade, is_call_fault};
     ghost use Rattle.vt_disk.specs.Disk.{WithinCall};
     ghost use Rattle.vt_arena.specs.Layout.{Content, IsArena};
-    ghost use Rattle.vt_arena.specs.Arena.{fresh_arena, fits, is_committing, with_staged, with_seal, next_content, pieces, commit_calls, calls_made, ArenaAdvances, content_after};
+    ghost use Rattle.vt_arena.specs.Arena.{fresh_arena, fits, is_committing, with_staged, with_seal, version_counted, next_content, pieces, commit_calls, calls_made, ArenaAdvances, content_after};
     ghost use Rattle.vt_arena.specs.Places.{IsArenaLen, directory_room, arena_room};
     ghost use Rattle.vt_arena.specs.Sound.{IsRegion, IsSoundArena, GivesOldOrNext};
     ghost use Rattle.vt_arena.specs.Written.{next_commit_call};
@@ -76,7 +77,8 @@ impl Arena {
     /// The arena of this length that was found. It makes room for commits, and no device call.
     pub fn resume(alloc: Global, len: u64, found: Found) -> Result<Arena, AllocError>
         requires len { IsArenaLen len }
-        requires fit { found.head.used + directory_room found.head.clumps ≤ arena_room len }
+        requires fit { found.head.used + directory_room found.head.version found.head.clumps
+            ≤ arena_room len }
         ensures { IfOk result (λ a. a ≡ fresh_arena len (found.selector % 2) found.head) }
     {
         let staged = Vec::with_capacity(alloc, STAGED_MAX)?;
@@ -104,7 +106,8 @@ impl Arena {
         requires rest { IsFalse (is_committing self.old) }
         requires none { self.old.staged ≡ [] }
         requires len { IsArenaLen len }
-        requires fit { found.head.used + directory_room found.head.clumps ≤ arena_room len }
+        requires fit { found.head.used + directory_room found.head.version found.head.clumps
+            ≤ arena_room len }
         ensures { self.new ≡ fresh_arena len (found.selector % 2) found.head }
     {
         self.number = found.head.number;
@@ -118,7 +121,8 @@ impl Arena {
     /// The head, as mounted or last committed.
     pub fn head(&self) -> ArenaHead
         ensures head { result ≡ self.now.head }
-        ensures fit { result.used + directory_room result.clumps ≤ arena_room self.now.len }
+        ensures fit { result.used + directory_room result.version result.clumps
+            ≤ arena_room self.now.len }
     {
         self.head
     }
@@ -132,11 +136,19 @@ impl Arena {
         &self.staged
     }
 
-    /// Whether a block of `n` bytes fits behind what is committed and what is staged.
+    /// Whether a block of `n` bytes fits behind what is committed and what is staged. Only an arena
+    /// of the version that is written takes more.
     pub fn fits(&self, n: u32) -> bool
         ensures { result ≡ fits self.now n }
     {
-        has_room(self.len, self.next.used, self.next.clumps, n)
+        version_counted(&self.next) == WRITTEN_VERSION
+            && has_room(
+                WRITTEN_VERSION,
+                self.len,
+                self.next.used,
+                self.next.clumps,
+                n,
+            )
     }
 
     /// Whether a call of a commit was made that isn't done. One of which a call failed stays so.
@@ -185,8 +197,9 @@ impl Arena {
         let at = put(&mut link, 0, &self.next.chain.0);
         put(&mut link, at, &entry);
         self.next.chain = scorer.score(&link);
+        self.next.version = WRITTEN_VERSION;
         self.next.clumps += 1;
-        self.next.used += block_room(packed.len);
+        self.next.used += block_room(WRITTEN_VERSION, packed.len);
         let place = (STAGED_MAX - 1 - self.staged.len()) * DIRECTORY_ENTRY_LEN;
         put(&mut self.directory, place, &entry);
         let Ok(()) = self.staged.push(packed) else {
@@ -194,9 +207,11 @@ impl Arena {
         };
     }
 
-    /// Lets the next commit seal the arena. It makes no device call.
+    /// Lets the next commit seal the arena, which counts as one of the version that is written: this
+    /// program seals none of version 2. It makes no device call.
     pub fn seal(&mut self)
         requires rest { IsFalse (is_committing self.old) }
+        requires version { version_counted self.old.next ≡ WRITTEN_VERSION }
         ensures { self.new ≡ with_seal self.old }
     {
         self.next.sealed = true;

@@ -6,12 +6,12 @@ ghost use Rattle.vt_disk.specs.DeviceCalls.{CallMade, call_of};
 ghost use Rattle.vt_arena.specs.Layout.{Content, head_place, entry_bytes as entry_bytes_of};
 
 use crate::arena::Arena;
-use crate::{DIRECTORY_MAX, block_room, directory_room};
+use crate::{DIRECTORY_MAX, block_room, entries_len};
 use vt_base::fields::{put, put_u8, put_u16};
 use vt_base::{Bytes, Failed};
 use vt_clump::Packed;
 use vt_disk::{Call, CallCount, CallError, Disk, Region};
-use vt_model::{ARENA_HEAD_LEN, DIRECTORY_ENTRY_LEN};
+use vt_model::{ARENA_HEAD_LEN, DIRECTORY_ENTRY_LEN, WRITTEN_VERSION};
 use vt_twin::{Step, TwinErr};
 
 impl Arena {
@@ -97,10 +97,7 @@ impl Arena {
             return region.write_call(ARENA_HEAD_LEN as u64 + self.end, packed.bytes.as_slice());
         }
         let entries = &self.directory[DIRECTORY_MAX - self.staged.len() * DIRECTORY_ENTRY_LEN..];
-        region.write_call(
-            self.len - directory_room(u64::from(self.next.clumps)),
-            entries,
-        )
+        region.write_call(self.len - entries_len(u64::from(self.next.clumps)), entries)
     }
 
     /// What comes behind the write of a piece.
@@ -115,7 +112,7 @@ impl Arena {
             return Err(TwinErr::Fault);
         };
         if self.written < self.staged.len() {
-            self.end += block_room(self.staged[self.written].len);
+            self.end += block_room(WRITTEN_VERSION, self.staged[self.written].len);
         }
         self.written += 1;
         Ok(Step::More)

@@ -5,7 +5,7 @@ use vt_base::FieldValue;
 /// A field of a head that is tested.
 #[derive(Clone, Copy, Debug, PartialEq, Eq)]
 pub enum Field {
-    /// The version of the format, which is 1.
+    /// The version of the format, 1 or 2.
     Version,
     /// The arena's number in its partition.
     Number,
@@ -13,6 +13,8 @@ pub enum Field {
     Sealed,
     /// What clumps and directory take by the head's counts, in bytes.
     Used,
+    /// How many sectors the last clump takes; version 1 doesn't have it.
+    Last,
 }
 
 /// Why an arena can't be mounted.
@@ -44,11 +46,11 @@ pub enum ReadBad {
     NoMemory,
 }
 
-/// Why a directory entry isn't given.
+/// Why a directory entry, or the header that stands for one, isn't given.
 #[derive(Clone, Copy, Debug, PartialEq, Eq)]
 pub enum BackBad {
     /// A call of the disk failed, and its count of faults rose.
     Fault,
-    /// A number of the entry can't stand there.
+    /// A value of the entry or header can't stand there.
     Damaged { want: FieldValue, found: FieldValue },
 }

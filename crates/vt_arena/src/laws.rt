@@ -12,7 +12,7 @@ ghost use Rattle.vt_clump.specs.Spelling.{Stored, clump_bytes};
 ghost use Rattle.vt_clump.specs.Clumps.{IsPacked};
 ghost use Rattle.vt_model.specs.Places.{Setup, room_of, version_of, fits as fits_by_lengths, offset_behind};
 ghost use Rattle.vt_model.specs.declared.TheConstants.{ARENA_HEAD_LEN, WRITTEN_VERSION};
-ghost use Rattle.vt_arena.specs.Arena.{ArenaState, fresh_arena, fits, is_committing, with_staged, with_seal, next_content};
+ghost use Rattle.vt_arena.specs.Arena.{ArenaState, fresh_arena, fits, is_committing, version_counted, with_staged, with_seal, next_content};
 ghost use Rattle.vt_arena.specs.Layout.{Content, IsArenaContent, IsArena, HasBlocks, BytesStandAt, arena_head, used_of};
 ghost use Rattle.vt_arena.specs.Places.{lengths_of, offset_of, arena_room, has_room};
 ghost use Rattle.vt_arena.specs.declared.TheConstants.{FRAME_LEN};
@@ -46,7 +46,7 @@ pub fn crash_gives_old_or_next<D: Disk>()
         (old : Content) (disk : D)
         → IsSoundArena score_of a region old (D.bytes disk) (D.images disk)
         → (c : List ℕ) → D.images disk c
-        → IsArenaContent score_of region.len old × HasBlocks region old.stored c }
+        → IsArenaContent score_of region.len old × HasBlocks region old c }
 {}
 
 /// An arena is in its region: other bytes don't matter, and what is done to the rest of the disk
@@ -59,8 +59,8 @@ pub fn arenas_are_in_their_regions()
     ensures blocks { (score_of : List ℕ → List ℕ) (region : Region) (a : Content)
         (old new : List ℕ) → ARENA_HEAD_LEN ≤ region.len
         → region_bytes region new ≡ region_bytes region old
-        → IsArenaContent score_of region.len a → HasBlocks region a.stored old
-        → HasBlocks region a.stored new }
+        → IsArenaContent score_of region.len a → HasBlocks region a old
+        → HasBlocks region a new }
     ensures elsewhere { (region other : Region) (old new : List ℕ)
         → ((i : ℕ) → Inside other i → ¬ Inside region i) → SameBut (Inside other) old new
         → region_bytes region new ≡ region_bytes region old }
@@ -108,6 +108,7 @@ pub fn soundness_is_kept<D: Disk>()
         (D.bytes disk) (D.images disk) }
     ensures seal { (score_of : List ℕ → List ℕ) (a : ArenaState) (region : Region)
         (old : Content) (disk : D) → IsFalse (is_committing a)
+        → version_counted a.next ≡ WRITTEN_VERSION
         → IsSoundArena score_of a region old (D.bytes disk) (D.images disk)
         → IsSoundArena score_of (with_seal a) region old (D.bytes disk) (D.images disk) }
     ensures elsewhere { (score_of : List ℕ → List ℕ) (a : ArenaState) (region : Region)
@@ -128,19 +129,19 @@ pub fn soundness_is_kept<D: Disk>()
 pub fn blocks_stand_at_their_places()
     ensures { (score_of : List ℕ → List ℕ) (region : Region) (old : Content)
         (before behind : List Stored) (s : Stored) (file : List ℕ)
-        → IsArenaContent score_of region.len old → HasBlocks region old.stored file
+        → IsArenaContent score_of region.len old → HasBlocks region old file
         → old.stored ≡ before ++ s ∷ behind
-        → BytesStandAt (region.start + offset_of before) (clump_bytes s) file }
+        → BytesStandAt (region.start + offset_of old.version before) (clump_bytes s) file }
 {}
 
 /// The room of an arena, and a block's place in it, are those of any store that has an arena of its
 /// length and version.
 pub fn room_is_the_models()
-    ensures fits { (c : Setup) (arena len n : ℕ) (stored : List Stored)
-        → version_of c arena ≡ WRITTEN_VERSION → room_of c arena ≡ arena_room len
-        → has_room len (used_of stored) (length stored) n
+    ensures fits { (c : Setup) (arena version len n : ℕ) (stored : List Stored)
+        → version_of c arena ≡ version → room_of c arena ≡ arena_room len
+        → has_room version len (used_of version stored) (length stored) n
         ≡ fits_by_lengths c arena (lengths_of stored ++ n ∷ []) }
-    ensures offset { (c : Setup) (arena : ℕ) (before : List Stored)
-        → version_of c arena ≡ WRITTEN_VERSION
-        → offset_of before ≡ offset_behind c arena (lengths_of before) }
+    ensures offset { (c : Setup) (arena version : ℕ) (before : List Stored)
+        → version_of c arena ≡ version
+        → offset_of version before ≡ offset_behind c arena (lengths_of before) }
 {}

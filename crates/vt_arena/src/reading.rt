@@ -49,8 +49,8 @@ pub fn read<D: Disk, S: Scorer>(
     // The block that stands there is given.
     ensures committed { (old : Content) (before behind : List Stored) (s : Stored)
         → IsTrue D.tells → IsArenaContent S.score_of region.len old
-        → HasBlocks region old.stored (D.bytes disk.old)
-        → old.stored ≡ before ++ s ∷ behind → offset ≡ offset_of before
+        → HasBlocks region old (D.bytes disk.old)
+        → old.stored ≡ before ++ s ∷ behind → offset ≡ offset_of old.version before
         → MatchResult result (IsClumpRead s)
         (λ bad. (bad ≡ ReadBad.Fault) ⊎ (bad ≡ ReadBad.NoMemory)) }
 

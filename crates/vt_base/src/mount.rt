@@ -13,6 +13,8 @@ pub enum MountField {
     Sealed,
     /// How many bytes of an arena are in use, its directory counted.
     Used,
+    /// How many sectors the last clump of an arena takes.
+    Last,
     /// How many clumps an arena has.
     Clumps,
     /// How many bytes each arena of a partition has.

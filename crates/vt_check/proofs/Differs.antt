@@ -5,7 +5,7 @@ use Rattle.std.specs.Option.{option_map, option_or}
 use Rattle.std.specs.Str.{bytes_eq}
 use Rattle.std.proofs.lemmas.Bool.{eqb-false, ltb-true}
 use Rattle.std.proofs.lemmas.Slice.Eq.{bytes_eq-Decides}
-use Rattle.vt_arena.specs.Directory.{kind_in, score_in_entry, size_in_entry, uncsize_in_entry}
+use Rattle.vt_arena.specs.Directory.{kind_in, score_in_entry, sectors_before, size_in_entry, uncsize_in_entry}
 use Rattle.vt_arena.specs.Reading.{damage_of_clump}
 use Rattle.vt_base.specs.declared.score.Score.{Score}
 use Rattle.vt_base.specs.declared.why.FieldValue.{FieldValue}
@@ -16,7 +16,7 @@ use Rattle.vt_clump.specs.declared.reading.ClumpBad.{ClumpBad}
 use Rattle.vt_clump.specs.Faults.{bad_encoding, bad_header, bad_size, first_bad_clump, first_fault, other_score}
 use Rattle.vt_clump.specs.Spelling.{Stored, size_in, stored_in, uncsize_in}
 use Rattle.vt_check.specs.declared.checking.Damage.{Damage}
-use Rattle.vt_check.specs.Checking.{DamageDiffers, bad_chain, bad_clump, bad_entry, bad_sum, chain_of_entries, clump_damage, damage_by, entry_damage, damage_of_numbers, scores}
+use Rattle.vt_check.specs.Checking.{DamageDiffers, bad_chain, bad_clump, bad_end, bad_entry, bad_link, bad_sum, chain_of_entries, clump_damage, damage_by, entry_damage, damage_of_numbers, in_second, last_taken, link_damage, scores, sectors_in, taken}
 
 -- this fault of a clump, if there is one, has two values
 abbrev HasTwo : Option ClumpBad → Type 0
@@ -113,9 +113,29 @@ bad_clump_differs score [] = tt
 bad_clump_differs score (clump ∷ clumps) =
     either_differs (clump_damage score clump) (bad_clump score clumps) (mapped (first_bad_clump score clump) (first_two score clump)) (bad_clump_differs score clumps)
 
-pub bad_sum_differs : (used : ℕ) (clumps : List (List ℕ)) → Differs (bad_sum used clumps)
-bad_sum_differs used clumps =
-    let sum : ℕ = sum_by (λ clump. length clump) clumps in
+-- where a clump names another number of sectors than the one before it takes
+link_differs : (before : ℕ) (clump : List ℕ) → Differs (link_damage before clump)
+link_differs before clump =
+    choose Differs (sectors_before clump == before) _ _ (λ _. tt)
+    (λ other. two_numbers before (sectors_before clump) (λ same. eqb-false (sectors_before clump) before other (sym same)))
+
+pub bad_link_differs : (before : ℕ) (clumps : List (List ℕ)) → Differs (bad_link before clumps)
+bad_link_differs before [] = tt
+bad_link_differs before (clump ∷ clumps) =
+    either_differs (link_damage before clump) (bad_link (sectors_in clump) clumps) (link_differs before clump) (bad_link_differs (sectors_in clump) clumps)
+
+pub bad_end_differs : (last : ℕ) (clumps : List (List ℕ)) → Differs (bad_end last clumps)
+bad_end_differs last clumps =
+    let sectors : ℕ = last_taken 0 clumps in
+    choose Differs (last == sectors) _ _ (λ _. tt) (λ other. two_numbers sectors last (λ same. eqb-false last sectors other (sym same)))
+
+-- what is tested in version 2 alone
+pub second_differs : (version : ℕ) (damage : Option Damage) → Differs damage → Differs (in_second version damage)
+second_differs version damage differs = choose Differs (version == 2) damage None (λ _. differs) (λ _. tt)
+
+pub bad_sum_differs : (version used : ℕ) (clumps : List (List ℕ)) → Differs (bad_sum version used clumps)
+bad_sum_differs version used clumps =
+    let sum : ℕ = sum_by (λ clump. taken version (length clump)) clumps in
     choose Differs (sum == used) _ _ (λ _. tt) (λ other. two_numbers used sum (λ same. eqb-false sum used other (sym same)))
 
 entry_differs : (s : Stored) (entry : List ℕ) → Differs (entry_damage s entry)

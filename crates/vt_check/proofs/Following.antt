@@ -1,15 +1,16 @@
 -- Clumps that are cut, and those that were followed, with some more.
-use Rattle.std.proofs.Common.{◌≡◌, ◌∙◌, ⊎_elim, ℕ, zero, suc, ◌+◌, ◌-◌, ◌*◌, ◌<◌, ◌≤◌, Bool, true, false, Option, None, Some, List, [], ◌∷◌, ◌++◌, length, take, drop, map, replicate, fold, refl, sym, ap, subst, arith, append-nil, append_assoc, length-append, length-take, length-drop, take-append-drop}
+use Rattle.std.proofs.Common.{◌≡◌, ◌∙◌, ⊎_elim, ℕ, zero, suc, min, ◌+◌, ◌-◌, ◌*◌, ◌/◌, ◌<◌, ◌≤◌, Bool, true, false, Option, None, Some, List, [], ◌∷◌, ◌++◌, length, take, drop, map, replicate, fold, refl, sym, ap, subst, arith, append-nil, append_assoc, length-append, length-take, length-drop, take-append-drop}
 use Rattle.std.specs.Prelude.{All, slice_get, sum_by}
 use Rattle.std.specs.Option.{option_map, option_or}
-use Rattle.std.proofs.lemmas.List.{drop-drop, drop-take, map-append, take-take, take_all, take_more}
+use Rattle.std.proofs.lemmas.Bool.{cases_lt}
+use Rattle.std.proofs.lemmas.List.{drop-drop, drop-take, drop_all, map-append, take-take, take_all, take_more}
 use Rattle.std.proofs.lemmas.List.Sums.{fold-append, sum_by-append, sum_by-cons}
 use Rattle.std.proofs.lemmas.Option.{get_or_from_slice_get, slice_get_within}
 use Rattle.std.proofs.Math.Seq.{drop-cons}
 use Rattle.std.specs.List.{AllZip}
-use Rattle.vt_arena.specs.Directory.{last_entry}
+use Rattle.vt_arena.specs.Directory.{last_entry, sectors_before}
 use Rattle.vt_arena.specs.Layout.{directory_place}
-use Rattle.vt_arena.proofs.Layouts.{part-part}
+use Rattle.vt_arena.proofs.Layouts.{all_head, all_tail, part-part}
 use Rattle.vt_base.specs.Bytes.{AreBytes}
 use Rattle.vt_clump.specs.declared.reading.ClumpBad.{ClumpBad}
 use Rattle.vt_clump.specs.declared.reading.ClumpBad.TheVariants.{Short, Magic, Kind, Encoding, Size, Score, NoMemory as ClumpNoMemory}
@@ -22,9 +23,10 @@ use Rattle.vt_check.specs.declared.clumps.Cut.{Cut}
 use Rattle.vt_check.specs.declared.clumps.Followed.{Followed}
 use Rattle.vt_check.specs.declared.clumps.Tested.{Tested}
 use Rattle.vt_check.specs.declared.clumps.Tested.TheVariants.{BadClump, NoMemory}
-use Rattle.vt_check.specs.Checking.{bad_clump, bad_entry, chain_of_entries, clump_damage, clump_in, clumps_in, damage_by, entries_at, entry_damage}
-use Rattle.vt_check.specs.Following.{CutsFirst, HasFollowed, IsEntryRead, IsFrontOf, IsSoundClump, IsWithinWindow, TestsAs, cut_bytes, bytes_of_cuts, entries_in}
-use Rattle.vt_check.proofs.Judging.{all_cons, size-take}
+use Rattle.vt_check.specs.Checking.{bad_clump, bad_entry, bad_link, chain_of_entries, clump_damage, clump_in, clumps_in, damage_by, entries_at, entry_damage, last_taken, link_damage, sectors_in, taken}
+use Rattle.vt_check.specs.Following.{CutsFirst, HasFollowed, HasOwnEntry, IsEntryRead, IsFrontOf, IsSoundClump, IsWithinWindow, TestsAs, cut_bytes, entries_in, taken_by_cuts}
+use Rattle.vt_check.proofs.Judging.{all_cons, size-take, sound_passes}
+use Rattle.vt_check.proofs.Taken.{behind_clump, taken_most}
 
 -- ---- one more
 
@@ -55,15 +57,29 @@ bad_entry-snoc (x ∷ xs) (y ∷ ys) c e many =
     ap (λ (o : Option Damage). option_or (entry_damage (stored_in x) y) o) (bad_entry-snoc xs ys c e (omega (arith, many)))
     ∙ sym (or_assoc (entry_damage (stored_in x) y) (bad_entry xs ys) (entry_damage (stored_in c) e))
 
-module _ (score : List ℕ → List ℕ) (clumps entries : List (List ℕ)) (f new : Followed) (it : HasFollowed score clumps entries f) (clump entry : List ℕ) where
+last-snoc : (before : ℕ) (cs : List (List ℕ)) (c : List ℕ) → last_taken before (cs ++ c ∷ []) ≡ sectors_in c
+last-snoc before [] c = refl
+last-snoc before (x ∷ xs) c = last-snoc (sectors_in x) xs c
+
+bad_link-snoc : (before : ℕ) (cs : List (List ℕ)) (c : List ℕ)
+    → bad_link before (cs ++ c ∷ []) ≡ option_or (bad_link before cs) (link_damage (last_taken before cs) c)
+bad_link-snoc before [] c = or_nothing (link_damage before c)
+bad_link-snoc before (x ∷ xs) c =
+    ap (λ (o : Option Damage). option_or (link_damage before x) o) (bad_link-snoc (sectors_in x) xs c)
+    ∙ sym (or_assoc (link_damage before x) (bad_link (sectors_in x) xs) (link_damage (last_taken (sectors_in x) xs) c))
+
+module _ (score : List ℕ → List ℕ) (version : ℕ) (clumps entries : List (List ℕ)) (f new : Followed) (it : HasFollowed score version clumps entries f) (clump entry : List ℕ) where
   -- behind a sound clump
-  pub followed_more : new.clumps ≡ f.clumps + 1 → new.used ≡ f.used + length clump → new.chain.0 ≡ score (f.chain.0 ++ entry)
+  pub followed_more : new.clumps ≡ f.clumps + 1 → new.used ≡ f.used + taken version (length clump) → new.last ≡ sectors_in clump
+      → new.link ≡ option_or f.link (link_damage f.last clump) → new.chain.0 ≡ score (f.chain.0 ++ entry)
       → new.entry ≡ option_or f.entry (entry_damage (stored_in clump) entry) → clump_damage score clump ≡ None
-      → AreBytes clump → IsEntryRead entry → HasFollowed score (clumps ++ clump ∷ []) (entries ++ entry ∷ []) new
-  followed_more count used chain damage sound bytes read = record {
+      → AreBytes clump → IsEntryRead entry → HasFollowed score version (clumps ++ clump ∷ []) (entries ++ entry ∷ []) new
+  followed_more count used last link chain damage sound bytes read = record {
     count = omega (arith, count, it.count, length-append clumps (clump ∷ []));
     entries_count = omega (arith, it.entries_count, length-append clumps (clump ∷ []), length-append entries (entry ∷ []));
-    used = omega (arith, used, it.used, sum_by-append (λ (c : List ℕ). length c) clumps (clump ∷ []));
+    used = omega (arith, used, it.used, sum_by-append (λ (c : List ℕ). taken version (length c)) clumps (clump ∷ []));
+    last = last ∙ sym (last-snoc 0 clumps clump);
+    link = link ∙ (λ i. option_or (it.link i) (link_damage (it.last i) clump)) ∙ sym (bad_link-snoc 0 clumps clump);
     sound =
         bad_clump-append score clumps (clump ∷ [])
         ∙ ap (λ (o : Option Damage). option_or o (bad_clump score (clump ∷ []))) it.sound
@@ -113,89 +129,89 @@ module _ (all bytes : List ℕ) (start : ℕ) (more : Bool) (front : IsFrontOf m
           ∙ take-take (clump_len (size_in (drop start all))) (length bytes - start) (drop start all) (omega (arith, room is, size_is, small (omega (arith, room is, length-drop start bytes)))))
       by_more false is = ap (λ (l : List ℕ). clump_in l) (sym (whole_is is))
 
--- behind a clump stands what stands behind its bytes
-pub behind_clump : (bytes : List ℕ) → drop (clump_len (size_in bytes)) bytes ≡ drop (length (clump_in bytes)) bytes
-behind_clump bytes = drop_len (clump_len (size_in bytes)) bytes
-  where
-    drop_len : {X : Type 0} (n : ℕ) (xs : List X) → drop n xs ≡ drop (length (take n xs)) xs
-    drop_len zero xs = refl
-    drop_len (suc n) [] = refl
-    drop_len (suc n) (x ∷ xs) = drop_len n xs
-
 -- ---- cutting in turn
 
-pub record IsCutting (bytes : List ℕ) (more : Bool) (entries : List ℕ) (count start left : ℕ) (cuts : List Cut) : Type 0 where
+pub record IsCutting (version : ℕ) (bytes : List ℕ) (more : Bool) (entries : List ℕ) (own : Bool) (count start left : ℕ) (cuts : List Cut) : Type 0 where
   pub within : All (IsWithinWindow bytes) cuts
   pub count_is : left + length cuts ≡ count
-  pub start_is : start ≡ bytes_of_cuts cuts
+  -- behind the last clump there may be less than it takes
+  pub start_is : start ≡ min (taken_by_cuts version cuts) (length bytes)
   pub start_most : start ≤ length bytes
-  pub entries_are : map (λ cut. cut.entry) cuts ++ entries_in left entries ≡ entries_in count entries
-  pub first : (all : List ℕ) → IsFrontOf more bytes all → CutsFirst bytes all cuts
+  pub entries_are : own ≡ false → map (λ cut. cut.entry) cuts ++ entries_in left entries ≡ entries_in count entries
+  pub own_are : own ≡ true → All (HasOwnEntry bytes) cuts
+  pub first : (all : List ℕ) → IsFrontOf more bytes all → CutsFirst version bytes all cuts
 
-pub begin_cutting : (bytes : List ℕ) (more : Bool) (entries : List ℕ) (count : ℕ) → IsCutting bytes more entries count 0 count []
-begin_cutting bytes more entries count = record {
+pub begin_cutting : (version : ℕ) (bytes : List ℕ) (more : Bool) (entries : List ℕ) (own : Bool) (count : ℕ) → IsCutting version bytes more entries own count 0 count []
+begin_cutting version bytes more entries own count = record {
   within = λ k d below. absurd (omega (arith, below));
   count_is = omega arith;
-  start_is = refl;
+  start_is = omega arith;
   start_most = omega arith;
-  entries_are = refl;
-  first = λ all front n few. ap (λ (m : ℕ). clumps_in m all) (omega arith);
+  entries_are = λ off. refl;
+  own_are = λ on k d below. absurd (omega (arith, below));
+  first = λ all front n few. ap (λ (m : ℕ). clumps_in version m all) (omega arith);
 }
 
-module _ (bytes : List ℕ) (more : Bool) (entries : List ℕ) (count start left less : ℕ) (cuts : List Cut) (it : IsCutting bytes more entries count start left cuts)
-    (left_is : left ≡ suc less) (room : more ≡ true → 65573 ≤ length bytes - start) (n : ℕ) (clump : take n (drop start bytes) ≡ clump_in (drop start bytes))
-    (len : n ≡ length (clump_in (drop start bytes))) (small : 38 ≤ length (drop start bytes) → size_in (drop start bytes) < 65536)
-    (cut : Cut) (start_here : cut.start ≡ start) (end_here : cut.end ≡ start + n) (entry_here : cut.entry ≡ part (25 * less) 25 entries) (read : IsEntryRead cut.entry) where
-  short : n ≤ length bytes - start
-  short = omega (arith, len, length-take (clump_len (size_in (drop start bytes))) (drop start bytes), length-drop start bytes)
-
-  bytes_of_cut : cut_bytes bytes cut ≡ clump_in (drop start bytes)
-  bytes_of_cut =
-      let n_is : cut.end - cut.start ≡ n = omega (arith, start_here, end_here) in
-      (λ i. take (n_is i) (drop (start_here i) bytes)) ∙ clump
-
-  sum_is : bytes_of_cuts (cuts ++ cut ∷ []) ≡ start + n
-  sum_is = omega (arith, sum_by-append (λ (c : Cut). c.end - c.start) cuts (cut ∷ []), it.start_is, start_here, end_here)
+module _ (version : ℕ) (bytes : List ℕ) (more : Bool) (entries : List ℕ) (own : Bool) (count start left less : ℕ) (cuts : List Cut)
+    (it : IsCutting version bytes more entries own count start left cuts) (left_is : left ≡ suc less) (room : more ≡ true → 65573 ≤ length bytes - start)
+    (cut : Cut) (inside : IsWithinWindow bytes cut) (clump : cut_bytes bytes cut ≡ clump_in (drop start bytes))
+    (len : cut.end - cut.start ≡ length (clump_in (drop start bytes))) (small : 38 ≤ length (drop start bytes) → size_in (drop start bytes) < 65536)
+    (entry : own ≡ false → cut.entry ≡ part (25 * less) 25 entries) (own_entry : own ≡ true → HasOwnEntry bytes cut)
+    (next : ℕ) (next_is : next ≡ min (start + taken version (cut.end - cut.start)) (length bytes)) where
+  sum_is : taken_by_cuts version (cuts ++ cut ∷ []) ≡ taken_by_cuts version cuts + taken version (cut.end - cut.start)
+  sum_is = omega (arith, sum_by-append (λ (c : Cut). taken version (c.end - c.start)) cuts (cut ∷ []))
 
   module _ (all : List ℕ) (front : IsFrontOf more bytes all) where
-    rest : List ℕ
-    rest = drop start all
+    -- behind so much stands what stands where the next is cut
+    drops_same : drop (taken_by_cuts version cuts) all ≡ drop start all
+    drops_same = ⊎_elim
+        (λ (past : length bytes < taken_by_cuts version cuts). by_more more refl past)
+        (λ (within : taken_by_cuts version cuts ≤ length bytes).
+        let here : taken_by_cuts version cuts ≡ start = omega (arith, within, it.start_is) in
+        ap (λ (n : ℕ). drop n all) here)
+        (cases_lt (length bytes) (taken_by_cuts version cuts))
+      where
+        by_more : (b : Bool) → more ≡ b → length bytes < taken_by_cuts version cuts → drop (taken_by_cuts version cuts) all ≡ drop start all
+        by_more true is past = absurd (omega (arith, past, it.start_is, room is))
+        by_more false is past =
+            drop_all (taken_by_cuts version cuts) all (omega (arith, past, front.whole is))
+            ∙ sym (drop_all start all (omega (arith, past, it.start_is, front.whole is)))
 
-    same_clump : clump_in (drop start all) ≡ clump_in (drop start bytes)
-    same_clump = first_clump all bytes start more front it.start_most room small
+    same_clump : clump_in (drop (taken_by_cuts version cuts) all) ≡ clump_in (drop start bytes)
+    same_clump = ap (λ (l : List ℕ). clump_in l) drops_same ∙ first_clump all bytes start more front it.start_most room small
 
-    behind_is : drop (clump_len (size_in (drop start all))) (drop start all) ≡ drop (bytes_of_cuts (cuts ++ cut ∷ [])) all
+    behind_is : drop (taken version (clump_len (size_in (drop (taken_by_cuts version cuts) all)))) (drop (taken_by_cuts version cuts) all)
+        ≡ drop (taken_by_cuts version (cuts ++ cut ∷ [])) all
     behind_is =
-        behind_clump (drop start all)
-        ∙ ap (λ (k : ℕ). drop k (drop start all)) (ap (λ (l : List ℕ). length l) same_clump ∙ sym len)
-        ∙ drop-drop n start all ∙ ap (λ (k : ℕ). drop k all) (sym sum_is)
+        behind_clump version (drop (taken_by_cuts version cuts) all)
+        ∙ ap (λ (k : ℕ). drop (taken version k) (drop (taken_by_cuts version cuts) all)) (ap (λ (l : List ℕ). length l) same_clump ∙ sym len)
+        ∙ drop-drop (taken version (cut.end - cut.start)) (taken_by_cuts version cuts) all ∙ ap (λ (k : ℕ). drop k all) (sym sum_is)
 
-    first_more : CutsFirst bytes all (cuts ++ cut ∷ [])
+    first_more : CutsFirst version bytes all (cuts ++ cut ∷ [])
     first_more m few =
         let many : length (cuts ++ cut ∷ []) ≡ length cuts + 1 = length-append cuts (cut ∷ []) in
         let count_left : m - length cuts ≡ suc (m - length (cuts ++ cut ∷ [])) = omega (arith, few, many) in
+        let behind : List (List ℕ) = clumps_in version (m - length (cuts ++ cut ∷ [])) (drop (taken_by_cuts version (cuts ++ cut ∷ [])) all) in
         it.first all front m (omega (arith, few, many))
-        ∙ (λ i. map (cut_bytes bytes) cuts ++ clumps_in (count_left i) (drop (sym it.start_is i) all))
-        ∙ (λ i. map (cut_bytes bytes) cuts ++ (same_clump i ∷ clumps_in (m - length (cuts ++ cut ∷ [])) (behind_is i)))
-        ∙ ap (λ (c : List ℕ). map (cut_bytes bytes) cuts ++ (c ∷ clumps_in (m - length (cuts ++ cut ∷ [])) (drop (bytes_of_cuts (cuts ++ cut ∷ [])) all))) (sym bytes_of_cut)
-        ∙ sym (append_assoc (map (cut_bytes bytes) cuts) (cut_bytes bytes cut ∷ []) (clumps_in (m - length (cuts ++ cut ∷ [])) (drop (bytes_of_cuts (cuts ++ cut ∷ [])) all)))
-        ∙ ap (λ (l : List (List ℕ)). l ++ clumps_in (m - length (cuts ++ cut ∷ [])) (drop (bytes_of_cuts (cuts ++ cut ∷ [])) all)) (sym (map-append (cut_bytes bytes) cuts (cut ∷ [])))
+        ∙ ap (λ (k : ℕ). map (cut_bytes bytes) cuts ++ clumps_in version k (drop (taken_by_cuts version cuts) all)) count_left
+        ∙ (λ i. map (cut_bytes bytes) cuts ++ (same_clump i ∷ clumps_in version (m - length (cuts ++ cut ∷ [])) (behind_is i)))
+        ∙ ap (λ (c : List ℕ). map (cut_bytes bytes) cuts ++ (c ∷ behind)) (sym clump)
+        ∙ sym (append_assoc (map (cut_bytes bytes) cuts) (cut_bytes bytes cut ∷ []) behind)
+        ∙ ap (λ (l : List (List ℕ)). l ++ behind) (sym (map-append (cut_bytes bytes) cuts (cut ∷ [])))
 
-  pub cut_more : IsCutting bytes more entries count (start + n) less (cuts ++ cut ∷ [])
+  pub cut_more : IsCutting version bytes more entries own count next less (cuts ++ cut ∷ [])
   cut_more = record {
-    within = all_snoc (IsWithinWindow bytes) cuts cut it.within (record {
-      is_cut = record { order = omega (arith, start_here, end_here); entry = read };
-      end = omega (arith, end_here, short, it.start_most);
-    });
+    within = all_snoc (IsWithinWindow bytes) cuts cut it.within inside;
     count_is = omega (arith, it.count_is, left_is, length-append cuts (cut ∷ []));
-    start_is = sym sum_is;
-    start_most = omega (arith, short, it.start_most);
-    entries_are =
+    start_is = omega (arith, next_is, it.start_is, sum_is);
+    start_most = omega (arith, next_is);
+    entries_are = λ off.
         ap (λ (l : List (List ℕ)). l ++ entries_in less entries) (map-append (λ (c : Cut). c.entry) cuts (cut ∷ []))
         ∙ append_assoc (map (λ (c : Cut). c.entry) cuts) (cut.entry ∷ []) (entries_in less entries)
-        ∙ ap (λ (e : List ℕ). map (λ (c : Cut). c.entry) cuts ++ (e ∷ entries_in less entries)) entry_here
+        ∙ ap (λ (e : List ℕ). map (λ (c : Cut). c.entry) cuts ++ (e ∷ entries_in less entries)) (entry off)
         ∙ ap (λ (k : ℕ). map (λ (c : Cut). c.entry) cuts ++ entries_in k entries) (sym left_is)
-        ∙ it.entries_are;
+        ∙ it.entries_are off;
+    own_are = λ on. all_snoc (HasOwnEntry bytes) cuts cut (it.own_are on) (own_entry on);
     first = λ all front. first_more all front;
   }
 
@@ -286,20 +302,39 @@ sound_as score bytes are none = record { bytes = are; none = ap (λ (o : Option 
 
 -- ---- following in turn
 
-pub step_on : (score : List ℕ → List ℕ) (window : List ℕ) (clumps entries : List (List ℕ)) (f new : Followed) (x cut : Cut) (damage : Option Damage)
-    → ((cs es : List (List ℕ)) (clump : List ℕ) → HasFollowed score cs es f → length clump ≡ cut.end - cut.start → IsSoundClump score clump
-    → entry_damage (stored_in clump) cut.entry ≡ damage → HasFollowed score (cs ++ clump ∷ []) (es ++ cut.entry ∷ []) new)
-    → cut ≡ x → HasFollowed score clumps entries f → IsWithinWindow window x → IsSoundClump score (cut_bytes window x)
-    → entry_damage (stored_in (cut_bytes window x)) x.entry ≡ damage → HasFollowed score (clumps ++ cut_bytes window x ∷ []) (entries ++ x.entry ∷ []) new
-step_on score window clumps entries f new x cut damage step is it inside sound entry =
-    let len : length (cut_bytes window x) ≡ x.end - x.start =
-    omega (arith, length-take (x.end - x.start) (drop x.start window), length-drop x.start window, inside.end, inside.is_cut.order) in
-    subst (λ (e : List ℕ). HasFollowed score (clumps ++ cut_bytes window x ∷ []) (entries ++ e ∷ []) new) (ap (λ (t : Cut). t.entry) is)
+-- how many bytes a cut has
+pub cut_len : (window : List ℕ) (cut : Cut) → IsWithinWindow window cut → length (cut_bytes window cut) ≡ cut.end - cut.start
+cut_len window cut inside =
+    omega (arith, length-take (cut.end - cut.start) (drop cut.start window), length-drop cut.start window, inside.end, inside.is_cut.order)
+
+-- so many cuts take no more than so many clumps with the rest of their last sectors
+pub taken_few : (version : ℕ) (window : List ℕ) (cuts : List Cut) → All (IsWithinWindow window) cuts → taken_by_cuts version cuts ≤ 66084 * length cuts
+taken_few version window [] all = omega arith
+taken_few version window (x ∷ xs) all =
+    omega (
+      arith,
+      sum_by-cons (λ (c : Cut). taken version (c.end - c.start)) x xs,
+      taken_most version (x.end - x.start),
+      (all_head (IsWithinWindow window) x xs all).is_cut.most,
+      taken_few version window xs (all_tail (IsWithinWindow window) x xs all),
+    )
+
+pub step_on : (score : List ℕ → List ℕ) (version : ℕ) (window : List ℕ) (clumps entries : List (List ℕ)) (f new : Followed) (x cut : Cut) (damage : Option Damage)
+    → ((cs es : List (List ℕ)) (clump : List ℕ) → HasFollowed score version cs es f → length clump ≡ cut.end - cut.start → IsSoundClump score clump
+    → cut.creator ≡ sectors_before clump
+    → entry_damage (stored_in clump) cut.entry ≡ damage → HasFollowed score version (cs ++ clump ∷ []) (es ++ cut.entry ∷ []) new)
+    → cut ≡ x → HasFollowed score version clumps entries f → IsWithinWindow window x → IsSoundClump score (cut_bytes window x)
+    → entry_damage (stored_in (cut_bytes window x)) x.entry ≡ damage → HasFollowed score version (clumps ++ cut_bytes window x ∷ []) (entries ++ x.entry ∷ []) new
+step_on score version window clumps entries f new x cut damage step is it inside sound entry =
+    let len : length (cut_bytes window x) ≡ x.end - x.start = cut_len window x inside in
+    let long : 38 ≤ x.end - x.start = omega (arith, len, (sound_passes score (cut_bytes window x) sound.none).long) in
+    subst (λ (e : List ℕ). HasFollowed score version (clumps ++ cut_bytes window x ∷ []) (entries ++ e ∷ []) new) (ap (λ (t : Cut). t.entry) is)
     (step clumps entries (cut_bytes window x) it (len ∙ sym (ap (λ (t : Cut). t.end - t.start) is)) sound
+    (ap (λ (t : Cut). t.creator) is ∙ inside.creator long)
     (ap (λ (t : Cut). entry_damage (stored_in (cut_bytes window x)) t.entry) is ∙ entry))
 
-pub used_on : (old new : ℕ) (x cut : Cut) → new ≡ old + (cut.end - cut.start) → cut ≡ x → new ≡ old + (x.end - x.start)
-used_on old new x cut used is = used ∙ ap (λ (t : Cut). old + (t.end - t.start)) is
+pub used_on : (version old new : ℕ) (x cut : Cut) → new ≡ old + taken version (cut.end - cut.start) → cut ≡ x → new ≡ old + taken version (x.end - x.start)
+used_on version old new x cut used is = used ∙ ap (λ (t : Cut). old + taken version (t.end - t.start)) is
 
 pub grows : (f : Cut → List ℕ) (front : List (List ℕ)) (cuts : List Cut) (i : ℕ) (x : Cut) → slice_get cuts i ≡ Some x
     → (front ++ map f (take i cuts)) ++ f x ∷ [] ≡ front ++ map f (take (i + 1) cuts)
@@ -307,7 +342,9 @@ grows f front cuts i x at =
     append_assoc front (map f (take i cuts)) (f x ∷ [])
     ∙ ap (λ (l : List (List ℕ)). front ++ l) (sym (map-append f (take i cuts) (x ∷ [])) ∙ ap (λ (l : List Cut). map f l) (sym (take_one_more cuts i x at)))
 
-pub sum_grows : (cuts : List Cut) (i : ℕ) (x : Cut) → slice_get cuts i ≡ Some x → bytes_of_cuts (take (i + 1) cuts) ≡ bytes_of_cuts (take i cuts) + (x.end - x.start)
-sum_grows cuts i x at =
-    let more : bytes_of_cuts (take (i + 1) cuts) ≡ bytes_of_cuts (take i cuts ++ x ∷ []) = ap (λ (l : List Cut). bytes_of_cuts l) (take_one_more cuts i x at) in
-    omega (arith, more, sum_by-append (λ (c : Cut). c.end - c.start) (take i cuts) (x ∷ []))
+pub sum_grows : (version : ℕ) (cuts : List Cut) (i : ℕ) (x : Cut) → slice_get cuts i ≡ Some x
+    → taken_by_cuts version (take (i + 1) cuts) ≡ taken_by_cuts version (take i cuts) + taken version (x.end - x.start)
+sum_grows version cuts i x at =
+    let more : taken_by_cuts version (take (i + 1) cuts) ≡ taken_by_cuts version (take i cuts ++ x ∷ []) =
+    ap (λ (l : List Cut). taken_by_cuts version l) (take_one_more cuts i x at) in
+    omega (arith, more, sum_by-append (λ (c : Cut). taken version (c.end - c.start)) (take i cuts) (x ∷ []))

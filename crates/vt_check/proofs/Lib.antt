@@ -2,7 +2,9 @@ pub mod Checks
 pub mod Differs
 pub mod Following
 pub mod Fronts
+pub mod Heads
 pub mod Judging
 pub mod Lists
 pub mod Reports
 pub mod Steps
+pub mod Taken

@@ -42,6 +42,10 @@ pub on_ok : {T E : Type 0} (r : Result T E) (P Q R : Type 0) → OnOk r P → On
 on_ok (Ok x) P Q R p q f = f p q
 on_ok (Err e) P Q R p q f = tt
 
+pub ok_of : {T E : Type 0} (r : Result T E) (P : Type 0) → P → OnOk r P
+ok_of (Ok x) P p = p
+ok_of (Err e) P p = tt
+
 pub zip_many : {X Y : Type 0} (R : X → Y → Type 0) (xs : List X) (ys : List Y) → AllZip R xs ys → length ys ≡ length xs
 zip_many R [] [] it = refl
 zip_many R [] (y ∷ ys) it = absurd it

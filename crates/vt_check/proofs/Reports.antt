@@ -1,73 +1,29 @@
 -- The arenas of a log, reported in turn.
-use Rattle.std.proofs.Common.{◌≡◌, ◌∙◌, ◌⊎◌, ⊎_elim, inl, inr, ℕ, zero, suc, ◌+◌, ◌*◌, ◌<◌, ◌≤◌, Bool, true, false, not, cond, Option, None, Some, List, [], ◌∷◌, ◌++◌, length, map, take, get_or, refl, sym, ap, subst, arith, length-append}
-use Rattle.std.specs.Prelude.{All, IsTrue, slice_get, sum_by, ◌||◌, ◌==◌}
-use Rattle.std.proofs.lemmas.Bool.{cases_lt, eqb-true, not-false}
-use Rattle.std.proofs.lemmas.List.{length-map, take_all}
+use Rattle.std.proofs.Common.{◌≡◌, ◌∙◌, ◌⊎◌, ⊎_elim, inl, inr, ℕ, zero, suc, ◌+◌, ◌*◌, ◌<◌, ◌≤◌, Some, List, [], ◌∷◌, ◌++◌, length, map, take, get_or, refl, sym, ap, subst, arith, length-append}
+use Rattle.std.specs.Prelude.{IsTrue, slice_get, sum_by}
 use Rattle.std.proofs.lemmas.List.Sums.{sum_by-take-le, sum_by_more}
-use Rattle.std.proofs.lemmas.Option.{get_or_from_slice_get, same_Some, slice_get-get_or, slice_get_within}
-use Rattle.vt_arena.specs.declared.error.ArenaBad.{ArenaBad}
+use Rattle.std.proofs.lemmas.Option.{get_or_from_slice_get, same_Some, slice_get_within}
 use Rattle.vt_arena.specs.declared.head.Found.{Found}
-use Rattle.vt_arena.specs.Faults.{bad_value, first_bad_head, room_taken}
-use Rattle.vt_arena.specs.Heads.{fields_of, number_in, sealed_in, version_in}
-use Rattle.vt_arena.specs.Layout.{fields_at}
+use Rattle.vt_arena.specs.Faults.{read_at}
+use Rattle.vt_arena.specs.Heads.{fields_of, own_fields}
 use Rattle.vt_disk.specs.Members.{DiskOf}
-use Rattle.vt_log.specs.declared.error.LogBad.{LogBad}
 use Rattle.vt_log.specs.Answers.{OnlyReadsLog}
-use Rattle.vt_log.specs.Faults.{bad_arena, first_bad_log, first_of_two, out_of_order}
 use Rattle.vt_log.specs.Log.{LogState}
-use Rattle.vt_log.specs.Sound.{IsArenaAt}
 use Rattle.vt_part.specs.declared.layout.ArenaRegion.{ArenaRegion}
 use Rattle.vt_check.specs.declared.checking.ArenaReport.{ArenaReport}
-use Rattle.vt_check.specs.Following.{IsReadableHead}
 use Rattle.vt_check.specs.Checking.{AreReports, AreTold, HasItsHeads, IsReportOf, TellsOf}
 use Rattle.vt_check.proofs.Checks.{reads_none, reads_then}
-use Rattle.vt_check.proofs.Judging.{then_none}
-
--- ---- the version of a head that passed
-
-first_none : (a b : Option LogBad) → first_of_two a b ≡ None → (a ≡ None) × (b ≡ None)
-first_none (Some x) b none = absurd (cc)
-first_none None b none = (refl, none)
-
-arena_none : (behind : Bool) (i : ℕ) (bad : Option ArenaBad) (fields : List ℕ) → bad_arena behind i bad fields ≡ None → bad ≡ None
-arena_none behind i (Some bad) fields none = absurd (cc)
-arena_none behind i None fields none = refl
-
-head_passes : (number len : ℕ) (fields : List ℕ) → first_bad_head number len fields ≡ None → (version_in fields ≡ 1) × (number_in fields ≡ number)
-head_passes number len fields none =
-    let magic = then_none _ _ (bad_value number len (version_in fields) (number_in fields) (sealed_in fields) (room_taken fields)) none in
-    let version = then_none (not (version_in fields == 1)) _ _ magic.1 in
-    let numbered = then_none (not (number_in fields == number)) _ _ version.1 in
-    (eqb-true _ _ (not-false _ version.0), eqb-true _ _ (not-false _ numbered.0))
-
-pub head_is : (behind : Bool) (k : ℕ) (layout : List ArenaRegion) (fields : List (List ℕ)) → first_bad_log behind k layout fields ≡ None
-    → (i : ℕ) (r : ArenaRegion) (f : List ℕ) → slice_get layout i ≡ Some r → slice_get fields i ≡ Some f → (version_in f ≡ 1) × (number_in f ≡ r.number)
-head_is behind k [] fields none i r f at there = absurd (cc)
-head_is behind k (q ∷ rest) [] none i r f at there = absurd (cc)
-head_is behind k (q ∷ rest) (e ∷ es) none zero r f at there =
-    let parts = first_none (bad_arena behind k (first_bad_head q.number q.region.len e) e) (first_bad_log (behind || sealed_in e == 0) (k + 1) rest es) none in
-    let same : e ≡ f = cc in
-    let arena : q ≡ r = cc in
-    let it = head_passes q.number q.region.len e (arena_none behind k (first_bad_head q.number q.region.len e) e parts.0) in (
-      ap (λ (l : List ℕ). version_in l) (sym same) ∙ it.0,
-      ap (λ (l : List ℕ). number_in l) (sym same) ∙ it.1 ∙ ap (λ (a : ArenaRegion). a.number) arena,
-    )
-head_is behind k (q ∷ rest) (e ∷ es) none (suc i) r f at there =
-    let parts = first_none (bad_arena behind k (first_bad_head q.number q.region.len e) e) (first_bad_log (behind || sealed_in e == 0) (k + 1) rest es) none in
-    head_is (behind || sealed_in e == 0) (k + 1) rest es parts.1 i r f at there
 
 -- what a mounted log's head says is what the disk has
 pub head_there : {D : Type 0} (disk : DiskOf D) (l : LogState D) → HasItsHeads disk l → (i : ℕ) (r : ArenaRegion) (found : Found) (file : List ℕ)
     → slice_get l.layout i ≡ Some r → slice_get l.heads i ≡ Some found → slice_get (map disk.bytes l.disks) r.part ≡ Some file
-    → (fields_at r.region file ≡ fields_of found.head) × IsReadableHead r.number found.head
+    → own_fields (read_at r.region r.number file) ≡ fields_of found.head
 head_there {D} disk l its i r found file at head there =
-    let below : i < length l.heads = slice_get_within l.heads i found head in
-    let named : slice_get its.fields i ≡ Some (fields_of found.head) =
+    let read : slice_get (map own_fields its.fields) i ≡ Some (own_fields (read_at r.region r.number file)) =
+    map_at own_fields its.fields i (read_at r.region r.number file) (its.fields_are.each i r file at there) in
+    let named : slice_get (map own_fields its.fields) i ≡ Some (fields_of found.head) =
     ap (λ (fs : List (List ℕ)). slice_get fs i) (sym its.mounted.heads) ∙ map_at (λ (f : Found). fields_of f.head) l.heads i found head in
-    let same : fields_at r.region file ≡ fields_of found.head =
-    same_Some (fields_at r.region file) (fields_of found.head) (sym (its.fields_are.each i r file at there) ∙ named) in
-    let it = head_is Bool.false 0 l.layout its.fields its.mounted.passed i r (fields_of found.head) at named in
-    (same, record { version = it.0; number_is = it.1 })
+    same_Some (own_fields (read_at r.region r.number file)) (fields_of found.head) (sym read ∙ named)
   where
     map_at : {X Y : Type 0} (f : X → Y) (xs : List X) (k : ℕ) (x : X) → slice_get xs k ≡ Some x → slice_get (map f xs) k ≡ Some (f x)
     map_at f [] k x at = absurd (cc)

@@ -1,9 +1,10 @@
 -- What checking an arena tells (venti(8), checkarenas): the first of its tests that fails, of all
--- clumps, of how many bytes they are, of all directory entries, and of the chain.
-use Rattle.std.specs.Prelude.{◌≡◌, ◌↔◌, ℕ, zero, suc, ◌+◌, ◌-◌, ◌==◌, not, if◌then◌else◌, Bool, true, false, Option, Some, None, IfSome, List, [], ◌∷◌, ◌++◌, fold, length, map, replicate, slice_get, sum_by, take, drop}
+-- clumps, of what each names in version 2 of the one before it, of how many bytes they take, of the
+-- last one's sectors in version 2, of all directory entries, and of the chain.
+use Rattle.std.specs.Prelude.{◌≡◌, ◌↔◌, ℕ, zero, suc, ◌+◌, ◌-◌, ◌/◌, ◌==◌, not, if◌then◌else◌, Bool, true, false, Option, Some, None, IfSome, List, [], ◌∷◌, ◌++◌, fold, length, map, replicate, slice_get, sum_by, take, drop}
 use Rattle.std.specs.Option.{option_map, option_or}
 use Rattle.std.specs.Str.{bytes_eq}
-use Rattle.vt_arena.specs.Directory.{kind_in, last_entry, score_in_entry, size_in_entry, uncsize_in_entry}
+use Rattle.vt_arena.specs.Directory.{entry_in_header, kind_in, last_entry, score_in_entry, sectors_before, size_in_entry, uncsize_in_entry, walks_headers}
 use Rattle.vt_arena.specs.Layout.{Content, IsArena}
 use Rattle.vt_arena.specs.Reading.{damage_of_clump}
 use Rattle.vt_arena.specs.declared.head.ArenaHead.{ArenaHead}
@@ -16,9 +17,10 @@ use Rattle.vt_clump.specs.Spelling.{Stored, clump_len, size_in, stored_in}
 use Rattle.vt_disk.specs.Disk.{part}
 use Rattle.vt_disk.specs.Members.{DiskOf}
 use Rattle.vt_disk.specs.declared.region.Region.{Region}
-use Rattle.vt_log.specs.Faults.{AreFields, IsMountedBy}
+use Rattle.vt_log.specs.Faults.{AreReadAt, IsMountedBy}
 use Rattle.vt_log.specs.Log.{LogState}
-use Rattle.vt_model.specs.declared.TheConstants.{ARENA_HEAD_LEN}
+use Rattle.vt_model.specs.declared.TheConstants.{ARENA_HEAD_LEN, CLUMP_UNIT}
+use Rattle.vt_model.specs.Places.{whole_units}
 use Rattle.vt_part.specs.declared.layout.ArenaRegion.{ArenaRegion}
 use Rattle.vt_check.specs.declared.checking.ArenaReport.{ArenaReport}
 use Rattle.vt_check.specs.declared.checking.CheckErr.{CheckErr}
@@ -31,24 +33,37 @@ use Rattle.vt_check.specs.declared.checking.Damage.{Damage}
 abbrev pub clump_in : List ℕ → List ℕ
 clump_in bytes = take (clump_len (size_in bytes)) bytes
 
--- so many clumps, one behind the other
-abbrev pub clumps_in : (n : ℕ) → List ℕ → List (List ℕ)
-clumps_in zero bytes = []
-clumps_in (suc n) bytes = clump_in bytes ∷ clumps_in n (drop (clump_len (size_in bytes)) bytes)
+-- what a clump of so many bytes takes of an arena of this version, whole sectors in version 2
+abbrev pub taken : (version len : ℕ) → ℕ
+taken version len = if version == 2 then whole_units len else len
+
+-- so many clumps, each behind what the one before it takes
+abbrev pub clumps_in : (version n : ℕ) → List ℕ → List (List ℕ)
+clumps_in version zero bytes = []
+clumps_in version (suc n) bytes =
+    clump_in bytes ∷ clumps_in version n (drop (taken version (clump_len (size_in bytes))) bytes)
 
 -- the bytes of a region behind the arena's head
 abbrev pub area_of : Region → (file : List ℕ) → List ℕ
 area_of region file =
     part (region.start + ARENA_HEAD_LEN) (region.len - ARENA_HEAD_LEN) file
 
--- the clumps of an arena that has so many
-abbrev pub clumps_at : Region → (n : ℕ) → (file : List ℕ) → List (List ℕ)
-clumps_at region n file = clumps_in n (area_of region file)
+-- the clumps of an arena of this version that has so many
+abbrev pub clumps_at : (version : ℕ) → Region → (n : ℕ) → (file : List ℕ) → List (List ℕ)
+clumps_at version region n file = clumps_in version n (area_of region file)
 
 -- So many entries of an arena's directory, from entry i on.
 abbrev pub entries_at : Region → (i n : ℕ) → (file : List ℕ) → List (List ℕ)
 entries_at region i zero file = []
 entries_at region i (suc n) file = last_entry region (i + 1) file ∷ entries_at region (i + 1) n file
+
+-- the entries of an arena with this head: those of its directory or, where it has none yet, those in
+-- the headers of its clumps
+abbrev pub entries_of : Region → ArenaHead → (file : List ℕ) → (clumps : List (List ℕ))
+    → List (List ℕ)
+entries_of region head file clumps =
+    if walks_headers head then map entry_in_header clumps
+    else entries_at region 0 head.clumps file
 
 -- ---- the tests
 
@@ -74,11 +89,42 @@ abbrev pub bad_clump : (List ℕ → List ℕ) → List (List ℕ) → Option Da
 bad_clump score [] = None
 bad_clump score (clump ∷ rest) = option_or (clump_damage score clump) (bad_clump score rest)
 
--- the head counts as many bytes
-abbrev pub bad_sum : (used : ℕ) → List (List ℕ) → Option Damage
-bad_sum used clumps =
-    let sum = sum_by (λ clump. length clump) clumps in
+-- how many sectors a clump takes in version 2
+abbrev pub sectors_in : (clump : List ℕ) → ℕ
+sectors_in clump = taken 2 (length clump) / CLUMP_UNIT
+
+-- how many the last of these takes; where there is none, it is what stands before them
+abbrev pub last_taken : (before : ℕ) → (clumps : List (List ℕ)) → ℕ
+last_taken before [] = before
+last_taken before (clump ∷ rest) = last_taken (sectors_in clump) rest
+
+-- behind a clump of so many sectors this one names as many
+abbrev pub link_damage : (before : ℕ) → (clump : List ℕ) → Option Damage
+link_damage before clump =
+    let found = sectors_before clump in
+    if found == before then None else Some (damage_of_numbers before found)
+
+-- each of these clumps does, the first of which stands behind one of so many
+abbrev pub bad_link : (before : ℕ) → (clumps : List (List ℕ)) → Option Damage
+bad_link before [] = None
+bad_link before (clump ∷ rest) =
+    option_or (link_damage before clump) (bad_link (sectors_in clump) rest)
+
+-- the head counts as many bytes as the clumps take
+abbrev pub bad_sum : (version used : ℕ) → List (List ℕ) → Option Damage
+bad_sum version used clumps =
+    let sum = sum_by (λ clump. taken version (length clump)) clumps in
     if sum == used then None else Some (damage_of_numbers used sum)
+
+-- the last clump takes as many sectors as the head says
+abbrev pub bad_end : (last : ℕ) → List (List ℕ) → Option Damage
+bad_end last clumps =
+    let sectors = last_taken 0 clumps in
+    if last == sectors then None else Some (damage_of_numbers sectors last)
+
+-- what is wrong with what version 2 alone says
+abbrev pub in_second : (version : ℕ) → Option Damage → Option Damage
+in_second version damage = if version == 2 then damage else None
 
 -- the fields of an entry are those of the clump
 abbrev pub entry_damage : Stored → (entry : List ℕ) → Option Damage
@@ -111,14 +157,21 @@ bad_chain score entries found =
     if bytes_eq found (chain_of_entries score entries) then None else Some
     (scores (chain_of_entries score entries) found)
 
+-- the first of the tests behind those of each clump alone that fails
+abbrev pub end_damage : (List ℕ → List ℕ) → ArenaHead → (clumps entries : List (List ℕ))
+    → Option Damage
+end_damage score head clumps entries =
+    option_or (in_second head.version (bad_link 0 clumps))
+    (option_or (bad_sum head.version head.used clumps)
+    (option_or (in_second head.version (bad_end head.last clumps))
+    (option_or (bad_entry clumps entries) (bad_chain score entries head.chain.0))))
+
 -- the first that fails, in an arena with this head
 abbrev pub first_damage : (List ℕ → List ℕ) → Region → ArenaHead → (file : List ℕ) → Option Damage
 first_damage score region head file =
-    let clumps = clumps_at region head.clumps file in
-    let entries = entries_at region 0 head.clumps file in
+    let clumps = clumps_at head.version region head.clumps file in
     option_or (bad_clump score clumps)
-    (option_or (bad_sum head.used clumps)
-    (option_or (bad_entry clumps entries) (bad_chain score entries head.chain.0)))
+    (end_damage score head clumps (entries_of region head file clumps))
 
 -- ---- the report
 
@@ -150,7 +203,7 @@ pub record HasItsHeads {D : Type 0} (disk : DiskOf D) (l : LogState D) : Type 0 
   pub names : List (List ℕ)
   pub fields : List (List ℕ)
   pub mounted : IsMountedBy names l.layout fields l
-  pub fields_are : AreFields l.layout (map disk.bytes l.disks) fields
+  pub fields_are : AreReadAt l.layout (map disk.bytes l.disks) fields
 
 -- There is a report of each arena, in order.
 pub record AreReports {D : Type 0} (l : LogState D) (reports : List ArenaReport) : Type 0 where

@@ -1,17 +1,18 @@
 -- Following the clumps of an arena, some at a time.
 use Rattle.std.specs.Prelude.{All, ◌≡◌, ⊤, ℕ, zero, suc, ◌+◌, ◌-◌, ◌*◌, ◌<◌, ◌≤◌, Bool, true, false, IsTrue, Option, Some, None, Result, List, [], ◌∷◌, ◌++◌, length, map, sum_by, take, drop}
-use Rattle.vt_arena.specs.declared.head.ArenaHead.{ArenaHead}
-use Rattle.vt_arena.specs.Heads.{fields_of, number_in, version_in}
+use Rattle.vt_arena.specs.Directory.{entry_in_header, sectors_before}
 use Rattle.vt_base.specs.Bytes.{AreBytes}
+use Rattle.vt_clump.specs.declared.header.TheConstants.{HEADER_LEN}
 use Rattle.vt_clump.specs.Spelling.{stored_in}
 use Rattle.vt_disk.specs.Disk.{part}
 use Rattle.vt_model.specs.declared.TheConstants.{DIRECTORY_ENTRY_LEN}
 use Rattle.vt_check.specs.declared.checking.Damage.{Damage}
 use Rattle.vt_check.specs.declared.clumps.Cut.{Cut}
 use Rattle.vt_check.specs.declared.clumps.Followed.{Followed}
+use Rattle.vt_check.specs.declared.clumps.TheConstants.{MOST_CLUMP}
 use Rattle.vt_check.specs.declared.clumps.Tested.{Tested}
 use Rattle.vt_check.specs.declared.clumps.Tested.TheVariants.{Sound, BadEntry, BadClump, NoMemory}
-use Rattle.vt_check.specs.Checking.{bad_clump, bad_entry, chain_of_entries, clump_damage, clumps_in, entry_damage}
+use Rattle.vt_check.specs.Checking.{bad_clump, bad_entry, bad_link, chain_of_entries, clump_damage, clumps_in, entry_damage, last_taken, taken}
 
 -- ---- cutting
 
@@ -24,19 +25,29 @@ pub record IsEntryRead (entry : List ℕ) : Type 0 where
   pub len : length entry ≡ DIRECTORY_ENTRY_LEN
   pub bytes : AreBytes entry
 
--- a cut that a clump may be: it doesn't end before it begins, and its entry is one as it is read
+-- a cut that a clump may be: it doesn't end before it begins, has no more bytes than a clump, and its
+-- entry is one as it is read
 pub record IsCut (cut : Cut) : Type 0 where
   pub order : cut.start ≤ cut.end
+  pub most : cut.end - cut.start ≤ MOST_CLUMP
   pub entry : IsEntryRead cut.entry
 
--- a cut that lies among the bytes that were read together, the window
+-- a cut that lies among the bytes that were read together, the window; where these have its header,
+-- it has what that names of the clump before
 pub record IsWithinWindow (window : List ℕ) (cut : Cut) : Type 0 where
   pub is_cut : IsCut cut
   pub end : cut.end ≤ length window
+  pub creator : HEADER_LEN ≤ cut.end - cut.start
+      → cut.creator ≡ sectors_before (cut_bytes window cut)
 
--- how many bytes these cuts have together
-abbrev pub bytes_of_cuts : List Cut → ℕ
-bytes_of_cuts cuts = sum_by (λ cut. cut.end - cut.start) cuts
+-- its entry is the one in its header, where that is there
+abbrev pub HasOwnEntry : (window : List ℕ) → Cut → Type 0
+HasOwnEntry window cut =
+    HEADER_LEN ≤ cut.end - cut.start → cut.entry ≡ entry_in_header (cut_bytes window cut)
+
+-- how many bytes these cuts take together of an arena of this version
+abbrev pub taken_by_cuts : (version : ℕ) → List Cut → ℕ
+taken_by_cuts version cuts = sum_by (λ cut. taken version (cut.end - cut.start)) cuts
 
 -- the entries that these bytes are, so many, of which the last stands first
 abbrev pub entries_in : (n : ℕ) → (bytes : List ℕ) → List (List ℕ)
@@ -48,11 +59,11 @@ pub record IsFrontOf (more : Bool) (bytes all : List ℕ) : Type 0 where
   pub front : take (length bytes) all ≡ bytes
   pub whole : more ≡ false → length all ≡ length bytes
 
--- the cuts are the first of the clumps that these bytes begin with
-abbrev pub CutsFirst : (window all : List ℕ) → List Cut → Type 0
-CutsFirst window all cuts = (n : ℕ) → length cuts ≤ n
-    → clumps_in n all ≡ map (cut_bytes window) cuts
-    ++ clumps_in (n - length cuts) (drop (bytes_of_cuts cuts) all)
+-- the cuts are the first of the clumps that these bytes of an arena of this version begin with
+abbrev pub CutsFirst : (version : ℕ) → (window all : List ℕ) → List Cut → Type 0
+CutsFirst version window all cuts = (n : ℕ) → length cuts ≤ n
+    → clumps_in version n all ≡ map (cut_bytes window) cuts
+    ++ clumps_in version (n - length cuts) (drop (taken_by_cuts version cuts) all)
 
 -- ---- testing
 
@@ -72,21 +83,16 @@ TestsAs score clump entry NoMemory = ⊤
 
 -- ---- following
 
--- these clumps with these entries were followed, and no clump is damaged
-pub record HasFollowed (score : List ℕ → List ℕ) (clumps entries : List (List ℕ)) (f : Followed)
-    : Type 0 where
+-- these clumps of an arena of this version were followed, with these entries, and no clump is damaged
+pub record HasFollowed (score : List ℕ → List ℕ) (version : ℕ) (clumps entries : List (List ℕ))
+    (f : Followed) : Type 0 where
   pub count : f.clumps ≡ length clumps
   pub entries_count : length entries ≡ length clumps
-  pub used : f.used ≡ sum_by (λ clump. length clump) clumps
+  pub used : f.used ≡ sum_by (λ clump. taken version (length clump)) clumps
+  pub last : f.last ≡ last_taken 0 clumps
+  pub link : f.link ≡ bad_link 0 clumps
   pub sound : bad_clump score clumps ≡ None
   pub entry : f.entry ≡ bad_entry clumps entries
   pub bytes : All AreBytes clumps
   pub reads : All IsEntryRead entries
   pub chain : f.chain.0 ≡ chain_of_entries score entries
-
--- ---- the head
-
--- a head of the version that is read, which has the number of its arena
-pub record IsReadableHead (number : ℕ) (head : ArenaHead) : Type 0 where
-  pub version : version_in (fields_of head) ≡ 1
-  pub number_is : number_in (fields_of head) ≡ number

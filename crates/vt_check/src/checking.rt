@@ -1,10 +1,10 @@
 //! Checking the arenas of a log against their heads and directories (venti(8), checkarenas).
 
-ghost use Rattle.std.specs.Prelude.{◌≡◌, ◌+◌, ◌-◌, ◌*◌, ◌^◌, ◌<◌, ◌≤◌, ◌++◌, ℕ, List, All, IsTrue, IfOk, IfErr, IfSome, OnOk, length, slice_get, sum_by, ◌∷◌, []};
-ghost use Rattle.std.specs.Option.{option_or};
-ghost use Rattle.vt_arena.specs.Heads.{fields_of};
-ghost use Rattle.vt_model.specs.declared.TheConstants.{ARENA_HEAD_LEN};
-ghost use Rattle.vt_arena.specs.Layout.{fields_at};
+ghost use Rattle.std.specs.Prelude.{Bool, ◌≡◌, ◌+◌, ◌-◌, ◌*◌, ◌^◌, ◌<◌, ◌≤◌, ◌++◌, ℕ, List, All, IsTrue, IfOk, IfErr, IfSome, OnOk, length, slice_get, sum_by, ◌∷◌, []};
+ghost use Rattle.vt_arena.specs.Directory.{walks_headers};
+ghost use Rattle.vt_arena.specs.Faults.{read_at};
+ghost use Rattle.vt_arena.specs.Heads.{fields_of, own_fields};
+ghost use Rattle.vt_model.specs.declared.TheConstants.{ARENA_HEAD_LEN, DIRECTORY_ENTRY_LEN};
 ghost use Rattle.vt_arena.specs.Places.{arena_room, directory_room};
 ghost use Rattle.vt_arena.specs.declared.head.Found.{Found};
 ghost use Rattle.vt_disk.specs.Disk.{part};
@@ -12,8 +12,8 @@ ghost use Rattle.vt_log.specs.Answers.{OnlyReadsLog};
 ghost use Rattle.vt_log.specs.Faults.{CountsFaults};
 ghost use Rattle.vt_log.specs.Sound.{IsArenaAt};
 ghost use Rattle.vt_part.specs.declared.layout.ArenaRegion.{ArenaRegion};
-ghost use Rattle.vt_check.specs.Checking.{AreReports, AreTold, DamageDiffers, HasItsHeads, TellsOf, bad_chain, bad_entry, bad_sum, is_check_fault};
-ghost use Rattle.vt_check.specs.Following.{HasFollowed, IsReadableHead, IsWithinWindow, bytes_of_cuts};
+ghost use Rattle.vt_check.specs.Checking.{AreReports, AreTold, DamageDiffers, HasItsHeads, TellsOf, end_damage, in_second, is_check_fault};
+ghost use Rattle.vt_check.specs.Following.{HasFollowed, HasOwnEntry, IsWithinWindow};
 ghost use Rattle.vt_check.specs.Reading.{AreNextCuts};
 
 use crate::clumps::{Cut, Followed, MOST_CLUMP, cut_all, test_clumps};
@@ -23,7 +23,7 @@ use vt_arena::ArenaHead;
 use vt_base::{FieldValue, Score, Scorer};
 use vt_disk::Disk;
 use vt_log::Log;
-use vt_model::{ARENA_HEAD_LEN, DIRECTORY_ENTRY_LEN};
+use vt_model::{ARENA_HEAD_LEN, DIRECTORY_ENTRY_LEN, SECTOR_VERSION};
 use vt_out::Progress;
 
 /// How many clumps are tested at once at most.
@@ -83,7 +83,7 @@ pub struct ArenaReport {
     pub number: u32,
     /// How many blocks it has.
     pub clumps: u32,
-    /// How many bytes their clumps are.
+    /// How many bytes their clumps take.
     pub used: u64,
     /// Whether it is closed for more.
     pub sealed: bool,
@@ -98,11 +98,13 @@ pub struct Report {
 }
 
 /// Checks all arenas of a log, of those blocks that are committed. Of each arena the first of these
-/// tests that fails is told: each clump, how many bytes they are, each directory entry, and the
-/// chain of the entries.
+/// tests that fails is told: each clump; in version 2 how many sectors each names for the one before
+/// it; how many bytes they take; in version 2 how many sectors the last one takes; each directory
+/// entry; and the chain of the entries. Where an arena has no directory yet, its entries are those in
+/// the clumps' headers.
 ///
 /// At most 4,096 clumps are in memory at once, and at most 8 MiB of them. Those are tested in
-/// parallel. Two reads are made for each such part of an arena.
+/// parallel. Two reads are made for each such part of an arena, and one where it has no directory.
 pub fn check<D: Disk, S: Scorer + Sync, G: Progress>(
     rt: &(impl Threads + Sync),
     alloc: Global,
@@ -165,8 +167,7 @@ fn check_arena<D: Disk, S: Scorer + Sync>(
     ensures differs { IfOk result (λ damage. IfSome damage DamageDiffers) }
     ensures told { (r : ArenaRegion) (disk : D) (found : Found) → IsTrue D.tells
         → IsArenaAt log.old arena r disk → slice_get log.old.heads arena ≡ Some found
-        → fields_at r.region (D.bytes disk) ≡ fields_of found.head
-        → IsReadableHead r.number found.head
+        → own_fields (read_at r.region r.number (D.bytes disk)) ≡ fields_of found.head
         → IfOk result (TellsOf S.score_of r found.head (D.bytes disk)) }
     ensures reads { (found : Found) × (slice_get log.old.heads arena ≡ Some found)
         × OnlyReadsLog S.score_of D.Disk (2 * found.head.clumps) log.old log.new }
@@ -178,7 +179,7 @@ fn check_arena<D: Disk, S: Scorer + Sync>(
     while followed.clumps < head.clumps {
         room.fill(log, arena, len, &head, &followed)?;
         let tested = test_clumps(rt, alloc, &room.clumps, &room.cuts, scorer)?;
-        if let Some(damage) = followed.follow(&room.cuts, &tested, scorer)? {
+        if let Some(damage) = followed.follow(head.version, &room.cuts, &tested, scorer)? {
             return Ok(Some(damage));
         }
     }
@@ -188,16 +189,41 @@ fn check_arena<D: Disk, S: Scorer + Sync>(
 /// What is wrong where all clumps of an arena with this head were followed, and none is damaged.
 fn end_of(head: &ArenaHead, followed: &Followed) -> Option<Damage>
     ensures { (score : List ℕ → List ℕ) (clumps entries : List (List ℕ))
-        → HasFollowed score clumps entries followed.now
-        → result ≡ option_or (bad_sum head.now.used clumps)
-        (option_or (bad_entry clumps entries) (bad_chain score entries head.now.chain.0)) }
+        → HasFollowed score head.now.version clumps entries followed.now
+        → result ≡ end_damage score head.now clumps entries }
 {
     let sum = (followed.used != head.used).then_some(Damage::of_numbers(head.used, followed.used));
+    let last = (head.last != followed.last).then_some(Damage::of_numbers(
+        u64::from(followed.last),
+        u64::from(head.last),
+    ));
     let chain = (head.chain != followed.chain).then_some(Damage::of_scores(
         followed.chain,
         head.chain,
     ));
-    sum.or(followed.entry).or(chain)
+    in_second(head.version, followed.link)
+        .or(sum)
+        .or(in_second(head.version, last))
+        .or(followed.entry)
+        .or(chain)
+}
+
+/// What is wrong with what only version 2 says, in an arena of this version.
+fn in_second(version: u16, damage: Option<Damage>) -> Option<Damage>
+    ensures { result ≡ in_second version damage }
+{
+    if version == SECTOR_VERSION {
+        damage
+    } else {
+        None
+    }
+}
+
+/// Whether an arena with this head has no directory yet: it is of version 2, and isn't sealed.
+fn has_own_entries(head: &ArenaHead) -> bool
+    ensures { result ≡ walks_headers head.now }
+{
+    head.version == SECTOR_VERSION && !head.sealed
 }
 
 /// Room for what is read of an arena at once.
@@ -235,23 +261,27 @@ impl Room {
         requires len { (r : ArenaRegion) → slice_get log.old.layout arena ≡ Some r
             → len ≡ r.region.len }
         requires most { len ≤ 2 ^ 30 }
+        requires least { ARENA_HEAD_LEN ≤ len }
         requires left { followed.now.clumps < head.now.clumps }
-        requires begun { ARENA_HEAD_LEN + followed.now.used ≤ len }
-        requires fit { head.now.used + directory_room head.now.clumps ≤ arena_room len }
+        requires small { followed.now.used < 2 ^ 62 }
+        requires fit { head.now.used + directory_room head.now.version head.now.clumps
+            ≤ arena_room len }
         ensures cuts { OnOk result (All (IsWithinWindow self.new.clumps.items) self.new.cuts.items) }
         ensures some { OnOk result (0 < length self.new.cuts.items) }
         ensures few { OnOk result
             (followed.now.clumps + length self.new.cuts.items ≤ head.now.clumps) }
-        ensures room { OnOk result
-            (ARENA_HEAD_LEN + followed.now.used + bytes_of_cuts self.new.cuts.items ≤ len) }
         ensures next { (r : ArenaRegion) (disk : D) → IsTrue D.tells
             → IsArenaAt log.old arena r disk
-            → OnOk result (AreNextCuts r.region (D.bytes disk) head.now.clumps followed.now.clumps
+            → OnOk result (AreNextCuts r.region head.now (D.bytes disk) followed.now.clumps
             followed.now.used self.new.clumps.items self.new.cuts.items) }
+        ensures own { OnOk result (walks_headers head.now ≡ Bool.true
+            → All (HasOwnEntry self.new.clumps.items) self.new.cuts.items) }
         ensures reads { OnlyReadsLog S.score_of D.Disk 2 log.old log.new }
         ensures faults { CountsFaults D.Disk is_check_fault result log.old.disks log.new.disks }
     {
-        let left = len - ARENA_HEAD_LEN as u64 - followed.used;
+        // (behind its last clump an arena may end within a sector)
+        let at = (ARENA_HEAD_LEN as u64 + followed.used).min(len);
+        let left = len - at;
         let count = (head.clumps - followed.clumps).min(CLUMPS_AT_ONCE as u32);
         // What so many clumps take on the average, so that few bytes are read twice.
         let mean = head.used / u64::from(head.clumps) + 1;
@@ -259,25 +289,59 @@ impl Room {
             .saturating_mul(u64::from(count))
             .saturating_add(MOST_CLUMP as u64);
         let bytes = left.min(wanted).min(BYTES_AT_ONCE as u64);
-        let at = ARENA_HEAD_LEN as u64 + followed.used;
         read(log, arena, at, bytes as usize, &mut self.clumps)?;
-        let behind = DIRECTORY_ENTRY_LEN as u64 * (u64::from(followed.clumps) + u64::from(count));
-        let at = len - behind;
-        read(
+        let own = has_own_entries(head);
+        read_entries(
             log,
             arena,
-            at,
-            DIRECTORY_ENTRY_LEN * count as usize,
+            len,
+            own,
+            followed.clumps,
+            count,
             &mut self.entries,
         )?;
         cut_all(
+            head.version,
             &self.clumps,
             bytes < left,
             &self.entries,
+            own,
             count as usize,
             &mut self.cuts,
         )
     }
+}
+
+/// Reads so many entries of the directory of an arena of this length, from this one on, in the place
+/// of others. The last of them stands first. Where each clump has its own entry, nothing is read.
+fn read_entries<D: Disk, S: Scorer>(
+    log: &mut Log<D, S>,
+    arena: u32,
+    len: u64,
+    own: bool,
+    first: u32,
+    count: u32,
+    entries: &mut Vec<u8>,
+) -> Result<(), CheckErr>
+    requires arena { arena < length log.old.layout }
+    requires len { (r : ArenaRegion) → slice_get log.old.layout arena ≡ Some r → len ≡ r.region.len }
+    requires within { DIRECTORY_ENTRY_LEN * (first + count) ≤ len }
+    ensures len { own ≡ Bool.false
+        → OnOk result (length entries.new.items ≡ DIRECTORY_ENTRY_LEN * count) }
+    ensures read { own ≡ Bool.false → (r : ArenaRegion) (disk : D) → IsTrue D.tells
+        → IsArenaAt log.old arena r disk
+        → OnOk result (entries.new.items ≡ part (r.region.start
+        + (r.region.len - DIRECTORY_ENTRY_LEN * (first + count))) (DIRECTORY_ENTRY_LEN * count)
+        (D.bytes disk)) }
+    ensures reads { OnlyReadsLog S.score_of D.Disk 1 log.old log.new }
+    ensures faults { CountsFaults D.Disk is_check_fault result log.old.disks log.new.disks }
+{
+    if own {
+        return Ok(());
+    }
+    let behind = DIRECTORY_ENTRY_LEN as u64 * (u64::from(first) + u64::from(count));
+    let bytes = DIRECTORY_ENTRY_LEN * count as usize;
+    read(log, arena, len - behind, bytes, entries)
 }
 
 /// Reads so many bytes of an arena's region, from this offset on, in the place of others.

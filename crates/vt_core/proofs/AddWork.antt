@@ -15,7 +15,7 @@ use Rattle.vt_disk.specs.Members.{DiskOf}
 use Rattle.vt_log.specs.Log.{LogState, front, queued}
 use Rattle.vt_log.specs.Queue.{QueueState}
 use Rattle.vt_log.specs.declared.filling.Filling.{Filling}
-use Rattle.vt_log.proofs.Places.{slice_get_there}
+use Rattle.vt_log.proofs.Lists.{slice_get_there}
 use Rattle.vt_model.specs.History.{History, Accepted}
 use Rattle.vt_model.specs.Legal.{HasOtherKey, IsLegal}
 use Rattle.vt_model.specs.Places.{Setup, LiesIn, bucket_count, bucket_of, section_of_bucket, section_of_score}

@@ -135,5 +135,5 @@ module _ {D : Type 0} (disk : DiskOf D) (log_stands : LogStands disk) (files_agr
         keeps = log.1;
         within = log.2;
         stands = combined log.0 log.1 log.2 files left.sections left.filter (partitions_stand files.partitions left.partitions)
-            (of_tables k h files.partitions log.0 sound.log.whole.layout (record { base = log.3.base; log = log.3.log; least = log.3.least; most = log.3.most }));
+            (of_tables k h files.partitions log.0 sound.log.whole.layout (record { base = log.3.base; log = log.3.log; versions = log.3.versions; least = log.3.least; most = log.3.most }));
       }

@@ -21,6 +21,7 @@ pub mod Beside
 pub mod Chains
 pub mod Fields
 pub mod LogMount
+pub mod LogVersions
 pub mod Mounted
 pub mod Refused
 pub mod Returned

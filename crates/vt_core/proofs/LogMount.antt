@@ -1,25 +1,28 @@
 -- Mounting before the sections are opened.
-use Rattle.std.proofs.Common.{◌≡◌, ◌⊎◌, ⊎_elim, inl, inr, ◌≤◌, ◌+◌, ℕ, Bool, true, false, List, [], ◌∷◌, ◌++◌, length, map, take, Option, Some, None, Err, refl, sym, ◌∙◌, ap, subst, arith, append_assoc, ◌*◌}
+use Rattle.std.proofs.Common.{◌≡◌, ◌⊎◌, ⊎_elim, inl, inr, ◌≤◌, ◌+◌, ℕ, Bool, true, false, List, [], ◌∷◌, ◌++◌, length, map, take, drop, Option, Some, None, Err, refl, sym, ◌∙◌, ap, subst, arith, append_assoc}
 use Rattle.std.specs.Prelude.{IsTrue, MatchBool, sum, sum_by, ⊤, codes, if◌then◌else◌, nat_lt, not, ◌||◌, ◌==◌}
 use Rattle.std.specs.Str.{bytes_eq}
 use Rattle.std.specs.List.{All}
-use Rattle.std.specs.Option.{option_to_list}
+use Rattle.std.specs.Option.{option_map, option_or, option_to_list}
 use Rattle.std.proofs.lemmas.List.Sums.{sum_by-take-le, sum_by-cons}
 use Rattle.vt_arena.specs.declared.error.ArenaBad.{ArenaBad}
 use Rattle.vt_arena.specs.declared.error.ArenaBad.TheVariants as arena_bad
-use Rattle.vt_arena.specs.declared.error.Field.TheVariants.{Number, Sealed, Used, Version}
-use Rattle.vt_arena.specs.Faults.{bad_value, first_bad_head, room_taken}
-use Rattle.vt_arena.specs.Heads.{clump_count_in, number_in, sealed_in, version_in}
-use Rattle.vt_arena.specs.Places.{arena_room}
+use Rattle.vt_arena.specs.declared.error.Field.TheVariants.{Last, Number, Sealed, Used, Version}
+use Rattle.vt_arena.specs.declared.TheConstants.{FIELDS_LEN}
+use Rattle.vt_arena.specs.Faults.{bad_last_header, bad_last_value, bad_value, first_bad_fields, first_bad_head, names_last, room_taken}
+use Rattle.vt_arena.specs.Heads.{clump_count_in, last_in, number_in, sealed_in, used_in, version_in}
+use Rattle.vt_arena.specs.Places.{arena_room, bad_last, sectors_of}
+use Rattle.vt_clump.specs.Spelling.{size_in}
 use Rattle.vt_base.specs.declared.mount.MountBad.{MountBad}
 use Rattle.vt_base.specs.declared.mount.MountBad.TheVariants.{Disagree}
 use Rattle.vt_base.specs.declared.mount.MountField.TheVariants.{Arenas}
 use Rattle.vt_disk.specs.Calls.{IsSynced}
 use Rattle.vt_disk.specs.Members.{DiskOf}
 use Rattle.vt_log.specs.Answers.{HoldTheSame}
-use Rattle.vt_log.specs.Faults.{AreFields, IsMountedBy, RefusesLogMount, OneHasRisen, bad_arena, first_bad_log, first_of_two, is_log_fault, out_of_order}
+use Rattle.vt_log.specs.Faults.{AreReadAt, IsMountedBy, RefusesLogMount, OneHasRisen, bad_arena, first_bad_log, first_of_two, is_log_fault, out_of_order}
 use Rattle.vt_log.specs.Log.{IsMountedLog, LogState, disks_of}
 use Rattle.vt_log.specs.Logs.{IsLog, arena_count}
+use Rattle.vt_log.specs.Mounting.{reads_to_find_all}
 use Rattle.vt_log.specs.Sound.{IsSoundLog}
 use Rattle.vt_log.specs.Whole.{IsWholeLog}
 use Rattle.vt_log.specs.declared.error.LogBad.{LogBad}
@@ -74,15 +77,36 @@ value_none number len version numbered sealed taken =
     let last = if nat_lt room taken then Some (arena_bad.Torn Used taken room) else None in
     let third = if nat_lt 1 sealed then Some (arena_bad.Torn Sealed sealed 1) else last in
     let second = if not (numbered == number) then Some (arena_bad.Torn Number numbered number) else third in
-    if_none (not (version == 1)) (Some (arena_bad.Torn Version version 1)) second tt
+    if_none (not (version == 1 || version == 2)) (Some (arena_bad.Torn Version version 2)) second tt
     (if_none (not (numbered == number)) (Some (arena_bad.Torn Number numbered number)) third tt
     (if_none (nat_lt 1 sealed) (Some (arena_bad.Torn Sealed sealed 1)) last tt
     (if_none (nat_lt room taken) (Some (arena_bad.Torn Used taken room)) None tt tt)))
 
+or_none : (x y : Option ArenaBad) → NoFault x → NoFault y → NoFault (option_or x y)
+or_none None y one other = other
+or_none (Some bad) y one other = one
+
+last_none : (version clumps used last : ℕ) → NoFault (bad_last_value version clumps used last)
+last_none version clumps used last =
+    if_none (version == 2) (option_map (λ want. arena_bad.Torn Last last want) (bad_last clumps used last)) None (wanted (bad_last clumps used last)) tt
+  where
+    wanted : (o : Option ℕ) → NoFault (option_map (λ want. arena_bad.Torn Last last want) o)
+    wanted None = tt
+    wanted (Some want) = tt
+
+header_none : (last : ℕ) (header : List ℕ) → NoFault (bad_last_header last header)
+header_none last header = if_none (last == sectors_of (size_in header)) None (Some (arena_bad.Torn Last last (sectors_of (size_in header)))) tt tt
+
 fields_none : (number len : ℕ) (fields : List ℕ) → NoFault (first_bad_head number len fields)
 fields_none number len fields =
-    if_none (not (bytes_eq (take 4 fields) (codes "VARN"))) (Some arena_bad.NotFormatted) (bad_value number len (version_in fields) (number_in fields) (sealed_in fields) (room_taken fields)) tt
-    (value_none number len (version_in fields) (number_in fields) (sealed_in fields) (room_taken fields))
+    let value = bad_value number len (version_in fields) (number_in fields) (sealed_in fields) (room_taken fields) in
+    let last = bad_last_value (version_in fields) (clump_count_in fields) (used_in fields) (last_in fields) in
+    let header = bad_last_header (last_in fields) (drop FIELDS_LEN fields) in
+    or_none (first_bad_fields number len fields) (if names_last number len fields then header else None)
+    (if_none (not (bytes_eq (take 4 fields) (codes "VARN"))) (Some arena_bad.NotFormatted) (option_or value last) tt
+    (or_none value last (value_none number len (version_in fields) (number_in fields) (sealed_in fields) (room_taken fields))
+    (last_none (version_in fields) (clump_count_in fields) (used_in fields) (last_in fields))))
+    (if_none (names_last number len fields) header None (header_none (last_in fields) (drop FIELDS_LEN fields)) tt)
 
 abbrev NoFaultLog : Option LogBad → Type 0
 NoFaultLog None = ⊤
@@ -154,7 +178,7 @@ module _ {D : Type 0} (score : List ℕ → List ℕ) (disk : DiskOf D) (tables 
 
   -- the log is refused
   pub log_mount : (after : List D) (why : LogBad) (back : Devices D) → devices_in back ≡ with_log after devices filter → tables_in back ≡ tables
-      → (fields : List (List ℕ)) → (IsTrue disk.tells → AreFields (layout_of tables) (map disk.bytes before) fields)
+      → (fields : List (List ℕ)) → (IsTrue disk.tells → AreReadAt (layout_of tables) (map disk.bytes before) fields)
       → RefusesLogMount (map (λ t. t.name) tables) (layout_of tables) fields why → HoldTheSame disk before after
       → MatchBool (is_log_fault why) (OneHasRisen (map disk.faults before) (map disk.faults after)) (map disk.faults after ≡ map disk.faults before)
       → ((g : History) (base : ℕ) → IsTrue disk.tells → AreDistinct (map (λ t. t.name) tables) → IsLog score (layout_of tables) (map disk.bytes before) g base
@@ -179,29 +203,30 @@ module _ {D : Type 0} (score : List ℕ → List ℕ) (disk : DiskOf D) (tables 
 -- what is known of a log that was just mounted
 pub log_given : {D : Type 0} (score : List ℕ → List ℕ) (disk : DiskOf D) (parts : List (Part D)) (sections : List D) (filter : Option D) (log : LogState D)
     → IsWholeLog disk log → IsMountedLog log → log.layout ≡ layout_of (tables_of parts) → (same : log.tables ≡ tables_of parts) → arena_count (tables_of parts) ≤ 4096
-    → (fields : List (List ℕ)) → (IsTrue disk.tells → AreFields (layout_of (tables_of parts)) (map disk.bytes (disks_of parts)) fields)
+    → (fields : List (List ℕ)) → (IsTrue disk.tells → AreReadAt (layout_of (tables_of parts)) (map disk.bytes (disks_of parts)) fields)
     → IsMountedBy (names_of parts) (layout_of (tables_of parts)) fields log
     → ((g : History) (base : ℕ) → IsTrue disk.tells → AreDistinct (names_of parts) → IsLog score (layout_of (tables_of parts)) (map disk.bytes (disks_of parts)) g base
     → IsSoundLog score disk log g × (log.base ≡ base) × (log.durable ≡ length g))
     → HoldTheSame disk (disks_of parts) log.disks → All (IsSynced disk) log.disks → map disk.faults log.disks ≡ map disk.faults (disks_of parts)
-    → (IsTrue disk.tells → sum_by disk.calls log.disks ≤ sum_by disk.calls (disks_of parts) + length parts + 2 * arena_count (tables_of parts))
+    → (IsTrue disk.tells → sum_by disk.calls log.disks ≤ sum_by disk.calls (disks_of parts) + length parts + reads_to_find_all (layout_of (tables_of parts)) fields)
     → IsLogFound score disk (disks_of parts) sections filter log
 log_given score disk parts sections filter log whole mounted layout same few fields read by_ found held settled faults most =
-    let read_it : IsLogRead disk (tables_of parts) (with_log (disks_of parts) sections filter) log = record {
+    let read_it : IsLogRead disk log.tables (with_log (disks_of parts) sections filter) log = record {
       fields = fields;
-      read = read;
-      mounted = subst (λ (n : List (List ℕ)). IsMountedBy n (layout_of (tables_of parts)) fields log) (names_same parts) by_;
+      read = subst (λ (t : List Table). IsTrue disk.tells → AreReadAt (layout_of t) (map disk.bytes (disks_of parts)) fields) (sym same) read;
+      mounted = subst (λ (t : List Table). IsMountedBy (map (λ t. t.name) t) (layout_of t) fields log) (sym same)
+          (subst (λ (n : List (List ℕ)). IsMountedBy n (layout_of (tables_of parts)) fields log) (names_same parts) by_);
     } in
     record {
       whole = whole;
       mounted = mounted;
       layout = layout ∙ ap layout_of (sym same);
       arenas = subst (λ (t : List Table). arena_count t ≤ 4096) (sym same) few;
-      read = subst (λ (t : List Table). IsLogRead disk t (with_log (disks_of parts) sections filter) log) (sym same) read_it;
+      read = read_it;
       found = λ g base tells is. found g base tells by_.distinct
           (subst (λ (t : List Table). IsLog score (layout_of t) (map disk.bytes (disks_of parts)) g base) same is);
       held = held;
       settled = settled;
       faults = faults;
-      calls = λ tells. omega (arith, most tells, length-map parts (λ part. disk_of part), ap (λ (t : List Table). arena_count t) same);
+      calls = λ tells. omega (arith, most tells, length-map parts (λ part. disk_of part), ap (λ (t : List Table). reads_to_find_all (layout_of t) fields) same);
     }

@@ -17,7 +17,7 @@ use Rattle.vt_log.specs.Committing.{LogTakesStep}
 use Rattle.vt_log.specs.Faults.{CountsFaults, OneHasRisen, is_fault_now}
 use Rattle.vt_log.specs.Log.{LogState, queued}
 use Rattle.vt_log.specs.Sound.{IsSoundLog, AreImagesOf, AreWithinCallOf, LogStandsForPrefix}
-use Rattle.vt_log.specs.Logs.{LogStandsFor, versions_of}
+use Rattle.vt_log.specs.Logs.{LogStandsFor}
 use Rattle.vt_log.proofs.Lists.{at_slice, slice_get_other}
 use Rattle.vt_bloom.specs.Laws.{CoversMore}
 use Rattle.vt_shard.specs.Shard.{ShardState}
@@ -170,7 +170,8 @@ module _ {D : Type 0} (score : List ℕ → List ℕ) (disk : DiskOf D) (k : Cor
 
   setup : setup_of (record k { log = l }) ≡ setup_of k
   setup =
-      ap (λ (rs : List ArenaRegion). record { arenas = map (λ r. r.region.len) rs; versions = versions_of rs; base = l.base; sections = (setup_of k).sections }) step.kept.0
+      ap (λ (rs : List ArenaRegion). record { arenas = map (λ r. r.region.len) rs; versions = l.versions; base = l.base; sections = (setup_of k).sections }) step.kept.0
+      ∙ ap (λ (vs : List ℕ). record { arenas = (setup_of k).arenas; versions = vs; base = l.base; sections = (setup_of k).sections }) step.versions
       ∙ ap (λ (b : ℕ). record { arenas = (setup_of k).arenas; versions = (setup_of k).versions; base = b; sections = (setup_of k).sections }) step.kept.2
 
   pub log_whole : IsWhole disk k → IsWhole disk (record k { log = l })
@@ -240,7 +241,7 @@ module _ {D : Type 0} (score : List ℕ → List ℕ) (disk : DiskOf D) (k : Cor
         stands = each score k h files it.0 was
             (within_same disk (devices_of k).sections files.sections within.sections) (within_same disk (devices_of k).filter files.filter within.filter)
             it.1 it.2 (tables_within disk k.log l files.partitions was.log.whole.many_disks same_many step.kept.1 was.partitions (tables was.log.whole.layout was.partitions) within.partitions)
-            (of_tables k h files.partitions it.0 was.log.whole.layout (record { base = it.3.base; log = it.3.log; least = it.3.least; most = it.3.most }));
+            (of_tables k h files.partitions it.0 was.log.whole.layout (record { base = it.3.base; log = it.3.log; versions = it.3.versions; least = it.3.least; most = it.3.most }));
       }
 
   calls_all : CallsArena disk answer k.log l → CallsOne disk (all_of (devices_of k)) (all_of (devices_of (record k { log = l })))

@@ -1,6 +1,6 @@
 -- The store that is found.
-use Rattle.std.proofs.Common.{◌≡◌, ◌⊎◌, ⊎_elim, ◌<◌, ◌≤◌, ◌^◌, ℕ, true, false, List, [], ◌∷◌, ◌++◌, length, map, take, Option, Some, None, Ok, refl, sym, ◌∙◌, ap, subst, arith}
-use Rattle.std.specs.Prelude.{slice_get, IsTrue, IsSome, is_some, sum, ⊤, replicate}
+use Rattle.std.proofs.Common.{◌≡◌, ◌⊎◌, ⊎_elim, ◌<◌, ◌≤◌, ◌+◌, ◌-◌, ◌^◌, ℕ, true, false, List, [], ◌∷◌, ◌++◌, length, map, take, Option, Some, None, Ok, refl, sym, ◌∙◌, ap, subst, arith}
+use Rattle.std.specs.Prelude.{slice_get, IsTrue, IsSome, is_some, sum, sum_by, ⊤, replicate}
 use Rattle.std.specs.List.{All, AllByRecursion, AllZip}
 use Rattle.std.specs.Option.{MatchOption, option_to_list}
 use Rattle.std.proofs.lemmas.List.{length-map, map-append, take_all}
@@ -15,7 +15,7 @@ use Rattle.vt_disk.specs.Members.{DiskOf}
 use Rattle.vt_isect.specs.Layout.{buckets_in}
 use Rattle.vt_isect.specs.Section.{SectionState}
 use Rattle.vt_log.specs.Log.{LogState, IsMountedLog}
-use Rattle.vt_log.specs.Logs.{versions_of}
+use Rattle.vt_log.specs.Mounting.{reads_to_find_all}
 use Rattle.vt_log.specs.Sound.{IsSoundLog}
 use Rattle.vt_model.specs.History.{History, Accepted}
 use Rattle.vt_model.specs.Legal.{IsLegal}
@@ -40,6 +40,7 @@ use Rattle.vt_core.specs.Whole.{IsWhole}
 use Rattle.vt_core.proofs.Beside.{all_from, by_recursion, of_store, sound_shard}
 use Rattle.vt_core.proofs.Chains.{chain, chain_head, chain_buckets, filter_opened, made_faults, many_shards, room_buckets, same_buckets, shard_sizes, whole, IsChain}
 use Rattle.vt_recover.proofs.Lists.{at_map, only_one}
+use Rattle.vt_core.proofs.LogVersions.{setup_versions}
 use Rattle.vt_core.proofs.Standing.{held_bytes}
 use Rattle.vt_recover.proofs.Held.{held_many}
 use Rattle.vt_log.specs.Faults.{IsMountedBy}
@@ -129,14 +130,11 @@ module _ {D : Type 0} (score : List ℕ → List ℕ) (disk : DiskOf D) (devices
   arenas_are : map (λ r. r.region.len) log1.layout ≡ map (λ r. r.region.len) (layout_of log.tables)
   arenas_are = ap (λ (l : LogState D). map (λ r. r.region.len) l.layout) back.log ∙ ap (λ (rs : List ArenaRegion). map (λ r. r.region.len) rs) given.layout
 
-  versions_are : versions_of log1.layout ≡ versions_of (layout_of log.tables)
-  versions_are = ap (λ (l : LogState D). versions_of l.layout) back.log ∙ ap (λ (rs : List ArenaRegion). versions_of rs) given.layout
-
   sections_are : map (λ s. s.section.buckets) shards ≡ map (λ device. buckets_in (disk.size device)) devices
   sections_are = room_buckets score disk devices sections made sizes.lumps sizes.clean opens makes log log1 bits bits1 shards back
 
   setup_is : IsSetupOf disk log.tables pd (setup_of k)
-  setup_is = record { arenas = arenas_are; versions = versions_are; sections = sections_are }
+  setup_is = record { arenas = arenas_are; sections = sections_are }
 
   limits_are : KeepsLimits log.tables (setup_of k)
   limits_are = record {
@@ -183,7 +181,9 @@ module _ {D : Type 0} (score : List ℕ → List ℕ) (disk : DiskOf D) (devices
         filter_is = covered.filter_is;
       }) in
       let same : log1.durable ≡ log.durable = ap (λ (l : LogState D). l.durable) back.log in
-      omega (arith, all.calls tells, given.calls tells, low, same)
+      let most : sum_by disk.calls log1.disks ≤ sum_by disk.calls before + length before + reads_to_find_all (layout_of log.tables) given.read.fields + (log1.durable - n) =
+      omega (arith, all.calls tells, given.calls tells, low, same) in
+      (given.read.fields, given.read.read tells, most)
 
   -- ---- what it has of the heads
 
@@ -276,7 +276,7 @@ module _ {D : Type 0} (score : List ℕ → List ℕ) (disk : DiskOf D) (devices
 
   -- ---- on devices that stand for a history
 
-  module _ (tells : IsTrue disk.tells) (prefix : ReadsPrefix disk) (none_lacks : NoneLacks disk) (base_is_free : BaseIsFree disk) (legal_prefix : LegalPrefix) (legal_base : LegalBase) (one : HasOneSaved)
+  module _ (tells : IsTrue disk.tells) (read : (d : D) → disk.images d (disk.bytes d)) (prefix : ReadsPrefix disk) (none_lacks : NoneLacks disk) (base_is_free : BaseIsFree disk) (legal_prefix : LegalPrefix) (legal_base : LegalBase) (one : HasOneSaved)
       (c : Setup) (h g : History) (base : ℕ) (of : IsLogOf score disk log.tables pd c h g base) where
     was_read : IsReadAs score disk c log.tables pd h g base
     was_read = prefix score c log.tables pd h g base tells short of
@@ -288,7 +288,7 @@ module _ {D : Type 0} (score : List ℕ → List ℕ) (disk : DiskOf D) (devices
     recalled = all.recalls g tells log_found.0
 
     log_versions : HasVersionsOf log c
-    log_versions = of.setup.versions ∙ ap (λ (rs : List ArenaRegion). versions_of rs) (sym given.layout)
+    log_versions = setup_versions score disk before log devices filter given tells read c h g base of
 
     durable_is : log1.durable ≡ length g
     durable_is = ap (λ (l : LogState D). l.durable) back.log ∙ log_found.2
@@ -299,9 +299,9 @@ module _ {D : Type 0} (score : List ℕ → List ℕ) (disk : DiskOf D) (devices
     setup_same : setup_of k ≡ record c { base = base }
     setup_same =
         let a : map (λ r. r.region.len) log1.layout ≡ c.arenas = arenas_are ∙ sym of.setup.arenas in
-        let v : versions_of log1.layout ≡ c.versions = versions_are ∙ sym of.setup.versions in
+        let v : log1.versions ≡ c.versions = ap (λ (l : LogState D). l.versions) back.log ∙ sym log_versions in
         let s : map (λ s. s.section.buckets) shards ≡ c.sections = sections_are ∙ sym of.setup.sections in
-        ap (λ (x : List ℕ). record { arenas = x; versions = versions_of log1.layout; base = log1.base; sections = map (λ s. s.section.buckets) shards }) a
+        ap (λ (x : List ℕ). record { arenas = x; versions = log1.versions; base = log1.base; sections = map (λ s. s.section.buckets) shards }) a
         ∙ ap (λ (x : List ℕ). record { arenas = c.arenas; versions = x; base = log1.base; sections = map (λ s. s.section.buckets) shards }) v
         ∙ ap (λ (x : ℕ). record { arenas = c.arenas; versions = c.versions; base = x; sections = map (λ s. s.section.buckets) shards }) base_is
         ∙ ap (λ (x : List ℕ). record { arenas = c.arenas; versions = c.versions; base = base; sections = x }) s
@@ -372,10 +372,10 @@ module _ {D : Type 0} (score : List ℕ → List ℕ) (disk : DiskOf D) (devices
     recalls : Recalls score disk c g base k
     recalls = record { sound = is_sound; setup = setup_same; durable = durable_is }
 
-  pub mounts : (prefix : ReadsPrefix disk) (none_lacks : NoneLacks disk) (base_is_free : BaseIsFree disk) (legal_prefix : LegalPrefix) (legal_base : LegalBase) (one : HasOneSaved)
+  pub mounts : (read : (d : D) → IsTrue disk.tells → disk.images d (disk.bytes d)) (prefix : ReadsPrefix disk) (none_lacks : NoneLacks disk) (base_is_free : BaseIsFree disk) (legal_prefix : LegalPrefix) (legal_base : LegalBase) (one : HasOneSaved)
       → MountsStore score disk log.tables pd sizes sessions k
-  mounts prefix none_lacks base_is_free legal_prefix legal_base one = record {
-    recalls = λ c h g base tells of. recalls tells prefix none_lacks base_is_free legal_prefix legal_base one c h g base of;
+  mounts read prefix none_lacks base_is_free legal_prefix legal_base one = record {
+    recalls = λ c h g base tells of. recalls tells (λ d. read d tells) prefix none_lacks base_is_free legal_prefix legal_base one c h g base of;
     fresh = is_fresh;
     calls = reads_once;
     faults_are = faults_are;

@@ -11,7 +11,7 @@ use Rattle.vt_model.specs.Places.{Setup, current_arena}
 use Rattle.vt_part.specs.declared.layout.ArenaRegion.{ArenaRegion}
 use Rattle.vt_part.specs.Layout.{layout_of}
 use Rattle.vt_part.specs.Table.{Table}
-use Rattle.vt_log.specs.Logs.{IsLog, versions_of}
+use Rattle.vt_log.specs.Logs.{IsLog}
 use Rattle.vt_log.proofs.Lists.{slice_get_other}
 use Rattle.vt_core.specs.Core.{CoreState, setup_of, devices_of}
 use Rattle.vt_core.specs.Files.{PerDevice}
@@ -72,7 +72,6 @@ log_is_read disk read score c tables devices h legal setup each =
 own_setup : {D : Type 0} (score : List ℕ → List ℕ) (disk : DiskOf D) (k : CoreState D) (h : History) → IsSound score disk k h → IsSetupOf disk k.log.tables (devices_of k) (setup_of k)
 own_setup {D} score disk k h sound = record {
   arenas = ap (λ (rs : List ArenaRegion). map (λ r. r.region.len) rs) sound.log.whole.layout;
-  versions = ap (λ (rs : List ArenaRegion). versions_of rs) sound.log.whole.layout;
   sections = same_lists (map (λ s. s.section.buckets) k.shards) (map (λ device. buckets_in (disk.size device)) (map (λ s. s.section.disk) k.shards))
       (length-map k.shards (λ s. s.section.buckets) ∙ sym (length-map k.shards (λ s. s.section.disk)) ∙ sym (length-map (map (λ s. s.section.disk) k.shards) (λ device. buckets_in (disk.size device))))
       (λ i x y here there.

@@ -10,9 +10,7 @@ use Rattle.vt_model.specs.Legal.{IsLegal}
 use Rattle.vt_model.specs.Places.{Setup, current_arena}
 use Rattle.vt_part.specs.Laws.{IsUnambiguous}
 use Rattle.vt_part.specs.Table.{Table}
-use Rattle.vt_part.specs.declared.layout.ArenaRegion.{ArenaRegion}
 use Rattle.vt_isect.specs.Layout.{buckets_in}
-use Rattle.vt_log.specs.Logs.{versions_of}
 use Rattle.vt_log.specs.Sound.{AreImagesOf}
 use Rattle.vt_log.proofs.Lists.{slice_get_other}
 use Rattle.vt_core.specs.Core.{CoreState, setup_of, devices_of, machine_of}
@@ -72,7 +70,7 @@ module _ {D : Type 0} (disk : DiskOf D) (score : List ℕ → List ℕ) (c : Set
   setup_stays old new sizes setup =
       let f : D → ℕ = disk.size in
       let compose : (ds : List D) → map (λ d. buckets_in (f d)) ds ≡ map buckets_in (map f ds) = λ ds. map_twice f buckets_in ds in
-      record { arenas = setup.arenas; versions = setup.versions; sections = setup.sections ∙ compose old.sections ∙ ap (map buckets_in) (sym sizes) ∙ sym (compose new.sections) }
+      record { arenas = setup.arenas; sections = setup.sections ∙ compose old.sections ∙ ap (map buckets_in) (sym sizes) ∙ sym (compose new.sections) }
     where
       map_twice : (f : D → ℕ) (g : ℕ → ℕ) (ds : List D) → map (λ d. g (f d)) ds ≡ map g (map f ds)
       map_twice f g [] = refl
@@ -117,7 +115,6 @@ module _ {D : Type 0} (disk : DiskOf D) (gives : GivesPrefix disk) (apart : IsUn
       sym (length-map shards (λ s. s.section.disk)) ∙ sym (length-map (map (λ s. s.section.disk) shards) disk.size) ∙ ap length (sym r.crash.sizes) ∙ length-map sections disk.size in
       record {
         arenas = ap (map (λ a. a.region.len)) sound.log.whole.layout;
-        versions = ap (λ (rs : List ArenaRegion). versions_of rs) sound.log.whole.layout;
         sections = same_lists (map (λ s. s.section.buckets) shards) (map (λ device. buckets_in (disk.size device)) sections)
             (length-map shards (λ s. s.section.buckets) ∙ many ∙ sym (length-map sections (λ device. buckets_in (disk.size device))))
             (λ i x y here there.

@@ -4,10 +4,9 @@ use Rattle.std.specs.Prelude.{slice_get, IsTrue, ⊤}
 use Rattle.std.specs.List.{AllZip}
 use Rattle.std.specs.Option.{option_to_list, option_map}
 use Rattle.std.proofs.lemmas.List.{length-map, map-append, take_all}
-use Rattle.std.proofs.lemmas.Option.{same_Some}
-use Rattle.vt_arena.specs.Heads.{clump_count_in, fields_of, used_in}
-use Rattle.vt_arena.specs.Directory.{first_bad_entry, last_entry}
-use Rattle.vt_arena.specs.declared.error.BackBad.TheVariants as back_bad
+use Rattle.std.proofs.lemmas.Option.{same_Some, slice_get-map}
+use Rattle.vt_arena.specs.Heads.{fields_of, own_fields}
+use Rattle.vt_arena.specs.Directory.{IsReached, what_is_walked}
 use Rattle.vt_arena.specs.declared.head.Found.{Found}
 use Rattle.vt_base.specs.declared.mount.MountBad.{MountBad}
 use Rattle.vt_base.specs.declared.mount.MountBad.TheVariants.{Fault, Disagree, NoMemory}
@@ -22,7 +21,6 @@ use Rattle.vt_disk.specs.Members.{DiskOf}
 use Rattle.vt_isect.specs.Section.{SectionState}
 use Rattle.vt_log.specs.Answers.{HoldTheSame}
 use Rattle.vt_log.specs.Log.{LogState}
-use Rattle.vt_log.specs.Logs.{versions_of}
 use Rattle.vt_log.specs.Sound.{IsSoundLog}
 use Rattle.vt_log.proofs.Lists.{at_slice, slice_get_other}
 use Rattle.vt_model.specs.History.{History}
@@ -47,7 +45,8 @@ use Rattle.vt_recover.specs.Sections.{IsLive, SectionStandsFor}
 use Rattle.vt_core.proofs.Beside.{IsOfStore, of_store, sound_shard}
 use Rattle.vt_core.proofs.Chains.{IsChain, chain, chain_head, chain_buckets, made_faults, many_shards, shard_sizes}
 use Rattle.vt_core.proofs.Combined.{FilesAgree, section_stands}
-use Rattle.vt_core.proofs.Fields.{clumps_at, short_regions, used_at}
+use Rattle.vt_core.proofs.Fields.{short_regions}
+use Rattle.vt_core.proofs.LogVersions.{setup_versions, versions_read}
 use Rattle.vt_recover.proofs.Held.{IsHeld, held_reads, hold_still, hold_zip, counts_less, counts_more, held_many}
 use Rattle.vt_recover.proofs.Lists.{at_map}
 use Rattle.vt_core.proofs.Mounted.{LegalPrefix, ReadsPrefix, all_map, filter_same}
@@ -88,10 +87,6 @@ module _ {D : Type 0} (score : List ℕ → List ℕ) (disk : DiskOf D) (before 
 
   read_as : ReadsPrefix disk → IsTrue disk.tells → (c : Setup) (h g : History) (base : ℕ) → IsLogOf score disk log.tables pd c h g base → IsReadAs score disk c log.tables pd h g base
   read_as prefix tells c h g base of = prefix score c log.tables pd h g base tells (short_regions disk log given.whole) of
-
-  -- the log's arenas are those of the tables
-  log_versions : (c : Setup) → IsSetupOf disk log.tables pd c → HasVersionsOf log c
-  log_versions c setup = setup.versions ∙ ap (λ (rs : List ArenaRegion). versions_of rs) (sym given.layout)
 
   -- ---- a refusal of the sections or the filter
 
@@ -160,7 +155,10 @@ module _ {D : Type 0} (score : List ℕ → List ℕ) (disk : DiskOf D) (before 
       abbrev link : (i : ℕ) (after : ShardState D) → slice_get shards i ≡ Some after → IsChain disk devices sections made lumps clean i after
       link i after at = chain score disk devices sections made lumps clean opens makes log log1 bits bits1 shards back i after at
 
-      module _ (prefix : ReadsPrefix disk) (tells : IsTrue disk.tells) (c : Setup) (h g : History) (base : ℕ) (of : IsLogOf score disk log.tables pd c h g base) where
+      module _ (prefix : ReadsPrefix disk) (tells : IsTrue disk.tells) (read : (d : D) → disk.images d (disk.bytes d)) (c : Setup) (h g : History) (base : ℕ) (of : IsLogOf score disk log.tables pd c h g base) where
+        log_versions : HasVersionsOf log c
+        log_versions = setup_versions score disk before log devices filter given tells read c h g base of
+
         store_of : (i : ℕ) (s : ShardState D) (it : IsChain disk devices sections made lumps clean i s) → IsOfStore score disk c g i it.section
         store_of i s it = of_store score disk c g tells devices of.setup.sections i it.device it.section it.device_at ((read_as prefix tells c h g base of).sections i it.device it.device_at) it.opens
 
@@ -174,7 +172,7 @@ module _ {D : Type 0} (score : List ℕ → List ℕ) (disk : DiskOf D) (before 
             let it = link i s.0 s.1 in
             let store = store_of i s.0 it in
             let same : d ≡ s.0.section.disk = same_Some d s.0.section.disk (sym at ∙ at_map (λ s. s.section.disk) shards i s.0 s.1) in
-            let after : IsSoundFrom score c disk s.0 g (length g) from = recalled.shards i it.before s.0 it.before_at s.1 c (log_versions c of.setup) (before_sound i s.0 it) in
+            let after : IsSoundFrom score c disk s.0 g (length g) from = recalled.shards i it.before s.0 it.before_at s.1 c log_versions (before_sound i s.0 it) in
             let left : LeavesLive score c (take (length g) g) s.0 file =
             agree score c s.0 g (length g) from (length g) after (omega arith) (omega arith) file (subst (λ (x : D). disk.images x file) same image) in
             let head = chain_head score disk devices sections made lumps clean opens makes log log1 bits bits1 shards back i s.0 it in
@@ -200,7 +198,7 @@ module _ {D : Type 0} (score : List ℕ → List ℕ) (disk : DiskOf D) (before 
             subst (SectionStandsFor score c g i) (ap disk.bytes (sym device) ∙ ap disk.bytes device ∙ sym bytes)
             ((read_as prefix tells c h g base of).sections i b here) in
             let same : a ≡ s.0.section.disk = same_Some a s.0.section.disk (sym there ∙ at_map (λ s. s.section.disk) shards i s.0 s.1) in
-            let kept = keeps g i it.before s.0 tells sound it.before_at s.1 c (log_versions c of.setup) (subst (IsLive c i) (sym made_head) store.live) (made_buckets ∙ store.buckets) stands (before_sound i s.0 it) in
+            let kept = keeps g i it.before s.0 tells sound it.before_at s.1 c log_versions (subst (IsLive c i) (sym made_head) store.live) (made_buckets ∙ store.buckets) stands (before_sound i s.0 it) in
             ⊎_elim (λ (e : disk.bytes s.0.section.disk ≡ disk.bytes it.before.section.disk). inl (ap disk.bytes same ∙ e ∙ bytes)) (λ lacks. inr (subst (LacksMany score c g i) bytes lacks)) kept
 
       sizes_same : map disk.size (map (λ s. s.section.disk) shards) ≡ map disk.size devices
@@ -215,8 +213,8 @@ module _ {D : Type 0} (score : List ℕ → List ℕ) (disk : DiskOf D) (before 
           (λ i d at. at_slice (IsSynced disk) log.disks i d given.settled at) (filter_held disk filter bloom bits filter_opens) sizes_same
           (λ c h g base of i d file at image.
           let r = recalled g (given.found g base tells of.read).0 in
-          file_stands prefix tells c h g base of agree r.0 r.1 i d file at image)
-          (λ c h g base i b a of here there. bytes_kept prefix tells c h g base of keeps i b a here there)
+          file_stands prefix tells read c h g base of agree r.0 r.1 i d file at image)
+          (λ c h g base i b a of here there. bytes_kept prefix tells read c h g base of keeps i b a here there)
 
       sizes_all : map disk.size (all_of new) ≡ map disk.size (all_of pd)
       sizes_all = all_map disk.size log1.disks before (map (λ s. s.section.disk) shards) devices (option_to_list (option_map (λ b. b.disk) bloom)) (option_to_list filter)
@@ -243,8 +241,7 @@ module _ {D : Type 0} (score : List ℕ → List ℕ) (disk : DiskOf D) (before 
       entry_damaged : (arena : ℕ) (want found : FieldValue) → IsDamagedIn disk log arena want found → IsDamagedEntry disk log.tables pd arena want found
       entry_damaged arena want found it =
           let d = slice_get_other before log.disks it.r.part it.device (held_many disk before log.disks given.held) it.stands.disk_is in
-          let used : used_in (fields_of it.head.head) ≡ it.head.head.used = used_at disk log given.whole arena it.head it.head_is in
-          let clumps : clump_count_in (fields_of it.head.head) ≡ it.head.head.clumps = clumps_at disk log given.whole arena it.head it.head_is in
+          let same = held_bytes disk before log.disks it.r.part d.0 it.device given.held d.1 it.stands.disk_is in
           record {
             r = it.r;
             arena_is = ap (λ (rs : List ArenaRegion). slice_get rs arena) (sym given.layout) ∙ it.stands.arena;
@@ -252,23 +249,25 @@ module _ {D : Type 0} (score : List ℕ → List ℕ) (disk : DiskOf D) (before 
             disk_is = d.1;
             fields = given.read.fields;
             read = given.read.read;
-            head = fields_of it.head.head;
-            head_is = ap (λ (l : List (List ℕ)). slice_get l arena) (sym given.read.mounted.heads) ∙ at_map (λ (x : Found). fields_of x.head) log.heads arena it.head it.head_is;
+            head = it.head.head;
+            spelled = sym (slice_get-map own_fields given.read.fields arena) ∙ ap (λ (l : List (List ℕ)). slice_get l arena) (sym given.read.mounted.heads)
+                ∙ at_map (λ (x : Found). fields_of x.head) log.heads arena it.head it.head_is;
+            fits = given.whole.heads arena it.r it.head it.stands.arena it.head_is;
             at = it.at;
-            index = omega (arith, it.index, clumps);
-            end = omega (arith, it.end, used);
-            entry = it.entry;
-            entry_is = λ tells. it.entry_is tells ∙ ap (last_entry it.r.region it.at.index) (held_bytes disk before log.disks it.r.part d.0 it.device given.held d.1 it.stands.disk_is);
-            bad = subst (λ (n : ℕ). first_bad_entry n it.at it.entry ≡ Some (back_bad.Damaged want found)) (sym used) it.bad;
+            some = it.some;
+            reached = subst (λ (file : List ℕ). IsReached disk.tells it.head.head it.r.region file it.at) same it.reached;
+            bytes = it.bytes;
+            bytes_are = λ tells. it.bytes_are tells ∙ ap (what_is_walked it.head.head it.r.region it.at) same;
+            bad = it.bad;
           }
 
       damage_at : (site : Site) (want found : FieldValue) → IsDamagedAt disk log site want found → IsDamageAt disk log.tables pd site want found
       damage_at (Clump place) want found it = entry_damaged place.arena want found it
       damage_at (Bucket n) want found it = it
 
-      ends_cause : (part : ℕ) → part ≡ length before → TestsParts {U = ⊤} part sections bloom log.durable (Ok tt) → (bad : MountBad) → EndsEarly score disk part (opened log made bits) bad
+      ends_cause : (read : (d : D) → IsTrue disk.tells → disk.images d (disk.bytes d)) (part : ℕ) → part ≡ length before → TestsParts {U = ⊤} part sections bloom log.durable (Ok tt) → (bad : MountBad) → EndsEarly score disk part (opened log made bits) bad
           → (c : Setup) → IsSetupOf disk log.tables pd c → IsRefusedMount score disk log.tables pd c bad
-      ends_cause part at tests bad it c setup = ⊎_elim
+      ends_cause read part at tests bad it c setup = ⊎_elim
           (λ fault. inl fault)
           (λ rest. ⊎_elim
           (λ damage. inr (inr (inr (inr (inr (inr (inr (inr (
@@ -301,8 +300,9 @@ module _ {D : Type 0} (score : List ℕ → List ℕ) (disk : DiskOf D) (before 
                 found = found;
                 above = crowd.above;
                 bad_is = is ∙ ap (λ (p : ℕ). Disagree (p + i) Crowd found BUCKET_ROOM) at;
-                crowded = λ g base tells log_is stands.
-                    crowd.crowded c g tells (given.found g base tells log_is).0 (log_versions c setup)
+                crowded = λ g base tells log_is versions stands.
+                    crowd.crowded c g tells (given.found g base tells log_is).0
+                    (versions ∙ sym (versions_read score disk before log devices filter given tells (λ d. read d tells) g base log_is))
                     (sound_shard score disk c g lumps clean i t.0 crowd.shard tells (of_store score disk c g tells devices setup.sections i d.0 t.0 d.1 stands d.2) t.2);
               }
 
@@ -319,7 +319,7 @@ module _ {D : Type 0} (score : List ℕ → List ℕ) (disk : DiskOf D) (before 
       read_mount prefix legal_prefix agree read least part at tests bad all handed sizes sessions is tables = record {
         mounts = tt;
         found = λ c h g base tells of limits.
-            inl (all.found c g tells (given.found g base tells of.read).0 (log_versions c of.setup)
+            inl (all.found c g tells (given.found g base tells of.read).0 (setup_versions score disk before log devices filter given tells (λ d. read d tells) c h g base of)
             (λ n. subst (λ (l : History). crowd score (bucket_count c) l n ≤ BUCKET_ROOM) (sym (read_as prefix tells c h g base of).prefix) ((legal_prefix score c h (read_as prefix tells c h g base of).n of.legal).buckets n))
             (λ i s there.
             let t = zip_beside (IsShardMade disk lumps clean) sections made i s makes there in
@@ -329,7 +329,7 @@ module _ {D : Type 0} (score : List ℕ → List ℕ) (disk : DiskOf D) (before 
         standing = λ tells. subst (λ (p : PerDevice D). LeavesStanding score disk log.tables pd p) (sym is)
             (read_standing prefix agree (λ d. read d tells) tells (λ g sound. (length g, all.recalls g tells sound)) all.bytes);
         refused = refuses_back score disk log.tables pd new bad handed is (tables ∙ ap (λ (l : LogState D). l.tables) back.log)
-            (ends_cause part at tests bad all.ends_early) (counts_all bad all.counts) (λ soon. absurd (never_early part bad all.ends_early soon))
+            (ends_cause read part at tests bad all.ends_early) (counts_all bad all.counts) (λ soon. absurd (never_early part bad all.ends_early soon))
             (length-map shards (λ s. s.section.disk) ∙ many_shards score disk devices sections made lumps clean opens makes log log1 bits bits1 shards back)
             (held_many disk (option_to_list filter) (option_to_list (option_map (λ b. b.disk) bloom)) (filter_held disk filter bloom bits filter_opens))
             sizes_all;

@@ -85,7 +85,14 @@ stands_at score c tables files h n m same it = record {
   partitions = it.partitions;
   log = record {
     base = it.log.base;
-    log = subst (λ (g : History). IsLog score (layout_of tables) files.partitions g it.log.base) same it.log.log;
+    log = record {
+      contents = it.log.log.contents;
+      arenas = it.log.log.arenas;
+      order = it.log.log.order;
+      history = sym same ∙ it.log.log.history;
+      base_is = it.log.log.base_is;
+    };
+    versions = it.log.versions;
     least = subst (λ (g : History). current_arena c g ≤ it.log.base) same it.log.least;
     most = it.log.most;
   };
@@ -142,7 +149,7 @@ module _ {D : Type 0} (score : List ℕ → List ℕ) (disk : DiskOf D) (tables 
       let many : length new.sections ≡ length old.sections = sym (length-map new.sections disk.size) ∙ ap length sizes ∙ length-map old.sections disk.size in
       record {
         partitions = it.partitions;
-        log = record { base = it.log.base; log = it.log.log; least = it.log.least; most = it.log.most };
+        log = record { base = it.log.base; log = it.log.log; versions = it.log.versions; least = it.log.least; most = it.log.most };
         many = images.sections.many ∙ many ∙ sym (length-map old.sections (λ device. buckets_in (disk.size device))) ∙ ap length (sym setup.sections);
         sections = λ i file at.
             let d = slice_get_other new.sections files.sections i file images.sections.many at in

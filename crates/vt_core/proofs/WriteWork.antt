@@ -36,7 +36,7 @@ use Rattle.vt_core.proofs.AskWork.{early_steps, fails_in, log_reads, may_be_told
 use Rattle.vt_core.proofs.ReadWork.{reads_crash, reads_go_on, reads_machine, reads_only, reads_stops}
 use Rattle.vt_core.proofs.Recovered.{GivesPrefix}
 use Rattle.vt_lookup.proofs.Testing.{by_score, collision}
-use Rattle.vt_log.proofs.Places.{slice_get_there}
+use Rattle.vt_log.proofs.Lists.{slice_get_there}
 
 pub some_bytes : (bytes : List ℕ) → (length bytes == 0) ≡ false → 0 < length bytes
 some_bytes [] is = absurd (cc)

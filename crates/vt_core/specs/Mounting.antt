@@ -1,5 +1,5 @@
 -- How a store is found.
-use Rattle.std.specs.Prelude.{◌≡◌, ◌⊎◌, ℕ, ◌<◌, ◌≤◌, IsTrue, None, Some, List, [], length, map, replicate, take, slice_get, Result, Ok, Err, ◌+◌, ◌*◌, ◌-◌, sum_by}
+use Rattle.std.specs.Prelude.{◌≡◌, ◌⊎◌, ℕ, ◌<◌, ◌≤◌, IsTrue, None, Some, List, [], length, map, replicate, take, slice_get, Result, Ok, Err, ◌+◌, ◌-◌, sum_by}
 use Rattle.std.specs.List.{All}
 use Rattle.std.specs.Option.{option_to_list}
 use Rattle.lru.specs.LruCache.{lru_cache}
@@ -19,9 +19,10 @@ use Rattle.vt_isect.specs.Layout.{head_place, buckets_in}
 use Rattle.vt_bloom.specs.Bloom.{BloomState}
 use Rattle.vt_bloom.specs.Frame.{Saved, HasSaved}
 use Rattle.vt_log.specs.Answers.{HoldTheSame}
-use Rattle.vt_log.specs.Faults.{AreFields, IsMountedBy}
+use Rattle.vt_log.specs.Faults.{AreReadAt, IsMountedBy}
 use Rattle.vt_log.specs.Log.{IsMountedLog, LogState, disks_of}
-use Rattle.vt_log.specs.Logs.{IsLog, arena_count, versions_of}
+use Rattle.vt_log.specs.Logs.{IsLog, arena_count}
+use Rattle.vt_log.specs.Mounting.{reads_to_find_all}
 use Rattle.vt_shard.specs.Shard.{ShardState}
 use Rattle.vt_shard.specs.declared.mounting.Sizes.{Sizes}
 use Rattle.vt_core.specs.declared.TheConstants.{MOST_ARENAS, MOST_BUCKETS}
@@ -53,11 +54,10 @@ devices_after (Ok core) = devices_of core
 devices_after (Err refusal) = devices_in refusal.1
 
 -- the setup that partitions with these tables and the devices of these sections have, whatever its
--- base
+-- base and its arenas' versions, which the arenas themselves tell
 pub record IsSetupOf {D : Type 0} (disk : DiskOf D) (tables : List Table) (devices : PerDevice D)
     (c : Setup) : Type 0 where
   pub arenas : c.arenas ≡ map (λ r. r.region.len) (layout_of tables)
-  pub versions : c.versions ≡ versions_of (layout_of tables)
   pub sections : c.sections ≡ map (λ device. buckets_in (disk.size device)) devices.sections
 
 -- every combination of images stands for a prefix of one history that has this many blocks at least
@@ -113,13 +113,12 @@ pub record Recalls {D : Type 0} (score : List ℕ → List ℕ) (disk : DiskOf D
   pub setup : setup_of k ≡ record c { base = base }
   pub durable : k.log.durable ≡ length g
 
--- the log is that of the heads of the arenas, which have these fields on the devices where these
--- tell
+-- the log is that of the heads of the arenas, of which this is read on the devices where these tell
 pub record IsLogRead {D : Type 0} (disk : DiskOf D) (tables : List Table) (devices : PerDevice D)
     (l : LogState D) : Type 0 where
   pub fields : List (List ℕ)
   pub read : IsTrue disk.tells
-      → AreFields (layout_of tables) (map disk.bytes devices.partitions) fields
+      → AreReadAt (layout_of tables) (map disk.bytes devices.partitions) fields
   pub mounted : IsMountedBy (map (λ t. t.name) tables) (layout_of tables) fields l
 
 -- this is the head of section i, as its device has it where that tells
@@ -168,14 +167,17 @@ pub record IsFreshlyMounted {D : Type 0} (disk : DiskOf D) (tables : List Table)
   pub waiting : k.waiting ≡ replicate sessions None
   pub rooms : All (HasRoomOf room) k.shards
 
--- Of the arenas' devices a sync of each is made, two reads of each arena's head, and one of each
--- directory entry, but for those of the blocks that all marks cover.
+-- Of the arenas' devices a sync of each is made, the reads that find each arena, by what is read of
+-- it, and one of each block's directory entry, or of the header that stands for it, but for those of
+-- the blocks that all marks cover.
 abbrev pub ReadsEntriesOnce : {D : Type 0} → DiskOf D → (tables : List Table) → PerDevice D
     → CoreState D → Type 0
 ReadsEntriesOnce disk tables devices k = (n : ℕ) → IsTrue disk.tells
-    → AreCovered k.shards k.bloom n
-    → sum_by disk.calls k.log.disks ≤ sum_by disk.calls devices.partitions
-    + length devices.partitions + 2 * arena_count tables + (k.log.durable - n)
+    → AreCovered k.shards k.bloom n → (fields : List (List ℕ))
+    × AreReadAt (layout_of tables) (map disk.bytes devices.partitions) fields
+    × (sum_by disk.calls k.log.disks ≤ sum_by disk.calls devices.partitions
+    + length devices.partitions + reads_to_find_all (layout_of tables) fields
+    + (k.log.durable - n))
 
 -- all that is said of a store that was mounted
 pub record MountsStore {D : Type 0} (score : List ℕ

@@ -1,6 +1,6 @@
 -- How the sections and the filter of a store are opened, and what is tested of them before its log
 -- is read back.
-use Rattle.std.specs.Prelude.{◌≡◌, ◌⊎◌, ⊤, ℕ, ◌+◌, ◌<◌, ◌≤◌, IsTrue, IfOk, IfErr, Option, Some, None, Result, Ok, Err, Vec, List, length, map, sum, slice_get, ◌*◌, sum_by}
+use Rattle.std.specs.Prelude.{◌≡◌, ◌⊎◌, ⊤, ℕ, ◌+◌, ◌<◌, ◌≤◌, IsTrue, IfOk, IfErr, Option, Some, None, Result, Ok, Err, Vec, List, length, map, sum, slice_get, sum_by}
 use Rattle.std.specs.declared.alloc.Global.{Global}
 use Rattle.std.specs.List.{All, AllZip}
 use Rattle.std.specs.Option.{option_map, option_to_list}
@@ -19,6 +19,7 @@ use Rattle.vt_shard.specs.declared.mounting.Sizes.{Sizes}
 use Rattle.vt_log.specs.Answers.{HoldTheSame}
 use Rattle.vt_log.specs.Log.{IsMountedLog, LogState}
 use Rattle.vt_log.specs.Logs.{IsLog, arena_count}
+use Rattle.vt_log.specs.Mounting.{reads_to_find_all}
 use Rattle.vt_log.specs.Sound.{IsSoundLog}
 use Rattle.vt_log.specs.Whole.{IsWholeLog}
 use Rattle.vt_part.specs.Layout.{layout_of}
@@ -153,7 +154,8 @@ pub record IsLogFound {D : Type 0} (score : List ℕ → List ℕ) (disk : DiskO
   pub settled : All (IsSynced disk) log.disks
   pub faults : map disk.faults log.disks ≡ map disk.faults before
   pub calls : IsTrue disk.tells → sum_by disk.calls log.disks
-      ≤ sum_by disk.calls before + length before + 2 * arena_count log.tables
+      ≤ sum_by disk.calls before + length before
+      + reads_to_find_all (layout_of log.tables) read.fields
 
 -- all that is said of a mount
 pub record IsMountOf {D : Type 0} (score : List ℕ → List ℕ) (disk : DiskOf D) (tables : List Table)

@@ -1,6 +1,6 @@
 -- Why a store isn't found. A part's own refusal is told as the store's, under the part's number.
 use Rattle.std.specs.Prelude.{◌≡◌, ◌⊎◌, ◌==◌, ⊤, ℕ, Bool, ◌+◌, ◌<◌, ◌≤◌, not, if◌then◌else◌, IsTrue, MatchOption, Option, None, Some, Result, Ok, Err, List, length, map, sum, sum_by, take, slice_get}
-use Rattle.std.specs.Option.{option_to_list}
+use Rattle.std.specs.Option.{option_map, option_to_list}
 use Rattle.vt_base.specs.Damage.{Differ}
 use Rattle.vt_base.specs.declared.place.Entry.{Entry}
 use Rattle.vt_base.specs.declared.mount.MountBad.{MountBad}
@@ -19,14 +19,16 @@ use Rattle.vt_part.specs.Table.{Table}
 use Rattle.vt_part.specs.declared.layout.ArenaRegion.{ArenaRegion}
 use Rattle.vt_arena.specs.declared.error.BackBad.TheVariants as back_bad
 use Rattle.vt_arena.specs.declared.directory.At.{At}
-use Rattle.vt_arena.specs.Directory.{last_entry, first_bad_entry}
+use Rattle.vt_arena.specs.declared.head.ArenaHead.{ArenaHead}
+use Rattle.vt_arena.specs.Directory.{IsReached, first_bad_walked, what_is_walked}
 use Rattle.vt_isect.specs.declared.error.ShardErr.TheVariants as shard_err
 use Rattle.vt_isect.specs.declared.head.Head.{Head}
 use Rattle.vt_isect.specs.Merging.{IsDamage}
-use Rattle.vt_arena.specs.Heads.{clump_count_in, used_in}
+use Rattle.vt_arena.specs.Heads.{clump_count_in, fields_of, own_fields}
 use Rattle.vt_log.specs.Answers.{HoldTheSame}
-use Rattle.vt_log.specs.Faults.{AreFields, RefusesLogMount, first_bad_log}
-use Rattle.vt_log.specs.Logs.{IsLog, arena_count}
+use Rattle.vt_log.specs.Faults.{AreReadAt, RefusesLogMount, first_bad_log}
+use Rattle.vt_log.specs.Logs.{IsLog, arena_count, versions_of}
+use Rattle.vt_log.specs.Whole.{IsHeadFor}
 use Rattle.vt_log.specs.declared.error.LogBad.{LogBad}
 use Rattle.vt_mount_errors.specs.MountErrors.{of_log}
 use Rattle.vt_core.specs.declared.TheConstants.{MOST_ARENAS, MOST_BUCKETS}
@@ -54,7 +56,7 @@ pub record LogIsRefused {D : Type 0} (disk : DiskOf D) (tables : List Table)
   pub bad_is : bad ≡ of_log (layout_of tables) why
   pub fields : List (List ℕ)
   pub read : IsTrue disk.tells
-      → AreFields (layout_of tables) (map disk.bytes devices.partitions) fields
+      → AreReadAt (layout_of tables) (map disk.bytes devices.partitions) fields
   pub refuses : RefusesLogMount (map (λ t. t.name) tables) (layout_of tables) fields why
 
 -- the first of these counts with which their sum passes a limit
@@ -115,11 +117,12 @@ HasMark disk devices part mark =
     × IsHeadRead disk devices i head × (mark ≡ head.mark))
     ⊎ ((part ≡ filter_part devices) × IsMarkRead disk devices mark)
 
--- these are the fields of the heads of all arenas, as their devices have them where these tell
+-- this is what mounting reads of all arenas, the fields of their heads first, as their devices have it
+-- where these tell
 abbrev pub AreHeadsRead : {D : Type 0} → DiskOf D → (tables : List Table) → PerDevice D
     → (fields : List (List ℕ)) → Type 0
 AreHeadsRead disk tables devices fields = IsTrue disk.tells
-    → AreFields (layout_of tables) (map disk.bytes devices.partitions) fields
+    → AreReadAt (layout_of tables) (map disk.bytes devices.partitions) fields
 
 -- a mark is above the log's length
 pub record MarkIsWrong {D : Type 0} (disk : DiskOf D) (tables : List Table)
@@ -148,7 +151,7 @@ pub record PassesTests {D : Type 0} (disk : DiskOf D) (tables : List Table)
       × IsMarkRead disk devices mark × (mark ≤ sum_by clump_count_in fields)
 
 -- The log gives more blocks of a bucket of section i than a bucket has room for. Where the section
--- agrees with the log, these are the log's own.
+-- agrees with the log, by a setup with its versions, these are the log's own.
 pub record BucketIsCrowded {D : Type 0} (score : List ℕ → List ℕ) (disk : DiskOf D)
     (tables : List Table) (devices : PerDevice D) (c : Setup) (bad : MountBad) : Type 0 where
   pub i : ℕ
@@ -158,12 +161,14 @@ pub record BucketIsCrowded {D : Type 0} (score : List ℕ → List ℕ) (disk : 
   pub above : BUCKET_ROOM < found
   pub bad_is : bad ≡ Disagree (section_part devices i) Crowd found BUCKET_ROOM
   pub crowded : (g : History) (base : ℕ) → IsTrue disk.tells
-      → IsLog score (layout_of tables) (map disk.bytes devices.partitions) g base
+      → (log : IsLog score (layout_of tables) (map disk.bytes devices.partitions) g base)
+      → c.versions ≡ versions_of log.contents
       → SectionStandsFor score c g i (disk.bytes device)
       → (bucket : ℕ) × (found ≤ crowd score (bucket_count c) g bucket)
 
--- An entry of an arena's directory differs from what was wanted, as its device has it where that
--- tells.
+-- What a walk of an arena reads, an entry of its directory or a header that stands for one, differs
+-- from what was wanted, as its device has it where that tells. The walk came there from the arena's
+-- head, which is spelled as it was read, and for which the arena has room.
 pub record IsDamagedEntry {D : Type 0} (disk : DiskOf D) (tables : List Table)
     (devices : PerDevice D) (arena : ℕ) (want found : FieldValue) : Type 0 where
   pub r : ArenaRegion
@@ -172,17 +177,18 @@ pub record IsDamagedEntry {D : Type 0} (disk : DiskOf D) (tables : List Table)
   pub disk_is : slice_get devices.partitions r.part ≡ Some device
   pub fields : List (List ℕ)
   pub read : AreHeadsRead disk tables devices fields
-  pub head : List ℕ
-  pub head_is : slice_get fields arena ≡ Some head
+  pub head : ArenaHead
+  pub spelled : option_map own_fields (slice_get fields arena) ≡ Some (fields_of head)
+  pub fits : IsHeadFor r head
   pub at : At
-  pub index : at.index ≤ clump_count_in head
-  pub end : at.end ≤ used_in head
-  pub entry : List ℕ
-  pub entry_is : IsTrue disk.tells → entry ≡ last_entry r.region at.index (disk.bytes device)
-  pub bad : first_bad_entry (used_in head) at entry ≡ Some (back_bad.Damaged want found)
+  pub some : 0 < at.index
+  pub reached : IsReached disk.tells head r.region (disk.bytes device) at
+  pub bytes : List ℕ
+  pub bytes_are : IsTrue disk.tells → bytes ≡ what_is_walked head r.region at (disk.bytes device)
+  pub bad : first_bad_walked head at bytes ≡ Some (back_bad.Damaged want found)
 
--- What was read back differs from what was wanted: an entry of a directory, or a bucket's frame, as
--- it was read or with the entries that were to be put into it.
+-- What was read back differs from what was wanted: an entry of a directory, a header that stands for
+-- one, or a bucket's frame, as it was read or with the entries that were to be put into it.
 abbrev pub IsDamageAt : {D : Type 0} → DiskOf D → List Table → PerDevice D → Site
     → (want found : FieldValue) → Type 0
 IsDamageAt disk tables devices (Clump place) want found =

@@ -20,11 +20,17 @@ const FIRST: u64 = 8_192;
 
 const SECOND: u64 = 8_192 + 32_768;
 
+/// A head of version 2 without blocks, behind its magic number, by which the last clump takes a sector.
+const SECTOR_HEAD: [u8; 43] = *b"\x00\x02\x00\x00\x00\x00\x00\x00\x00\x00\x00\
+    \x00\x00\x00\x00\x00\x00\x00\x00\
+    \x00\x00\x00\x00\x00\x00\x00\x00\x00\x00\x00\x00\x00\x00\x00\x00\x00\x00\x00\x00\
+    \x00\x00\x00\x01";
+
 /// In the order in which mounting tests what they make wrong: the arenas, the sections, the filter,
 /// the heads of the sections, and the marks.
-const PATCHES: [Patch; 20] = [
+const PATCHES: [Patch; 21] = [
     (0, FIRST, b"none", None),
-    (0, FIRST + 4, &[0, 2], Some((MountField::Version, 2, 1))),
+    (0, FIRST + 4, &[0, 3], Some((MountField::Version, 3, 2))),
     (0, FIRST + 10, &[2], Some((MountField::Sealed, 2, 1))),
     (
         0,
@@ -32,6 +38,7 @@ const PATCHES: [Patch; 20] = [
         &[0, 0, 0, 0, 0, 0, 32, 1],
         Some((MountField::Used, 8_193, 8_192)),
     ),
+    (0, FIRST + 4, &SECTOR_HEAD, Some((MountField::Last, 1, 0))),
     (
         0,
         SECOND + 6,

@@ -19,7 +19,7 @@ use Rattle.vt_disk.specs.declared.TheConstants.{BLOCK_LEN}
 use Rattle.vt_isect.specs.Layout.{buckets_in}
 use Rattle.vt_log.specs.Answers.{HoldTheSame}
 use Rattle.vt_log.specs.Log.{disks_of}
-use Rattle.vt_log.specs.Logs.{arena_count, versions_of}
+use Rattle.vt_log.specs.Logs.{arena_count}
 use Rattle.vt_model.specs.declared.TheConstants.{WRITTEN_VERSION}
 use Rattle.vt_model.specs.Places.{Setup}
 use Rattle.vt_part.specs.declared.layout.ArenaRegion.{ArenaRegion}
@@ -50,7 +50,7 @@ arena_lens : (t : Table) → map (λ (r : ArenaRegion). r.region.len) (layout_of
 arena_lens t = ap (λ (rs : List ArenaRegion). map (λ (r : ArenaRegion). r.region.len) rs) (append-nil (arenas_of_table 0 t)) ∙ lens t 0 t.count
 
 -- each arena is of the version that is written
-each_version : (rs : List ArenaRegion) → versions_of rs ≡ map (λ (n : ℕ). WRITTEN_VERSION) (map (λ (r : ArenaRegion). r.region.len) rs)
+each_version : (rs : List ArenaRegion) → map (λ r. WRITTEN_VERSION) rs ≡ map (λ (n : ℕ). WRITTEN_VERSION) (map (λ (r : ArenaRegion). r.region.len) rs)
 each_version [] = refl
 each_version (r ∷ rs) = ap (λ (vs : List ℕ). WRITTEN_VERSION ∷ vs) (each_version rs)
 
@@ -107,7 +107,7 @@ module _ {D : Type 0} (disk : DiskOf D) (shape : Shape) (is : IsShape shape) (de
       ∙ ap (λ (t : Table). map (λ (r : ArenaRegion). r.region.len) (layout_of (t ∷ []))) table ∙ arena_lens (table_for (codes "arenas") (BLOCK_LEN + shape.arenas * shape.arena_len) shape.arena_len)
       ∙ ap (λ (n : ℕ). replicate n shape.arena_len) (arenas_in shape.arena_len shape.arenas some_len few)
 
-  versions_are : versions_of (layout_of (tables_in devices)) ≡ replicate shape.arenas WRITTEN_VERSION
+  versions_are : map (λ r. WRITTEN_VERSION) (layout_of (tables_in devices)) ≡ replicate shape.arenas WRITTEN_VERSION
   versions_are = each_version (layout_of (tables_in devices)) ∙ ap (map (λ (n : ℕ). WRITTEN_VERSION)) arenas_are
       ∙ same_version shape.arenas shape.arena_len
 

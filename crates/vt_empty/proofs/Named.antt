@@ -300,4 +300,4 @@ module _ {D : Type 0} (disk : DiskOf D) where
       → AreUnder before conf old → AreUnder after conf new → AreEmptyLogs disk tables old.partitions → PutsToUse disk conf before after it → KeepsLimits tables (setup_on disk tables new)
   limits_kept one own conf before after old new it tables these those empties puts =
       keeps_limits one conf before after old new it tables (setup_on disk tables new) these those puts (partitions_read own tables old.partitions empties)
-      (record { arenas = refl; versions = refl; sections = refl })
+      (record { arenas = refl; sections = refl })

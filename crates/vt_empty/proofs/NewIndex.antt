@@ -53,7 +53,7 @@ module _ {D : Type 0} (disk : DiskOf D) (own : (device : D) → disk.images devi
         within = was.within;
         stands = record {
           partitions = was.stands.partitions;
-          log = record { base = log.base; log = log.log; least = log.least; most = log.most };
+          log = record { base = log.base; log = log.log; versions = log.versions; least = log.least; most = log.most };
           many = many_files disk new.sections files.sections images.sections ∙ sym (ap length setup.sections);
           sections = sections_stand disk score c (take was.n h) new.sections index.total files.sections (fronts score c h was.n legal).keys setup.sections index.sections images.sections;
           filter = allows (take was.n h) was.stands.filter;

@@ -10,6 +10,7 @@ use Rattle.vt_model.specs.Legal.{HasOtherKey, IsLegal}
 use Rattle.vt_model.specs.Places.{Setup, bucket_count, first_bucket}
 use Rattle.vt_model.proofs.Room.{nothing_fits}
 use Rattle.vt_part.specs.Laws.{LayoutsHaveArenas, LayoutsListArenas}
+use Rattle.vt_part.specs.Layout.{layout_of}
 use Rattle.vt_part.specs.Table.{IsPartition, Table}
 use Rattle.vt_bloom.specs.Frame.{HasSaved, empty_of}
 use Rattle.vt_bucket.specs.Order.{IsBelow}
@@ -25,7 +26,7 @@ use Rattle.vt_core.specs.Stands.{FilterStandsFor}
 use Rattle.vt_recover.specs.Sections.{SectionStandsFor, section_buckets}
 use Rattle.vt_empty.specs.Devices.{AreFormatted, setup_on}
 use Rattle.vt_empty.specs.Formatted.{AreUnfilled, IsUnfilled, IsUnset}
-use Rattle.vt_empty.proofs.EmptyLogs.{files_empty, one_log}
+use Rattle.vt_empty.proofs.EmptyLogs.{files_empty, log_versions, one_log}
 
 none_of : {X : Type 0} (x : X) → ¬ Contains [] x
 none_of x (k, within, is) = absurd (omega (arith, within))
@@ -160,6 +161,7 @@ module _ {D : Type 0} (disk : DiskOf D) (have : LayoutsHaveArenas) (listed : Lay
       → AllStandFor score disk (setup_on disk tables devices) tables devices [] 0
   all_stand score tables devices are files images =
       let each = files_empty disk tables devices.partitions files.partitions are.partitions images.partitions.many images.partitions.each in
+      let log = one_log have listed score tables files.partitions each in
       record {
         partitions = record {
           many = zip_many disk IsEmptyLog tables files.partitions each;
@@ -167,7 +169,8 @@ module _ {D : Type 0} (disk : DiskOf D) (have : LayoutsHaveArenas) (listed : Lay
         };
         log = record {
           base = 0;
-          log = one_log have listed score tables files.partitions each;
+          log = log;
+          versions = log_versions score (layout_of tables) files.partitions log;
           least = omega arith;
           most = omega arith;
         };
@@ -182,7 +185,7 @@ module _ {D : Type 0} (disk : DiskOf D) (have : LayoutsHaveArenas) (listed : Lay
       let images = own_images disk own devices.partitions in
       record {
         legal = legal_nothing score (setup_on disk tables devices);
-        setup = record { arenas = refl; versions = refl; sections = refl };
+        setup = record { arenas = refl; sections = refl };
         each = λ files left. record {
           n = 0;
           keeps = omega arith;

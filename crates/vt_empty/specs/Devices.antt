@@ -6,7 +6,7 @@ use Rattle.vt_disk.specs.Members.{DiskOf}
 use Rattle.vt_empty.specs.Formatted.{AreEmptyLogs, AreUnfilled, IsUnset}
 use Rattle.vt_isect.specs.Layout.{buckets_in}
 use Rattle.vt_log.specs.Answers.{HoldTheSame}
-use Rattle.vt_log.specs.Logs.{versions_of}
+use Rattle.vt_model.specs.declared.TheConstants.{WRITTEN_VERSION}
 use Rattle.vt_model.specs.Places.{Setup}
 use Rattle.vt_part.specs.Layout.{layout_of}
 use Rattle.vt_part.specs.Table.{Table}
@@ -19,11 +19,11 @@ pub record AreFormatted {D : Type 0} (disk : DiskOf D) (tables : List Table)
   pub sections : AreUnfilled disk 0 total devices.sections
   pub filter : All (IsUnset disk) devices.filter
 
--- The setup of a store without blocks on them.
+-- The setup of a store without blocks on them, whose arenas count as of the version that is written.
 abbrev pub setup_on : {D : Type 0} → DiskOf D → List Table → PerDevice D → Setup
 setup_on disk tables devices = record {
   arenas = map (λ r. r.region.len) (layout_of tables);
-  versions = versions_of (layout_of tables);
+  versions = map (λ r. WRITTEN_VERSION) (layout_of tables);
   base = 0;
   sections = map (λ device. buckets_in (disk.size device)) devices.sections;
 }

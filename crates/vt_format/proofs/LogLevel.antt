@@ -10,10 +10,9 @@ use Rattle.vt_disk.specs.Members.{DiskOf}
 use Rattle.vt_log.specs.declared.error.LogBad.{LogBad}
 use Rattle.vt_log.specs.declared.error.LogBad.TheVariants as log_bad
 use Rattle.vt_log.specs.Answers.{HoldTheSame}
-use Rattle.vt_log.specs.Faults.{AreFields, OneHasRisen, RefusesLogMount, first_bad_log, is_log_fault}
+use Rattle.vt_log.specs.Faults.{AreReadAt, OneHasRisen, RefusesLogMount, first_bad_log, is_log_fault}
 use Rattle.vt_log.specs.Log.{disks_of}
-use Rattle.vt_log.proofs.Lists.{map_long, map_there}
-use Rattle.vt_log.proofs.Places.{slice_get_there}
+use Rattle.vt_log.proofs.Lists.{map_long, map_there, slice_get_there}
 use Rattle.vt_arena.specs.declared.error.ArenaBad.{ArenaBad}
 use Rattle.vt_arena.specs.declared.error.ArenaBad.TheVariants as arena_bad
 use Rattle.vt_isect.specs.Section.{SectionState}
@@ -77,7 +76,7 @@ module _ {D : Type 0} (disk : DiskOf D) (told_is : Type 0) (conf : Conf) (s0 : L
   -- the log is found, and the sections are indexed behind it
   module _ (s1 : List ℕ → Standing D) (f1 : ℕ) (ns : List (SectionState D)) (r : Result Index IndexError) (all : length ps ≡ length conf.arenas.items)
       (quiet : map disk.faults (disks_of qs) ≡ map disk.faults (disks_of ps))
-      (fields : List (List ℕ)) (are : IsTrue disk.tells → AreFields (layout_of (tables_of ps)) (map disk.bytes (disks_of ps)) fields)
+      (fields : List (List ℕ)) (are : IsTrue disk.tells → AreReadAt (layout_of (tables_of ps)) (map disk.bytes (disks_of ps)) fields)
       (distinct : AreDistinct (names_of ps)) (passed : first_bad_log false 0 (layout_of (tables_of ps)) fields ≡ None)
       (inner : IndexesSections disk told_is conf conf.sections.items s0 s1 f0 f1 [] ns r) where
     number : length conf.arenas.items + 0 ≡ length ps
@@ -138,7 +137,7 @@ module _ {D : Type 0} (disk : DiskOf D) (told_is : Type 0) (conf : Conf) (s0 : L
     }
 
   -- it isn't
-  module _ (fields : List (List ℕ)) (are : IsTrue disk.tells → AreFields (layout_of (tables_of ps)) (map disk.bytes (disks_of ps)) fields) where
+  module _ (fields : List (List ℕ)) (are : IsTrue disk.tells → AreReadAt (layout_of (tables_of ps)) (map disk.bytes (disks_of ps)) fields) where
     refused_with : (why : LogBad) (bad : MountBad) → RefusesLogMount (names_of ps) (layout_of (tables_of ps)) fields why
         → bad ≡ of_log (layout_of (tables_of ps)) why → IsRefusalByTest bad → map disk.faults (disks_of qs) ≡ map disk.faults (disks_of ps)
         → IndexesArenas disk told_is conf [] s0 s0 f0 f0 ps qs (Err (Refused bad))

@@ -26,7 +26,7 @@ use Rattle.vt_isect.specs.Head.{IsHeadFrame}
 use Rattle.vt_isect.specs.Layout.{buckets_in, head_place}
 use Rattle.vt_isect.specs.Section.{SectionState}
 use Rattle.vt_log.specs.declared.error.LogBad.{LogBad}
-use Rattle.vt_log.specs.Faults.{AreFields, RefusesLogMount, first_bad_log}
+use Rattle.vt_log.specs.Faults.{AreReadAt, RefusesLogMount, first_bad_log}
 use Rattle.vt_log.specs.Logs.{arena_count}
 use Rattle.vt_part.specs.declared.error.PartBad.{PartBad}
 use Rattle.vt_part.specs.declared.part.Part.{Part}
@@ -96,7 +96,7 @@ FindsSections {D} disk standing filter number before (file ∷ files) found =
 abbrev pub FindsLog : {D : Type 0} → DiskOf D → (standing : List ℕ → Standing D) → Conf
     → List Table → (contents : List (List ℕ)) → (found : Option MountBad) → Type 0
 FindsLog disk standing conf tables contents found =
-    (fields : List (List ℕ)) × AreFields (layout_of tables) contents fields
+    (fields : List (List ℕ)) × AreReadAt (layout_of tables) contents fields
     × (((why : LogBad) × RefusesLogMount (map (λ t. t.name) tables) (layout_of tables) fields why
     × (found ≡ Some (of_log (layout_of tables) why)))
     ⊎ (AreDistinct (map (λ t. t.name) tables)

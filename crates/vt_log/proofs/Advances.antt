@@ -1,5 +1,5 @@
 -- A call of `advance`, from its two steps.
-use Rattle.std.proofs.Common.{◌≡◌, ◌≢◌, ⊎_elim, ℕ, ◌+◌, ◌<◌, List, [], ◌∷◌, length, refl, sym, ◌∙◌, ap, subst, arith, Option, Some, None, Ok, Err, Result}
+use Rattle.std.proofs.Common.{◌≡◌, ◌≢◌, ⊎_elim, ℕ, ◌+◌, ◌<◌, ◌&&◌, List, [], ◌∷◌, length, refl, sym, ◌∙◌, ap, subst, arith, Option, Some, None, Ok, Err, Result}
 use Rattle.std.specs.Option.{option_map_or}
 use Rattle.std.specs.Prelude.{IsTrue, IsFalse, slice_get, if◌then◌else◌}
 use Rattle.std.proofs.lemmas.Bool.{cases_eq}
@@ -22,7 +22,7 @@ use Rattle.vt_log.specs.Committing.{TakesAllWaiting, LogTakesStep, Prepares, Mak
 use Rattle.vt_log.specs.Faults.{CountsFaults, is_fault_now}
 use Rattle.vt_log.specs.declared.filling.Filling.{Filling}
 use Rattle.vt_log.specs.declared.queue.Waiting.{Waiting}
-use Rattle.vt_log.specs.Log.{LogState, queued, front, filled_as, fits_in, next_filling}
+use Rattle.vt_log.specs.Log.{LogState, queued, front, can_close, filled_as, fits_in, next_filling}
 use Rattle.vt_log.specs.Queue.{WaitsFor}
 use Rattle.vt_log.specs.Sound.{AreWithinCallOf, LogStandsForPrefix}
 use Rattle.vt_log.specs.Whole.{IsWholeLog, Fill, turned_to}
@@ -98,10 +98,10 @@ committing_there disk l whole some = ⊎_elim
     (λ (other : l.committing ≢ length l.layout). let most = whole.committing in omega (arith, most, other))
     (cases_eq l.committing (length l.layout))
   where
-    at : (ws : List Waiting) → Fill l.layout l.heads (filled_as l.committing l.arena.next) ws l.filling → 0 < length ws → l.committing ≡ length l.layout → ⊥
+    at : (ws : List Waiting) → Fill l.layout l.versions l.heads (filled_as l.committing l.arena.next) ws l.filling → 0 < length ws → l.committing ≡ length l.layout → ⊥
     at [] fill more past = omega (arith, more)
     at (w ∷ ws) fill more past =
-        let there = fits_within l.layout (turned_to l.heads w.arena (filled_as l.committing l.arena.next)) w.packed.len fill.2 in
+        let there = fits_within l.layout l.versions (turned_to l.heads w.arena (filled_as l.committing l.arena.next)) w.packed.len fill.3 in
         omega (arith, past, fill.0, slice_get_within l.layout _ there.0 there.1, turned_arena l.heads w.arena (filled_as l.committing l.arena.next))
 
 -- what one disk's count tells is what the counts of all tell
@@ -129,30 +129,31 @@ front_kept disk (Err (Stopped call)) old new whole it = ap (λ (l : LogState _).
 -- ---- where the next block goes
 
 -- it is told by the regions, by what is being filled, and by the head of the arena behind that
-abbrev next_by : List ArenaRegion → Filling → Option Found → ℕ → Option Filling
-next_by layout f found n =
+abbrev next_by : List ArenaRegion → (versions : List ℕ) → Filling → Option Found → ℕ → Option Filling
+next_by layout versions f found n =
     let next = option_map_or (λ (it : Found). filled_as (f.arena + 1) it.head) found (record { arena = f.arena + 1; used = 0; clumps = 0 }) in
-    if fits_in layout f n then Some f else if fits_in layout next n then Some next else None
+    if fits_in layout versions f n then Some f else if can_close versions f.arena && fits_in layout versions next n then Some next else None
 
-next_same : {D : Type 0} (old new : LogState D) (n : ℕ) → new.layout ≡ old.layout → new.filling ≡ old.filling
+next_same : {D : Type 0} (old new : LogState D) (n : ℕ) → new.layout ≡ old.layout → new.versions ≡ old.versions → new.filling ≡ old.filling
     → slice_get new.heads (old.filling.arena + 1) ≡ slice_get old.heads (old.filling.arena + 1) → next_filling new n ≡ next_filling old n
-next_same old new n layout filling head =
-    ap (λ (rs : List ArenaRegion). next_by rs new.filling (slice_get new.heads (new.filling.arena + 1)) n) layout
-    ∙ ap (λ (f : Filling). next_by old.layout f (slice_get new.heads (f.arena + 1)) n) filling
-    ∙ ap (λ (o : Option Found). next_by old.layout old.filling o n) head
+next_same old new n layout versions filling head =
+    ap (λ (rs : List ArenaRegion). next_by rs new.versions new.filling (slice_get new.heads (new.filling.arena + 1)) n) layout
+    ∙ ap (λ (vs : List ℕ). next_by old.layout vs new.filling (slice_get new.heads (new.filling.arena + 1)) n) versions
+    ∙ ap (λ (f : Filling). next_by old.layout old.versions f (slice_get new.heads (f.arena + 1)) n) filling
+    ∙ ap (λ (o : Option Found). next_by old.layout old.versions old.filling o n) head
 
 -- no commit reaches the arena behind the one that is being filled
 pub next_kept : {D : Type 0} (disk : DiskOf D) (r : Result Progress LogErr) (old new : LogState D) (n : ℕ) → IsWholeLog disk old → LogAdvances r old new
-    → new.layout ≡ old.layout → new.filling ≡ old.filling → next_filling new n ≡ next_filling old n
-next_kept disk (Ok Idle) old new n whole it layout filling = ap (λ (l : LogState _). next_filling l n) it.1
-next_kept disk (Ok Step) old new n whole it layout filling =
-    next_same old new n layout filling (ap (λ (found : List Found). slice_get found (old.filling.arena + 1)) it.0.heads)
-next_kept disk (Ok (Durable blocks)) old new n whole it layout filling =
-    let reached = fill_arena old.layout old.heads (filled_as old.committing old.arena.next) old.filling old.queue.waiting whole.queue in
-    next_same old new n layout filling (it.0.heads (old.filling.arena + 1) (λ same. omega (arith, same, reached.0)))
-next_kept disk (Err Fault) old new n whole it layout filling =
-    next_same old new n layout filling (ap (λ (found : List Found). slice_get found (old.filling.arena + 1)) it.0.heads)
-next_kept disk (Err (Stopped call)) old new n whole it layout filling = ap (λ (l : LogState _). next_filling l n) it.1
+    → new.layout ≡ old.layout → new.versions ≡ old.versions → new.filling ≡ old.filling → next_filling new n ≡ next_filling old n
+next_kept disk (Ok Idle) old new n whole it layout versions filling = ap (λ (l : LogState _). next_filling l n) it.1
+next_kept disk (Ok Step) old new n whole it layout versions filling =
+    next_same old new n layout versions filling (ap (λ (found : List Found). slice_get found (old.filling.arena + 1)) it.0.heads)
+next_kept disk (Ok (Durable blocks)) old new n whole it layout versions filling =
+    let reached = fill_arena old.layout old.versions old.heads (filled_as old.committing old.arena.next) old.filling old.queue.waiting whole.queue in
+    next_same old new n layout versions filling (it.0.heads (old.filling.arena + 1) (λ same. omega (arith, same, reached.0)))
+next_kept disk (Err Fault) old new n whole it layout versions filling =
+    next_same old new n layout versions filling (ap (λ (found : List Found). slice_get found (old.filling.arena + 1)) it.0.heads)
+next_kept disk (Err (Stopped call)) old new n whole it layout versions filling = ap (λ (l : LogState _). next_filling l n) it.1
 
 -- ---- all that a call does, on any disks
 
@@ -162,6 +163,7 @@ step_stopped disk l n is = record {
   stopped = λ k. (λ same. is ∙ cc, λ other. let both : Some n ≡ Some k = sym is ∙ other in cc);
   idle = λ runs. absurd (let both : None ≡ Some n = sym runs ∙ is in cc);
   kept = (refl, refl, refl, refl);
+  versions = refl;
   front_is = refl;
   next = λ k. refl;
   batch = λ runs. absurd (let both : None ≡ Some n = sym runs ∙ is in cc);
@@ -175,6 +177,7 @@ step_idle disk l whole runs none = record {
   stopped = λ k. (λ same. absurd (cc), λ is. absurd (let both : None ≡ Some k = sym runs ∙ is in cc));
   idle = λ _ _. refl;
   kept = (refl, refl, refl, refl);
+  versions = refl;
   front_is = refl;
   next = λ k. refl;
   batch = λ _ _. batch_of_none disk l whole none;
@@ -194,8 +197,9 @@ step_made {D = D} score_of disk result old m new whole runs some prep made = rec
   stopped = λ n. (λ is. absurd (never_stopped result m new n made.makes is), λ is. absurd (let both : None ≡ Some n = sym runs ∙ is in cc));
   idle = λ _ none. absurd (omega (arith, none, some));
   kept = kept;
+  versions = versions;
   front_is = front_kept disk result old new whole moves;
-  next = λ n. next_kept disk result old new n whole moves kept.0 kept.3;
+  next = λ n. next_kept disk result old new n whole moves kept.0 versions kept.3;
   batch = λ _. batch_begins old m new prep made.batch;
   one_call = λ _ _. called;
   cause = cause_as_called disk result old new called;
@@ -206,6 +210,9 @@ step_made {D = D} score_of disk result old m new whole runs some prep made = rec
 
     called : CallsArena disk result old new
     called = calls_as_prepared disk result old m new prep made.calls
+
+    versions : new.versions ≡ old.versions
+    versions = made.versions ∙ ap (λ (l : LogState D). l.versions) prep.same
 
     kept : (new.layout ≡ old.layout) × (new.tables ≡ old.tables) × (new.base ≡ old.base) × (new.filling ≡ old.filling)
     kept = (

@@ -1,16 +1,17 @@
 -- Partitions that are read, and what is found of their arenas.
-use Rattle.std.proofs.Common.{◌≡◌, ◌≢◌, ⊎_elim, inl, inr, ℕ, zero, suc, ◌+◌, ◌%◌, ◌<◌, ◌≤◌, ◌==◌, ◌||◌, Bool, true, false, cond, List, [], ◌∷◌, ◌++◌, length, get_or, map, set, take, drop, refl, sym, ◌∙◌, ap, subst, arith, append_assoc, append-nil, take-append-drop, Some, None, Option, option_map, Ok, Err, Result, IsTrue}
+use Rattle.std.proofs.Common.{◌≡◌, ◌≢◌, ◌⊎◌, ⊎_elim, inl, inr, ℕ, zero, suc, ◌+◌, ◌%◌, ◌<◌, ◌≤◌, ◌==◌, ◌||◌, Bool, true, false, cond, List, [], ◌∷◌, ◌++◌, length, get_or, map, set, take, drop, refl, sym, ◌∙◌, ap, subst, arith, append_assoc, append-nil, take-append-drop, Some, None, Option, option_map, Ok, Err, Result, IsTrue}
 use Rattle.std.specs.Prelude.{All, slice_get, sum_by, not, OnOk, MatchBool}
 use Rattle.std.proofs.lemmas.Bool.{cases_eq}
 use Rattle.std.proofs.lemmas.List.{length-map, length_push, map-append, drop_more, drop_all, map_more, length-take-le}
 use Rattle.std.proofs.lemmas.Option.{slice_get_within, slice_get-get_or, slice_get-map, same_Some, get_or_from_slice_get}
 use Rattle.vt_base.specs.Faults.{CountsFault}
 use Rattle.vt_disk.specs.Members.{DiskOf}
-use Rattle.vt_disk.specs.Calls.{OnlyReads, IsSynced}
+use Rattle.vt_disk.specs.Calls.{MadeCalls, OnlyReads, IsSynced}
 use Rattle.vt_disk.specs.Disk.{AreAmong, IsOneMore}
 use Rattle.vt_part.specs.declared.error.PartBad.{PartBad}
 use Rattle.vt_part.specs.declared.layout.ArenaRegion.{ArenaRegion}
 use Rattle.vt_part.specs.declared.part.Part.{Part}
+use Rattle.vt_part.specs.Layout.{AreDistinct}
 use Rattle.vt_part.specs.Parts.{disk_of}
 use Rattle.vt_arena.specs.declared.error.ArenaBad.{ArenaBad}
 use Rattle.vt_arena.specs.declared.error.ArenaBad.TheVariants.{Fault as ArenaFault, NotFormatted, Torn, NoMemory as ArenaNoMemory}
@@ -18,17 +19,17 @@ use Rattle.vt_arena.specs.declared.error.Field.TheVariants.{Sealed}
 use Rattle.vt_arena.specs.declared.head.ArenaHead.{ArenaHead}
 use Rattle.vt_arena.specs.declared.head.Found.{Found}
 use Rattle.vt_arena.specs.Arena.{ArenaState, fresh_arena}
-use Rattle.vt_arena.specs.Faults.{first_bad_head, FindsArena, CanStand, is_arena_fault}
-use Rattle.vt_arena.specs.Heads.{fields_of, flag_of, sealed_in, clump_count_in}
-use Rattle.vt_arena.specs.Layout.{fields_at}
+use Rattle.vt_arena.specs.Faults.{first_bad_head, read_at, reads_to_find, FindsArena, CanStand, is_arena_fault}
+use Rattle.vt_arena.specs.Heads.{fields_of, flag_of, own_fields, sealed_in, clump_count_in}
+use Rattle.vt_arena.proofs.Finds.{own_clumps, own_sealed}
 use Rattle.vt_arena.specs.Places.{IsArenaLen}
 use Rattle.vt_arena.specs.Sound.{IsRegion}
 use Rattle.vt_log.specs.declared.error.LogBad.{LogBad}
 use Rattle.vt_log.specs.declared.error.LogBad.TheVariants.{Part as PartRefused, Arena, Order, Fault, NoMemory}
 use Rattle.vt_log.specs.Answers.{HoldTheSame}
-use Rattle.vt_log.specs.Faults.{AreFields, CountsFaults, OneHasRisen, is_log_fault, bad_arena, first_of_two, out_of_order, first_bad_log}
+use Rattle.vt_log.specs.Faults.{AreReadAt, RefusesLogMount, CountsFaults, OneHasRisen, is_log_fault, bad_arena, first_of_two, out_of_order, first_bad_log}
 use Rattle.vt_log.specs.Log.{disks_of}
-use Rattle.vt_log.specs.Mounting.{TellsOfSettled, IsBeforeCalls, AreSettled, StopsSyncing, OnlyReadsParts, AreFieldsAt, FindsNext, arena_refusal, IsFoundArena, AreFound, RefusesArenas, ArePassed, IsRoomFor}
+use Rattle.vt_log.specs.Mounting.{TellsOfSettled, IsBeforeCalls, AreSettled, StopsSyncing, OnlyReadsParts, reads_to_find_all, AreFieldsAt, FindsNext, arena_refusal, IsFoundArena, AreFound, RefusesArenas, ArePassed, IsRoomFor}
 use Rattle.vt_log.specs.Whole.{IsOnDisk}
 use Rattle.vt_log.proofs.Disks.{parts_disks, parts_tables, calls_set, hold_set, tells_as, tells_set}
 use Rattle.vt_log.proofs.Lists.{map_long, map_there, slice_get_other, at_slice, slice_get_left, slice_get_right, slice_get_set_same, slice_get_set_other}
@@ -181,14 +182,21 @@ file_at {D = D} disk ps i p file at is =
     same_Some (disk.bytes (disk_of p)) file (sym (slice_get-map disk.bytes (disks_of ps) i ∙ ap (option_map disk.bytes) (slice_get-map (λ (part : Part D). disk_of part) ps i ∙ ap (option_map (λ (part : Part D). disk_of part)) at)) ∙ is)
 
 pub fields_for : {D : Type 0} (disk : DiskOf D) (ps : List (Part D)) (r : ArenaRegion) (p : Part D) (fields : List ℕ) → slice_get ps r.part ≡ Some p
-    → fields ≡ fields_at r.region (disk.bytes (disk_of p)) → AreFieldsAt (map disk.bytes (disks_of ps)) r fields
-fields_for disk ps r p fields at is file file_is = is ∙ ap (fields_at r.region) (file_at disk ps r.part p file at file_is)
+    → fields ≡ read_at r.region r.number (disk.bytes (disk_of p)) → AreFieldsAt (map disk.bytes (disks_of ps)) r fields
+fields_for disk ps r p fields at is file file_is = is ∙ ap (read_at r.region r.number) (file_at disk ps r.part p file at file_is)
 
 -- what finding it gives
 pub found_for : {D : Type 0} (disk : DiskOf D) (ps : List (Part D)) (r : ArenaRegion) (p : Part D) (found : Found) → slice_get ps r.part ≡ Some p
     → IsFoundArena disk.tells r (disk.bytes (disk_of p)) found → (device : D) → slice_get (disks_of ps) r.part ≡ Some device → IsFoundArena disk.tells r (disk.bytes device) found
 found_for {D = D} disk ps r p found at finds device is =
     subst (λ (d : D). IsFoundArena disk.tells r (disk.bytes d) found) (disk_at ps r.part p device at is) finds
+
+-- so many reads were made, where none failed
+pub reads_made : {D F : Type 0} (disk : DiskOf D) (n : ℕ) (d e : D) → OnlyReads disk 3 d e → (F → ⊥) → F ⊎ MadeCalls disk n d e → OnlyReads disk n d e
+reads_made {F = F} disk n d e reads ran made = ⊎_elim
+    (λ (f : F). absurd (ran f))
+    (λ (one : MadeCalls disk n d e). record { bytes = reads.bytes; images = reads.images; size = reads.size; calls = λ told. omega (arith, one told) })
+    made
 
 pub finds_ok : (arena : ℕ) (r : ArenaRegion) (fields : List ℕ) (found : Found) → FindsArena r.number r.region.len fields (Ok found) → FindsNext false arena r fields (Ok found)
 finds_ok arena r fields found is = (ap (λ (o : Option ArenaBad). bad_arena false arena o fields) is.0, is.1)
@@ -245,10 +253,16 @@ behind_open : (arena : ℕ) (o : Option ArenaBad) (fields : List ℕ) → bad_ar
 behind_open arena (Some it) fields is = absurd (cc)
 behind_open arena None fields is = refl
 
+-- what a frame's own fields say of that is what all of it says
+order_own : (arena : ℕ) (fields : List ℕ) (h : ArenaHead) → fields_of h ≡ own_fields fields → out_of_order arena fields ≡ out_of_order arena (fields_of h)
+order_own arena fields h spelled =
+    (λ i. cond (sym (own_clumps fields) i == 0) (cond (sym (own_sealed fields) i == 0) None (Some (Arena arena (Torn Sealed 1 0)))) (Some (Order arena (sym (own_clumps fields) i))))
+    ∙ ap (out_of_order arena) (sym spelled)
+
 pub order_passes : (arena : ℕ) (r : ArenaRegion) (fields : List ℕ) (found : Found) → FindsNext false arena r fields (Ok found) → out_of_order arena (fields_of found.head) ≡ None
     → FindsNext true arena r fields (Ok found)
 order_passes arena r fields found is none =
-    (behind_open arena (first_bad_head r.number r.region.len fields) fields is.0 ∙ ap (out_of_order arena) (sym is.1) ∙ none, is.1)
+    (behind_open arena (first_bad_head r.number r.region.len fields) fields is.0 ∙ order_own arena fields found.head is.1 ∙ none, is.1)
 
 never_part : (arena clumps : ℕ) (none unsealed : Bool) (it : ArenaBad) (bad : PartBad) → cond none (cond unsealed None (Some (Arena arena it))) (Some (Order arena clumps)) ≡ Some (PartRefused bad) → ⊥
 never_part arena clumps true true it bad is = cc
@@ -265,23 +279,23 @@ pub order_refused : (arena : ℕ) (r : ArenaRegion) (fields : List ℕ) (found :
 order_refused arena r fields found (PartRefused bad) is order =
     absurd (never_part arena (clump_count_in (fields_of found.head)) (clump_count_in (fields_of found.head) == 0) (sealed_in (fields_of found.head) == 0) (Torn Sealed 1 0) bad order)
 order_refused arena r fields found (Arena i bad) is order =
-    behind_open arena (first_bad_head r.number r.region.len fields) fields is.0 ∙ ap (out_of_order arena) (sym is.1) ∙ order
+    behind_open arena (first_bad_head r.number r.region.len fields) fields is.0 ∙ order_own arena fields found.head is.1 ∙ order
 order_refused arena r fields found (Order i clumps) is order =
-    behind_open arena (first_bad_head r.number r.region.len fields) fields is.0 ∙ ap (out_of_order arena) (sym is.1) ∙ order
+    behind_open arena (first_bad_head r.number r.region.len fields) fields is.0 ∙ order_own arena fields found.head is.1 ∙ order
 order_refused arena r fields found Fault is order = tt
 order_refused arena r fields found NoMemory is order =
     absurd (never_memory arena (clump_count_in (fields_of found.head)) (clump_count_in (fields_of found.head) == 0) (sealed_in (fields_of found.head) == 0) (Torn Sealed 1 0) order)
 
 -- ---- all arenas
 
--- the fields of an arena's current head, where its partition's file is there
+-- what is read of an arena, where its partition's file is there
 abbrev pub fields_there : (files : List (List ℕ)) → ArenaRegion → List ℕ
-fields_there files r = fields_at r.region (get_or files r.part [])
+fields_there files r = read_at r.region r.number (get_or files r.part [])
 
-there_is : (files : List (List ℕ)) (r : ArenaRegion) (file : List ℕ) → slice_get files r.part ≡ Some file → fields_there files r ≡ fields_at r.region file
-there_is files r file is = ap (fields_at r.region) (get_or_from_slice_get files r.part file [] is)
+there_is : (files : List (List ℕ)) (r : ArenaRegion) (file : List ℕ) → slice_get files r.part ≡ Some file → fields_there files r ≡ read_at r.region r.number file
+there_is files r file is = ap (read_at r.region r.number) (get_or_from_slice_get files r.part file [] is)
 
-pub fields_are : (files : List (List ℕ)) (layout : List ArenaRegion) → AreFields layout files (map (fields_there files) layout)
+pub fields_are : (files : List (List ℕ)) (layout : List ArenaRegion) → AreReadAt layout files (map (fields_there files) layout)
 fields_are files layout = record {
   many = length-map layout (fields_there files);
   each = λ i r file at is.
@@ -298,11 +312,28 @@ fields_one disk ds r fields on are =
 abbrev pub fields_of_all : List Found → List (List ℕ)
 fields_of_all heads = map (λ found. fields_of found.head) heads
 
--- the arenas up to this one pass, and an unsealed one is among them exactly if `behind` says so:
--- what is refused is what the rest refuses
-abbrev pub Passes : List ArenaRegion → (heads : List Found) → (behind : Bool) → (i : ℕ) → Type 0
-Passes layout heads behind i =
-    (rest : List (List ℕ)) → first_bad_log false 0 layout (fields_of_all heads ++ rest) ≡ first_bad_log behind i (drop i layout) rest
+-- the arenas up to this one, of which this was read, pass, and an unsealed one is among them exactly
+-- if `behind` says so: what is refused is what the rest refuses
+abbrev pub Passes : List ArenaRegion → (fields : List (List ℕ)) → (behind : Bool) → (i : ℕ) → Type 0
+Passes layout fields behind i =
+    (rest : List (List ℕ)) → first_bad_log false 0 layout (fields ++ rest) ≡ first_bad_log behind i (drop i layout) rest
+
+-- what was read of the arenas up to this one: they pass, these are their heads, and so many reads were made
+pub record AreRead {D : Type 0} (disk : DiskOf D) (old new : List (Part D)) (layout : List ArenaRegion) (heads : List Found) (behind : Bool) (i : ℕ) : Type 0 where
+  pub fields : List (List ℕ)
+  pub passes : Passes layout fields behind i
+  pub heads_are : fields_of_all heads ≡ map own_fields fields
+  pub there : IsTrue disk.tells → fields ≡ map (fields_there (map disk.bytes (disks_of old))) (take i layout)
+  pub reads : OnlyReadsParts disk (reads_to_find_all (take i layout) fields) old new
+
+pub read_none : {D : Type 0} (disk : DiskOf D) (old : List (Part D)) (layout : List ArenaRegion) (heads : List Found) → heads ≡ [] → AreRead disk old old layout heads false 0
+read_none disk old layout heads none = record {
+  fields = [];
+  passes = λ rest. refl;
+  heads_are = ap fields_of_all none;
+  there = λ told. refl;
+  reads = read_refl disk old;
+}
 
 drop_at : {X : Type 0} (xs : List X) (i : ℕ) (x : X) → slice_get xs i ≡ Some x → drop i xs ≡ x ∷ drop (i + 1) xs
 drop_at {X = X} xs i x at = drop_more xs i x (slice_get_within xs i x at) ∙ ap (λ (y : X). y ∷ drop (i + 1) xs) (get_or_from_slice_get xs i x x at)
@@ -320,60 +351,63 @@ at_stop : (behind : Bool) (i : ℕ) (r : ArenaRegion) (rest : List ArenaRegion) 
     → first_bad_log behind i (r ∷ rest) (f ∷ fs) ≡ Some bad
 at_stop behind i r rest f fs bad is = ap (λ (o : Option LogBad). first_of_two o (first_bad_log (behind || sealed_in f == 0) (i + 1) rest fs)) is
 
-pub passes_more : (layout : List ArenaRegion) (heads : List Found) (behind next : Bool) (i : ℕ) (r : ArenaRegion) (found : Found) → Passes layout heads behind i → slice_get layout i ≡ Some r
-    → bad_arena behind i (first_bad_head r.number r.region.len (fields_of found.head)) (fields_of found.head) ≡ None
-    → next ≡ (behind || not found.head.sealed) → Passes layout (heads ++ found ∷ []) next (i + 1)
-passes_more layout heads behind next i r found passes at none next_is rest =
-    let f : List ℕ = fields_of found.head in
-    let spelled : fields_of_all (heads ++ found ∷ []) ++ rest ≡ fields_of_all heads ++ f ∷ rest =
-    ap (λ (l : List (List ℕ)). l ++ rest) (map-append (λ (x : Found). fields_of x.head) heads (found ∷ [])) ∙ append_assoc (fields_of_all heads) (f ∷ []) rest in
-    ap (first_bad_log false 0 layout) spelled
+-- the flag of a head, by what was read
+pub sealed_read : (h : ArenaHead) (f : List ℕ) → fields_of h ≡ own_fields f → sealed_in f ≡ flag_of h.sealed
+sealed_read h f spelled = sym (own_sealed f) ∙ ap sealed_in (sym spelled)
+
+passes_more : (layout : List ArenaRegion) (fields : List (List ℕ)) (behind next : Bool) (i : ℕ) (r : ArenaRegion) (f : List ℕ) (sealed : Bool) → Passes layout fields behind i → slice_get layout i ≡ Some r
+    → bad_arena behind i (first_bad_head r.number r.region.len f) f ≡ None → sealed_in f ≡ flag_of sealed
+    → next ≡ (behind || not sealed) → Passes layout (fields ++ f ∷ []) next (i + 1)
+passes_more layout fields behind next i r f sealed passes at none flag next_is rest =
+    ap (first_bad_log false 0 layout) (append_assoc fields (f ∷ []) rest)
     ∙ passes (f ∷ rest)
     ∙ ap (λ (rs : List ArenaRegion). first_bad_log behind i rs (f ∷ rest)) (drop_at layout i r at)
     ∙ at_step behind i r (drop (i + 1) layout) f rest none
-    ∙ ap (λ (b : Bool). first_bad_log b (i + 1) (drop (i + 1) layout) rest) (ap (λ (b : Bool). behind || b) (flag_is_none found.head.sealed) ∙ sym next_is)
+    ∙ ap (λ (b : Bool). first_bad_log b (i + 1) (drop (i + 1) layout) rest)
+    (ap (λ (n : ℕ). behind || n == 0) flag ∙ ap (λ (b : Bool). behind || b) (flag_is_none sealed) ∙ sym next_is)
 
-pub passes_stop : (layout : List ArenaRegion) (heads : List Found) (behind : Bool) (i : ℕ) (r : ArenaRegion) (f : List ℕ) (rest : List (List ℕ)) (bad : LogBad) → Passes layout heads behind i → slice_get layout i ≡ Some r
-    → bad_arena behind i (first_bad_head r.number r.region.len f) f ≡ Some bad → first_bad_log false 0 layout (fields_of_all heads ++ f ∷ rest) ≡ Some bad
-passes_stop layout heads behind i r f rest bad passes at is =
+passes_stop : (layout : List ArenaRegion) (fields : List (List ℕ)) (behind : Bool) (i : ℕ) (r : ArenaRegion) (f : List ℕ) (rest : List (List ℕ)) (bad : LogBad) → Passes layout fields behind i → slice_get layout i ≡ Some r
+    → bad_arena behind i (first_bad_head r.number r.region.len f) f ≡ Some bad → first_bad_log false 0 layout (fields ++ f ∷ rest) ≡ Some bad
+passes_stop layout fields behind i r f rest bad passes at is =
     passes (f ∷ rest)
     ∙ ap (λ (rs : List ArenaRegion). first_bad_log behind i rs (f ∷ rest)) (drop_at layout i r at)
     ∙ at_stop behind i r (drop (i + 1) layout) f rest bad is
 
 -- all pass
-pub passes_all : (layout : List ArenaRegion) (heads : List Found) (behind : Bool) (i : ℕ) → Passes layout heads behind i → length layout ≤ i → ArePassed layout (fields_of_all heads) heads
-passes_all layout heads behind i passes past = record {
-  passed = ap (first_bad_log false 0 layout) (sym (append-nil (fields_of_all heads))) ∙ passes [] ∙ ap (λ (rs : List ArenaRegion). first_bad_log behind i rs []) (drop_all i layout past);
-  heads_are = refl;
+pub passes_all : {D : Type 0} (disk : DiskOf D) (old new : List (Part D)) (layout : List ArenaRegion) (heads : List Found) (behind : Bool) (i : ℕ) → (so_far : AreRead disk old new layout heads behind i)
+    → length layout ≤ i → ArePassed layout so_far.fields heads
+passes_all disk old new layout heads behind i so_far past = record {
+  passed = ap (first_bad_log false 0 layout) (sym (append-nil so_far.fields)) ∙ so_far.passes [] ∙ ap (λ (rs : List ArenaRegion). first_bad_log behind i rs []) (drop_all i layout past);
+  heads_are = so_far.heads_are;
 }
 
 -- the next one is refused
-pub stops : {D : Type 0} (disk : DiskOf D) (ds : List D) (layout : List ArenaRegion) (heads : List Found) (behind : Bool) (i : ℕ) (r : ArenaRegion) (bad : LogBad)
-    → All (IsOnDisk disk ds) layout → Passes layout heads behind i → (IsTrue disk.tells → fields_of_all heads ≡ map (fields_there (map disk.bytes ds)) (take i layout))
+pub stops : {D : Type 0} (disk : DiskOf D) (old new : List (Part D)) (layout : List ArenaRegion) (heads : List Found) (behind : Bool) (i : ℕ) (r : ArenaRegion) (bad : LogBad)
+    → All (IsOnDisk disk (disks_of old)) layout → AreRead disk old new layout heads behind i
     → slice_get layout i ≡ Some r
-    → (fields : List ℕ) × (IsTrue disk.tells → AreFieldsAt (map disk.bytes ds) r fields) × FindsNext behind i r fields (Err bad)
-    → (fields : List (List ℕ)) × (IsTrue disk.tells → AreFields layout (map disk.bytes ds) fields) × RefusesArenas layout fields bad
-stops {D = D} disk ds layout heads behind i r bad regions passes so_far at answer =
-    let rest : List (List ℕ) = map (fields_there (map disk.bytes ds)) (drop (i + 1) layout) in (
-      fields_of_all heads ++ answer.0 ∷ rest,
-      λ told. subst (AreFields layout (map disk.bytes ds)) (sym (whole told)) (fields_are (map disk.bytes ds) layout),
+    → (fields : List ℕ) × (IsTrue disk.tells → AreFieldsAt (map disk.bytes (disks_of old)) r fields) × FindsNext behind i r fields (Err bad)
+    → (fields : List (List ℕ)) × (IsTrue disk.tells → AreReadAt layout (map disk.bytes (disks_of old)) fields) × RefusesArenas layout fields bad
+stops {D = D} disk old new layout heads behind i r bad regions so_far at answer =
+    let rest : List (List ℕ) = map (fields_there (map disk.bytes (disks_of old))) (drop (i + 1) layout) in (
+      so_far.fields ++ answer.0 ∷ rest,
+      λ told. subst (AreReadAt layout (map disk.bytes (disks_of old))) (sym (whole told)) (fields_are (map disk.bytes (disks_of old)) layout),
       refuses bad answer.2,
     )
   where
-    on : IsOnDisk disk ds r
-    on = at_slice (IsOnDisk disk ds) layout i r regions at
+    on : IsOnDisk disk (disks_of old) r
+    on = at_slice (IsOnDisk disk (disks_of old)) layout i r regions at
 
-    whole : (told : IsTrue disk.tells) → fields_of_all heads ++ answer.0 ∷ map (fields_there (map disk.bytes ds)) (drop (i + 1) layout) ≡ map (fields_there (map disk.bytes ds)) layout
+    whole : (told : IsTrue disk.tells) → so_far.fields ++ answer.0 ∷ map (fields_there (map disk.bytes (disks_of old))) (drop (i + 1) layout) ≡ map (fields_there (map disk.bytes (disks_of old))) layout
     whole told =
-        (λ j. so_far told j ++ fields_one disk ds r answer.0 on (answer.1 told) j ∷ map (fields_there (map disk.bytes ds)) (drop (i + 1) layout))
-        ∙ sym (map-append (fields_there (map disk.bytes ds)) (take i layout) (r ∷ drop (i + 1) layout))
-        ∙ ap (λ (rs : List ArenaRegion). map (fields_there (map disk.bytes ds)) (take i layout ++ rs)) (sym (drop_at layout i r at))
-        ∙ ap (map (fields_there (map disk.bytes ds))) (take-append-drop i layout)
+        (λ j. so_far.there told j ++ fields_one disk (disks_of old) r answer.0 on (answer.1 told) j ∷ map (fields_there (map disk.bytes (disks_of old))) (drop (i + 1) layout))
+        ∙ sym (map-append (fields_there (map disk.bytes (disks_of old))) (take i layout) (r ∷ drop (i + 1) layout))
+        ∙ ap (λ (rs : List ArenaRegion). map (fields_there (map disk.bytes (disks_of old))) (take i layout ++ rs)) (sym (drop_at layout i r at))
+        ∙ ap (map (fields_there (map disk.bytes (disks_of old)))) (take-append-drop i layout)
 
-    refuses : (bad : LogBad) → FindsNext behind i r answer.0 (Err bad) → RefusesArenas layout (fields_of_all heads ++ answer.0 ∷ map (fields_there (map disk.bytes ds)) (drop (i + 1) layout)) bad
+    refuses : (bad : LogBad) → FindsNext behind i r answer.0 (Err bad) → RefusesArenas layout (so_far.fields ++ answer.0 ∷ map (fields_there (map disk.bytes (disks_of old))) (drop (i + 1) layout)) bad
     refuses (PartRefused it) is = is
-    refuses (Arena j it) is = passes_stop layout heads behind i r answer.0 _ (Arena j it) passes at is
-    refuses (Order j clumps) is = passes_stop layout heads behind i r answer.0 _ (Order j clumps) passes at is
+    refuses (Arena j it) is = passes_stop layout so_far.fields behind i r answer.0 _ (Arena j it) so_far.passes at is
+    refuses (Order j clumps) is = passes_stop layout so_far.fields behind i r answer.0 _ (Order j clumps) so_far.passes at is
     refuses Fault is = tt
     refuses NoMemory is = absurd is
 
@@ -443,14 +477,41 @@ found_file {D = D} disk ds files r found same finds file at =
     let is : disk.bytes device.0 ≡ file = same_Some (disk.bytes device.0) file (sym (slice_get-map disk.bytes ds r.part ∙ ap (option_map disk.bytes) device.1) ∙ ap (λ (fs : List (List ℕ)). slice_get fs r.part) same ∙ at) in
     subst (λ (f : List ℕ). IsFoundArena disk.tells r f found) is (finds device.0 device.1)
 
-pub fields_more : {D : Type 0} (disk : DiskOf D) (ds : List D) (layout : List ArenaRegion) (heads : List Found) (i : ℕ) (r : ArenaRegion) (found : Found) → All (IsOnDisk disk ds) layout
-    → slice_get layout i ≡ Some r → AreFieldsAt (map disk.bytes ds) r (fields_of found.head) → fields_of_all heads ≡ map (fields_there (map disk.bytes ds)) (take i layout)
-    → fields_of_all (heads ++ found ∷ []) ≡ map (fields_there (map disk.bytes ds)) (take (i + 1) layout)
-fields_more disk ds layout heads i r found regions at are so_far =
-    map-append (λ (x : Found). fields_of x.head) heads (found ∷ [])
-    ∙ (λ j. so_far j ++ fields_one disk ds r (fields_of found.head) (at_slice (IsOnDisk disk ds) layout i r regions at) are j ∷ [])
-    ∙ ap (λ (q : ArenaRegion). map (fields_there (map disk.bytes ds)) (take i layout) ++ fields_there (map disk.bytes ds) q ∷ []) (sym (get_or_from_slice_get layout i r r at))
-    ∙ sym (map_more (fields_there (map disk.bytes ds)) layout i r (slice_get_within layout i r at))
+-- the reads of one more
+reads_more : (layout : List ArenaRegion) (fields : List (List ℕ)) (i : ℕ) (r : ArenaRegion) (f : List ℕ) → slice_get layout i ≡ Some r → length fields ≡ i
+    → reads_to_find_all (take (i + 1) layout) (fields ++ f ∷ []) ≡ reads_to_find_all (take i layout) fields + reads_to_find r.number r.region.len f
+reads_more [] fields i r f at many = absurd (cc)
+reads_more (x ∷ rest) [] zero r f at many =
+    let same : x ≡ r = same_Some x r at in
+    ap (λ (q : ArenaRegion). reads_to_find q.number q.region.len f + 0) same ∙ omega arith
+reads_more (x ∷ rest) (g ∷ fields) zero r f at many = absurd (omega (arith, many))
+reads_more (x ∷ rest) [] (suc i) r f at many = absurd (omega (arith, many))
+reads_more (x ∷ rest) (g ∷ fields) (suc i) r f at many =
+    ap (λ (n : ℕ). reads_to_find_all (take n (x ∷ rest)) (g ∷ (fields ++ f ∷ []))) (let e : suc i + 1 ≡ suc (i + 1) = omega arith in e)
+    ∙ omega (arith, reads_more rest fields i r f at (omega (arith, many)))
+
+-- one more is read
+pub read_more_of : {D : Type 0} (disk : DiskOf D) (old mid new : List (Part D)) (layout : List ArenaRegion) (heads : List Found) (behind next : Bool) (i : ℕ) (r : ArenaRegion) (found : Found) → All (IsOnDisk disk (disks_of old)) layout
+    → slice_get layout i ≡ Some r → length heads ≡ i
+    → (answer : (fields : List ℕ) × (IsTrue disk.tells → AreFieldsAt (map disk.bytes (disks_of old)) r fields) × FindsNext behind i r fields (Ok found)
+    × OnlyReadsParts disk (reads_to_find r.number r.region.len fields) mid new)
+    → next ≡ (behind || not found.head.sealed) → AreRead disk old mid layout heads behind i → AreRead disk old new layout (heads ++ found ∷ []) next (i + 1)
+read_more_of disk old mid new layout heads behind next i r found regions at many answer next_is so_far = record {
+  fields = so_far.fields ++ answer.0 ∷ [];
+  passes = passes_more layout so_far.fields behind next i r answer.0 found.head.sealed so_far.passes at answer.2.0 (sealed_read found.head answer.0 answer.2.1) next_is;
+  heads_are = map-append (λ (x : Found). fields_of x.head) heads (found ∷ [])
+      ∙ (λ j. so_far.heads_are j ++ answer.2.1 j ∷ [])
+      ∙ sym (map-append own_fields so_far.fields (answer.0 ∷ []));
+  there = λ told.
+      (λ j. so_far.there told j ++ fields_one disk (disks_of old) r answer.0 (at_slice (IsOnDisk disk (disks_of old)) layout i r regions at) (answer.1 told) j ∷ [])
+      ∙ ap (λ (q : ArenaRegion). map (fields_there (map disk.bytes (disks_of old))) (take i layout) ++ fields_there (map disk.bytes (disks_of old)) q ∷ []) (sym (get_or_from_slice_get layout i r r at))
+      ∙ sym (map_more (fields_there (map disk.bytes (disks_of old))) layout i r (slice_get_within layout i r at));
+  reads =
+      let count : length so_far.fields ≡ i =
+      sym (length-map so_far.fields own_fields) ∙ ap (λ (l : List (List ℕ)). length l) (sym so_far.heads_are) ∙ length-map heads (λ (x : Found). fields_of x.head) ∙ many in
+      read_then disk (reads_to_find_all (take i layout) so_far.fields) (reads_to_find r.number r.region.len answer.0) (reads_to_find_all (take (i + 1) layout) (so_far.fields ++ answer.0 ∷ []))
+      old mid new (omega (arith, reads_more layout so_far.fields i r answer.0 at count)) so_far.reads answer.3;
+}
 
 -- a head that was found can stand in its region
 pub found_stands : {D : Type 0} (disk : DiskOf D) (ds : List D) (rs : List ArenaRegion) (heads : List Found) (i : ℕ) (r : ArenaRegion) (found : Found)
@@ -477,3 +538,12 @@ told_behind disk old new layout fields (Arena i bad) refuses settled = settled
 told_behind disk old new layout fields (Order i clumps) refuses settled = settled
 told_behind disk old new layout fields Fault refuses settled = inr settled
 told_behind disk old new layout fields NoMemory refuses settled = inr settled
+
+-- what arenas are refused for, a log is
+pub refuses_mount : (names : List (List ℕ)) (layout : List ArenaRegion) (fields : List (List ℕ)) (bad : LogBad) → AreDistinct names → RefusesArenas layout fields bad
+    → RefusesLogMount names layout fields bad
+refuses_mount names layout fields (PartRefused bad) distinct refuses = absurd refuses
+refuses_mount names layout fields (Arena i bad) distinct refuses = (distinct, refuses)
+refuses_mount names layout fields (Order i clumps) distinct refuses = (distinct, refuses)
+refuses_mount names layout fields Fault distinct refuses = distinct
+refuses_mount names layout fields NoMemory distinct refuses = distinct

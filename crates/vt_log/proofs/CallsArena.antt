@@ -21,8 +21,9 @@ use Rattle.vt_part.specs.declared.layout.ArenaRegion.{ArenaRegion}
 use Rattle.vt_part.specs.Laws.{IsBefore}
 use Rattle.vt_arena.specs.declared.TheConstants.{FRAME_LEN}
 use Rattle.vt_arena.specs.declared.head.ArenaHead.{ArenaHead}
-use Rattle.vt_arena.specs.Arena.{ArenaState, next_content, pieces, after_step, after_piece, after_head, after_fault, with_failure, changing}
+use Rattle.vt_arena.specs.Arena.{ArenaState, version_counted, next_content, pieces, after_step, after_piece, after_head, after_fault, with_failure, changing}
 use Rattle.vt_arena.specs.Layout.{Content, IsArena}
+use Rattle.vt_arena.specs.Places.{IsVersion, bad_last}
 use Rattle.vt_arena.specs.Sound.{IsRegion, IsSettled, IsSoundArena, GivesOldOrNext}
 use Rattle.vt_arena.proofs.Fresh.{settled_elsewhere}
 use Rattle.vt_arena.proofs.Regions.{arena_in_region, named_in_region}
@@ -86,10 +87,18 @@ call_whole disk l i d e b calls stopped whole ready keeps runs at same = record 
   few = whole.few;
   many = whole.many;
   heads = whole.heads;
+  versions = whole.versions;
   unsealed = whole.unsealed;
   base = whole.base;
   committing = whole.committing;
-  arena = λ r found here has. let it = whole.arena r found here has in record { len = keeps.len ∙ it.len; number = keeps.number ∙ it.number; head = keeps.head ∙ it.head };
+  arena = λ r found here has. let it = whole.arena r found here has in record {
+    len = keeps.len ∙ it.len;
+    number = keeps.number ∙ it.number;
+    head = keeps.head ∙ it.head;
+    counted = ap version_counted keeps.next ∙ it.counted;
+    version = subst (λ (h : ArenaHead). IsVersion h.version) (sym keeps.next) it.version;
+    last = subst (λ (h : ArenaHead). h.version ≡ 2 → bad_last h.clumps h.used h.last ≡ None) (sym keeps.next) it.last;
+  };
   none = λ past. let it = whole.none past in (keeps.staged ∙ it.0, ap (λ head. head.sealed) keeps.next ∙ it.1);
   number = ap (λ (head : ArenaHead). head.number) keeps.next ∙ whole.number ∙ sym keeps.number;
   clumps = rw (keeps.next, keeps.head, keeps.staged) whole.clumps;

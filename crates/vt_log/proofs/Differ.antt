@@ -23,8 +23,7 @@ use Rattle.vt_log.specs.Queue.{IsNowhere}
 use Rattle.vt_log.specs.Reading.{IsOther, ReadsBlockAs, AnswersRead}
 use Rattle.vt_log.specs.Whole.{IsOnDisk, IsWholeLog}
 use Rattle.vt_log.proofs.StandForPrefix.{there}
-use Rattle.vt_log.proofs.Lists.{at_slice}
-use Rattle.vt_log.proofs.Places.{slice_get_there}
+use Rattle.vt_log.proofs.Lists.{at_slice, slice_get_there}
 
 -- this fault of a clump, if there is one, has two values
 abbrev HasTwo : Option ClumpBad → Type 0

@@ -1,5 +1,5 @@
 -- What the last call of a commit leaves of a log.
-use Rattle.std.proofs.Common.{◌≡◌, ◌≢◌, ⊎_elim, ℕ, ◌+◌, ◌%◌, ◌<◌, ◌≤◌, ◌==◌, Bool, true, false, cond, List, [], ◌∷◌, ◌++◌, length, take, drop, map, set, refl, sym, ◌∙◌, ap, subst, arith, Some, Option}
+use Rattle.std.proofs.Common.{◌≡◌, ◌≢◌, ⊎_elim, ℕ, ◌+◌, ◌%◌, ◌<◌, ◌≤◌, ◌==◌, Bool, true, false, cond, List, [], ◌∷◌, ◌++◌, length, take, drop, map, set, refl, sym, ◌∙◌, ap, subst, arith, Some, None, Option}
 use Rattle.std.specs.Prelude.{slice_get, IsTrue, IsFalse}
 use Rattle.std.specs.Option.{option_map_or}
 use Rattle.std.proofs.lemmas.Bool.{cases_eq}
@@ -21,9 +21,9 @@ use Rattle.vt_part.specs.declared.layout.ArenaRegion.{ArenaRegion}
 use Rattle.vt_arena.specs.declared.TheConstants.{FRAME_LEN}
 use Rattle.vt_arena.specs.declared.head.ArenaHead.{ArenaHead}
 use Rattle.vt_arena.specs.declared.head.Found.{Found}
-use Rattle.vt_arena.specs.Arena.{ArenaState, added_by_commit, next_content, is_committing, after_last, fresh_arena}
+use Rattle.vt_arena.specs.Arena.{ArenaState, version_counted, added_by_commit, next_content, is_committing, after_last, fresh_arena}
 use Rattle.vt_arena.specs.Layout.{Content, IsArena, arena_head}
-use Rattle.vt_arena.specs.Places.{directory_room, arena_room}
+use Rattle.vt_arena.specs.Places.{IsVersion, bad_last, directory_room, arena_room}
 use Rattle.vt_arena.specs.Sound.{IsRegion, IsSettled, IsSoundArena}
 use Rattle.vt_arena.specs.Faults.{CanStand}
 use Rattle.vt_arena.proofs.Fresh.{fresh_sound}
@@ -35,6 +35,7 @@ use Rattle.vt_log.specs.Queue.{WaitsFor, waiting_block, spot_of}
 use Rattle.vt_log.specs.Sound.{IsArenaAt, IsSoundLog}
 use Rattle.vt_log.specs.Whole.{IsOnDisk, IsWholeLog, Fill, turned_to}
 use Rattle.vt_log.proofs.CallsArena.{ChangesRegion, on_disk_set, others_stay, at_before}
+use Rattle.vt_log.proofs.Disks.{map_same}
 use Rattle.vt_log.proofs.IsSplit.{blocks_set, split_set, split_sealed, longer_prefix}
 use Rattle.vt_log.proofs.Fill.{fits_within, turned_arena}
 use Rattle.vt_log.proofs.StandForPrefix.{number_is}
@@ -63,16 +64,17 @@ last_ends a runs = record {
 }
 
 -- a filling that leads on doesn't ask for the heads of arenas up to it
-pub fill_heads : (layout : List ArenaRegion) (heads later : List Found) (from to : Filling) (ws : List Waiting)
-    → ((i : ℕ) → from.arena < i → slice_get later i ≡ slice_get heads i) → Fill layout heads from ws to → Fill layout later from ws to
-fill_heads layout heads later from to [] same fill = fill
-fill_heads layout heads later from to (w ∷ ws) same fill = (
+pub fill_heads : (layout : List ArenaRegion) (versions : List ℕ) (heads later : List Found) (from to : Filling) (ws : List Waiting)
+    → ((i : ℕ) → from.arena < i → slice_get later i ≡ slice_get heads i) → Fill layout versions heads from ws to → Fill layout versions later from ws to
+fill_heads layout versions heads later from to [] same fill = fill
+fill_heads layout versions heads later from to (w ∷ ws) same fill = (
   fill.0,
   fill.1,
-  subst (λ (f : Filling). IsTrue (fits_in layout f w.packed.len)) turned fill.2,
-  subst (λ (f : Filling). Fill layout later (with_room_taken w.packed.len f) ws to) turned
-      (fill_heads layout heads later (with_room_taken w.packed.len (turned_to heads w.arena from)) to ws
-      (λ i above. same i (omega (arith, above, turned_arena heads w.arena from, fill.0))) fill.3),
+  fill.2,
+  subst (λ (f : Filling). IsTrue (fits_in layout versions f w.packed.len)) turned fill.3,
+  subst (λ (f : Filling). Fill layout versions later (with_room_taken w.packed.len f) ws to) turned
+      (fill_heads layout versions heads later (with_room_taken w.packed.len (turned_to heads w.arena from)) to ws
+      (λ i above. same i (omega (arith, above, turned_arena heads w.arena from, fill.0))) fill.4),
 )
   where
     turned : turned_to heads w.arena from ≡ turned_to later w.arena from
@@ -86,14 +88,15 @@ fill_heads layout heads later from to (w ∷ ws) same fill = (
         (eqb_tells w.arena from.arena)
 
 -- and begins as well in the next arena, where the first block goes there
-pub fill_turn : (layout : List ArenaRegion) (heads : List Found) (from to next : Filling) (ws : List Waiting) → WaitsFor next.arena ws → from.arena + 1 ≡ next.arena
-    → next ≡ found_filling heads next.arena → Fill layout heads from ws to → Fill layout heads next ws to
-fill_turn layout heads from to next [] waits behind is fill = absurd waits
-fill_turn layout heads from to next (w ∷ ws) waits behind is fill = (
+pub fill_turn : (layout : List ArenaRegion) (versions : List ℕ) (heads : List Found) (from to next : Filling) (ws : List Waiting) → WaitsFor next.arena ws → from.arena + 1 ≡ next.arena
+    → next ≡ found_filling heads next.arena → Fill layout versions heads from ws to → Fill layout versions heads next ws to
+fill_turn layout versions heads from to next [] waits behind is fill = absurd waits
+fill_turn layout versions heads from to next (w ∷ ws) waits behind is fill = (
   omega (arith, waits),
   omega (arith, waits),
-  subst (λ (f : Filling). IsTrue (fits_in layout f w.packed.len)) turned fill.2,
-  subst (λ (f : Filling). Fill layout heads (with_room_taken w.packed.len f) ws to) turned fill.3,
+  λ less. absurd (omega (arith, waits, less)),
+  subst (λ (f : Filling). IsTrue (fits_in layout versions f w.packed.len)) turned fill.3,
+  subst (λ (f : Filling). Fill layout versions heads (with_room_taken w.packed.len f) ws to) turned fill.4,
 )
   where
     turned : turned_to heads w.arena from ≡ turned_to heads w.arena next
@@ -117,7 +120,7 @@ ended l part e found b calls = record l {
 
 pub ended_whole : {D : Type 0} (disk : DiskOf D) (l : LogState D) (r : ArenaRegion) (found : Found) (d e : D) (b : ArenaState) (calls : ℕ) → IsWholeLog disk l → EndsArena l.arena b
     → l.arena.next.sealed ≡ false → slice_get l.layout l.committing ≡ Some r → slice_get l.heads l.committing ≡ Some found
-    → b.head.used + directory_room b.head.clumps ≤ arena_room r.region.len → slice_get l.disks r.part ≡ Some d → disk.size e ≡ disk.size d
+    → b.head.used + directory_room b.head.version b.head.clumps ≤ arena_room r.region.len → slice_get l.disks r.part ≡ Some d → disk.size e ≡ disk.size d
     → IsWholeLog disk (ended l r.part e found b calls)
 ended_whole disk l r found d e b calls whole ends unsealed here has fit at same = record {
   many_disks = length-set l.disks r.part e ∙ whole.many_disks;
@@ -133,10 +136,13 @@ ended_whole disk l r found d e b calls whole ends unsealed here has fit at same 
       let head : other.head ≡ b.head = ap (λ (f : Found). f.head) (sym other_is) in
       record {
         number = ap (λ (h : ArenaHead). h.number) (head ∙ ends.head) ∙ whole.number ∙ (whole.arena r found here has).number ∙ ap (λ (x : ArenaRegion). x.number) q_is;
-        fit = subst (λ (h : ArenaHead). h.used + directory_room h.clumps ≤ arena_room q.region.len) (sym head) (subst (λ (x : ArenaRegion). b.head.used + directory_room b.head.clumps ≤ arena_room x.region.len) q_is fit);
+        version = subst (λ (h : ArenaHead). IsVersion h.version) (sym (head ∙ ends.head)) (whole.arena r found here has).version;
+        last = subst (λ (h : ArenaHead). h.version ≡ 2 → bad_last h.clumps h.used h.last ≡ None) (sym (head ∙ ends.head)) (whole.arena r found here has).last;
+        fit = subst (λ (h : ArenaHead). h.used + directory_room h.version h.clumps ≤ arena_room q.region.len) (sym head) (subst (λ (x : ArenaRegion). b.head.used + directory_room b.head.version b.head.clumps ≤ arena_room x.region.len) q_is fit);
       })
       (λ (not_this : i ≢ l.committing). whole.heads i q other q_at (sym (slice_get_set_other l.heads l.committing i (record found { head = b.head }) not_this) ∙ other_at))
       (cases_eq i l.committing);
+  versions = versions_kept;
   unsealed = λ i other least other_at. ⊎_elim
       (λ (is : i ≡ l.committing).
       let other_is : record found { head = b.head } ≡ other = same_Some _ other (sym new_head ∙ sym (ap (slice_get (set l.heads l.committing (record found { head = b.head }))) is) ∙ other_at) in
@@ -149,15 +155,22 @@ ended_whole disk l r found d e b calls whole ends unsealed here has fit at same 
       let q_is : r ≡ q = same_Some r q (sym here ∙ q_at) in
       let other_is : record found { head = b.head } ≡ other = same_Some _ other (sym new_head ∙ other_at) in
       let old = whole.arena r found here has in
-      record { len = ends.len ∙ old.len ∙ ap (λ (x : ArenaRegion). x.region.len) q_is; number = ends.number ∙ old.number ∙ ap (λ (x : ArenaRegion). x.number) q_is; head = ap (λ (f : Found). f.head) other_is };
+      record {
+        len = ends.len ∙ old.len ∙ ap (λ (x : ArenaRegion). x.region.len) q_is;
+        number = ends.number ∙ old.number ∙ ap (λ (x : ArenaRegion). x.number) q_is;
+        head = ap (λ (f : Found). f.head) other_is;
+        counted = ap version_counted (ends.next ∙ sym ends.head ∙ ap (λ (f : Found). f.head) other_is);
+        version = subst (λ (h : ArenaHead). IsVersion h.version) (sym ends.next) old.version;
+        last = subst (λ (h : ArenaHead). h.version ≡ 2 → bad_last h.clumps h.used h.last ≡ None) (sym ends.next) old.last;
+      };
   none = λ past. absurd (omega (arith, past, slice_get_within l.layout l.committing r here));
   number = ap (λ (h : ArenaHead). h.number) ends.next ∙ whole.number ∙ sym ends.number;
   clumps = omega (arith, ap (λ (h : ArenaHead). h.clumps) ends.head, ap (λ (h : ArenaHead). h.clumps) ends.next, ap (λ (ps : List Packed). length ps) ends.staged);
   runs = λ runs. ends.failed;
   some = λ committing none. let off = ends.rest in absurd (cc);
   way = λ sealed. let off : b.next.sealed ≡ false = ap (λ (h : ArenaHead). h.sealed) ends.next ∙ unsealed in absurd (cc);
-  queue = subst (λ (h : ArenaHead). Fill l.layout (set l.heads l.committing (record found { head = b.head })) (filled_as l.committing h) l.queue.waiting l.filling) (sym ends.next)
-      (fill_heads l.layout l.heads (set l.heads l.committing (record found { head = b.head })) (filled_as l.committing l.arena.next) l.filling l.queue.waiting
+  queue = subst (λ (h : ArenaHead). Fill l.layout l.versions (set l.heads l.committing (record found { head = b.head })) (filled_as l.committing h) l.queue.waiting l.filling) (sym ends.next)
+      (fill_heads l.layout l.versions l.heads (set l.heads l.committing (record found { head = b.head })) (filled_as l.committing l.arena.next) l.filling l.queue.waiting
       (λ i above. slice_get_set_other l.heads l.committing i (record found { head = b.head }) (λ same. omega (arith, above, same))) whole.queue);
   places = omega (arith, whole.places, ap (λ (ps : List Packed). length ps) ends.staged, length-drop (length l.arena.staged) l.queue.places);
   most = omega (arith, whole.most, length-drop (length l.arena.staged) l.queue.places);
@@ -175,6 +188,11 @@ ended_whole disk l r found d e b calls whole ends unsealed here has fit at same 
     new_head : slice_get (set l.heads l.committing (record found { head = b.head })) l.committing ≡ Some (record found { head = b.head })
     new_head = slice_get_set_same l.heads l.committing (record found { head = b.head }) (slice_get_within l.heads l.committing found has)
 
+    versions_kept : l.versions ≡ map (λ (f : Found). version_counted f.head) (set l.heads l.committing (record found { head = b.head }))
+    versions_kept = whole.versions
+        ∙ sym (map_same (λ (f : Found). version_counted f.head) l.heads l.committing found (record found { head = b.head }) has
+        (ap version_counted ends.head ∙ (whole.arena r found here has).counted))
+
 -- what the last call leaves of what an arena holds: what its commit made of it, synced
 pub record CommitsIn {D : Type 0} (score_of : List ℕ → List ℕ) (disk : DiskOf D) (b : ArenaState) (region : Region) (next : Content) (e : D) : Type 0 where
   pub sound : IsSoundArena score_of b region next (disk.bytes e) (disk.images e)
@@ -188,7 +206,7 @@ pub record IsEnding {D : Type 0} (score_of : List ℕ → List ℕ) (disk : Disk
   pub has : slice_get l.heads l.committing ≡ Some found
   pub at : IsArenaAt l l.committing r d
   pub changes : ChangesRegion disk r.region d e
-  pub fit : b.head.used + directory_room b.head.clumps ≤ arena_room r.region.len
+  pub fit : b.head.used + directory_room b.head.version b.head.clumps ≤ arena_room r.region.len
 
 -- the blocks with those that were staged
 pub committed_next : {D : Type 0} (score_of : List ℕ → List ℕ) (disk : DiskOf D) (l : LogState D) (h : History) (a : Content)
@@ -231,15 +249,15 @@ turned l part e found b calls len next = record (ended l part e found b calls) {
 pub next_there : {D : Type 0} (disk : DiskOf D) (l : LogState D) → IsWholeLog disk l → l.arena.next.sealed ≡ true → l.committing + 1 < length l.layout
 next_there disk l whole sealed = at l.queue.waiting (whole.way sealed) whole.queue
   where
-    at : (ws : List Waiting) → WaitsFor (l.committing + 1) ws → Fill l.layout l.heads (filled_as l.committing l.arena.next) ws l.filling → l.committing + 1 < length l.layout
+    at : (ws : List Waiting) → WaitsFor (l.committing + 1) ws → Fill l.layout l.versions l.heads (filled_as l.committing l.arena.next) ws l.filling → l.committing + 1 < length l.layout
     at [] waits fill = absurd waits
     at (w ∷ ws) waits fill =
-        let there = fits_within l.layout (turned_to l.heads w.arena (filled_as l.committing l.arena.next)) w.packed.len fill.2 in
+        let there = fits_within l.layout l.versions (turned_to l.heads w.arena (filled_as l.committing l.arena.next)) w.packed.len fill.3 in
         omega (arith, waits, slice_get_within l.layout _ there.0 there.1, turned_arena l.heads w.arena (filled_as l.committing l.arena.next))
 
 pub turned_whole : {D : Type 0} (disk : DiskOf D) (l : LogState D) (r q : ArenaRegion) (found next : Found) (d e : D) (b : ArenaState) (calls len : ℕ) → IsWholeLog disk l → EndsArena l.arena b
     → l.arena.next.sealed ≡ true → slice_get l.layout l.committing ≡ Some r → slice_get l.heads l.committing ≡ Some found
-    → b.head.used + directory_room b.head.clumps ≤ arena_room r.region.len → slice_get l.disks r.part ≡ Some d → disk.size e ≡ disk.size d
+    → b.head.used + directory_room b.head.version b.head.clumps ≤ arena_room r.region.len → slice_get l.disks r.part ≡ Some d → disk.size e ≡ disk.size d
     → slice_get l.layout (l.committing + 1) ≡ Some q → slice_get l.heads (l.committing + 1) ≡ Some next → len ≡ q.region.len
     → IsWholeLog disk (turned l r.part e found b calls len next)
 turned_whole disk l r q found next d e b calls len whole ends sealed here has fit at same next_here next_has len_is = record {
@@ -256,10 +274,13 @@ turned_whole disk l r q found next d e b calls len whole ends sealed here has fi
       let head : other.head ≡ b.head = ap (λ (f : Found). f.head) (sym other_is) in
       record {
         number = ap (λ (h : ArenaHead). h.number) (head ∙ ends.head) ∙ whole.number ∙ (whole.arena r found here has).number ∙ ap (λ (x : ArenaRegion). x.number) q_is;
-        fit = subst (λ (h : ArenaHead). h.used + directory_room h.clumps ≤ arena_room q.region.len) (sym head) (subst (λ (x : ArenaRegion). b.head.used + directory_room b.head.clumps ≤ arena_room x.region.len) q_is fit);
+        version = subst (λ (h : ArenaHead). IsVersion h.version) (sym (head ∙ ends.head)) (whole.arena r found here has).version;
+        last = subst (λ (h : ArenaHead). h.version ≡ 2 → bad_last h.clumps h.used h.last ≡ None) (sym (head ∙ ends.head)) (whole.arena r found here has).last;
+        fit = subst (λ (h : ArenaHead). h.used + directory_room h.version h.clumps ≤ arena_room q.region.len) (sym head) (subst (λ (x : ArenaRegion). b.head.used + directory_room b.head.version b.head.clumps ≤ arena_room x.region.len) q_is fit);
       })
       (λ (not_this : i ≢ l.committing). whole.heads i q other q_at (sym (slice_get_set_other l.heads l.committing i (record found { head = b.head }) not_this) ∙ other_at))
       (cases_eq i l.committing);
+  versions = versions_kept;
   unsealed = λ i other least other_at.
       whole.unsealed i other (omega (arith, least)) (sym (slice_get_set_other l.heads l.committing i (record found { head = b.head }) (λ same. omega (arith, least, same))) ∙ other_at);
   base = omega (arith, whole.base);
@@ -271,6 +292,9 @@ turned_whole disk l r q found next d e b calls len whole ends sealed here has fi
         len = len_is ∙ ap (λ (x : ArenaRegion). x.region.len) s_is;
         number = (whole.heads (l.committing + 1) q next next_here next_has).number ∙ ap (λ (x : ArenaRegion). x.number) s_is;
         head = ap (λ (f : Found). f.head) other_is;
+        counted = ap (λ (f : Found). version_counted f.head) other_is;
+        version = (whole.heads (l.committing + 1) q next next_here next_has).version;
+        last = (whole.heads (l.committing + 1) q next next_here next_has).last;
       };
   none = λ past. absurd (omega (arith, past, next_there disk l whole sealed));
   number = refl;
@@ -278,10 +302,10 @@ turned_whole disk l r q found next d e b calls len whole ends sealed here has fi
   runs = λ runs. refl;
   some = λ committing none. absurd (cc);
   way = λ is_sealed. let off = whole.unsealed (l.committing + 1) next (omega arith) next_has in absurd (cc);
-  queue = fill_turn l.layout (set l.heads l.committing (record found { head = b.head })) (filled_as l.committing l.arena.next) l.filling (filled_as (l.committing + 1) next.head) l.queue.waiting (whole.way sealed) refl
+  queue = fill_turn l.layout l.versions (set l.heads l.committing (record found { head = b.head })) (filled_as l.committing l.arena.next) l.filling (filled_as (l.committing + 1) next.head) l.queue.waiting (whole.way sealed) refl
       (sym (ap (λ (o : Option Found). option_map_or (λ (f : Found). filled_as (l.committing + 1) f.head) o (record { arena = l.committing + 1; used = 0; clumps = 0 }))
       (slice_get_set_other l.heads l.committing (l.committing + 1) (record found { head = b.head }) (λ same. omega (arith, same)) ∙ next_has)))
-      (fill_heads l.layout l.heads (set l.heads l.committing (record found { head = b.head })) (filled_as l.committing l.arena.next) l.filling l.queue.waiting
+      (fill_heads l.layout l.versions l.heads (set l.heads l.committing (record found { head = b.head })) (filled_as l.committing l.arena.next) l.filling l.queue.waiting
       (λ i above. slice_get_set_other l.heads l.committing i (record found { head = b.head }) (λ same. omega (arith, above, same))) whole.queue);
   places = omega (arith, whole.places, length-drop (length l.arena.staged) l.queue.places);
   most = omega (arith, whole.most, length-drop (length l.arena.staged) l.queue.places);
@@ -298,6 +322,11 @@ turned_whole disk l r q found next d e b calls len whole ends sealed here has fi
   where
     new_head : slice_get (set l.heads l.committing (record found { head = b.head })) l.committing ≡ Some (record found { head = b.head })
     new_head = slice_get_set_same l.heads l.committing (record found { head = b.head }) (slice_get_within l.heads l.committing found has)
+
+    versions_kept : l.versions ≡ map (λ (f : Found). version_counted f.head) (set l.heads l.committing (record found { head = b.head }))
+    versions_kept = whole.versions
+        ∙ sym (map_same (λ (f : Found). version_counted f.head) l.heads l.committing found (record found { head = b.head }) has
+        (ap version_counted ends.head ∙ (whole.arena r found here has).counted))
 
 -- ---- the disks after the last call
 
@@ -391,15 +420,17 @@ module _ {D : Type 0} (score_of : List ℕ → List ℕ) (disk : DiskOf D) (l : 
         let selector = kept_selectors k refl refl (l.committing + 1) s device next_found (omega arith) (record { arena = there_at.arena; disk_is = there_at.disk_is }) later_next in
         let head : next_found.head ≡ arena_head score_of s.number c = kept_heads next within commits.sound.head (l.committing + 1) s next_found c there_at.arena later_next c_at in
         let untouched = at_drop IsUntouched (l.committing + 1) sound.contents (l.committing + 1) c sound.split.behind (omega arith) (sym (slice_get_set_other sound.contents l.committing (l.committing + 1) next not_this) ∙ c_at) in
-        let empty_head : next_found.head ≡ arena_head score_of s.number (record { sealed = c.sealed; stored = [] }) =
-        head ∙ ap (λ (stored : List Stored). arena_head score_of s.number (record { sealed = c.sealed; stored = stored })) untouched.1 in
+        let empty_head : next_found.head ≡ arena_head score_of s.number (record { version = c.version; sealed = c.sealed; stored = [] }) =
+        head ∙ ap (λ (stored : List Stored). arena_head score_of s.number (record { version = c.version; sealed = c.sealed; stored = stored })) untouched.1 in
         let on = at_slice (IsOnDisk disk (set l.disks r.part e)) l.layout (l.committing + 1) s whole.regions there_at.arena in
         let disk_is : on.device ≡ device = same_Some on.device device (sym on.has ∙ there_at.disk_is) in
         let stand : CanStand s.number s.region.len next_found.head = record {
-          version = ap (λ (h : ArenaHead). h.version) empty_head;
+          version = (sound.whole.heads (l.committing + 1) q next_found next_here next_has).version;
           number_is = ap (λ (h : ArenaHead). h.number) empty_head;
           chain = ap (λ (h : ArenaHead). length h.chain.0) empty_head;
           fit = omega (arith, (sound.whole.heads (l.committing + 1) q next_found next_here next_has).fit, ap (λ (x : ArenaRegion). x.region.len) s_is);
+          last = (sound.whole.heads (l.committing + 1) q next_found next_here next_has).last;
+          no_last = λ one. ap (λ (h : ArenaHead). h.last) empty_head ∙ no_sectors (c.version == 2);
         } in
         subst (λ (n : ℕ). IsSoundArena score_of (fresh_arena n (next_found.selector % 2) next_found.head) s.region c (disk.bytes device) (disk.images device))
         (sym (ap (λ (x : ArenaRegion). x.region.len) s_is) ∙ sym len_is)
@@ -429,6 +460,10 @@ module _ {D : Type 0} (score_of : List ℕ → List ℕ) (disk : DiskOf D) (l : 
     arenas = sound.arenas;
   }
     where
+      no_sectors : (b : Bool) → ◌≡◌ {A = ℕ} (cond b 0 0) 0
+      no_sectors true = refl
+      no_sectors false = refl
+
       k : LogState D
       k = turned l r.part e found b calls len next_found
 

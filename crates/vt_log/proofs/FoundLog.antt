@@ -1,6 +1,6 @@
 -- A log that was found.
 use Rattle.std.proofs.Common.{◌≡◌, ◌≢◌, ◌⊎◌, ⊎_elim, inl, inr, ℕ, zero, suc, ◌+◌, ◌^◌, ◌<◌, ◌≤◌, ◌==◌, ◌||◌, Bool, true, false, cond, List, [], ◌∷◌, ◌++◌, length, get_or, map, take, drop, refl, sym, ◌∙◌, ap, subst, arith, append-nil, length-append, Some, None, Option, option_map, IsTrue}
-use Rattle.std.specs.Prelude.{All, AllPairs, IsFalse, MatchBool, slice_get, sum_by, filter}
+use Rattle.std.specs.Prelude.{All, AllPairs, IsFalse, MatchBool, slice_get, slice_index, sum_by, filter}
 use Rattle.std.proofs.lemmas.Bool.Decides.{nat_tests, eqb_tells}
 use Rattle.std.proofs.lemmas.List.{length-map, take_all, drop_all}
 use Rattle.std.proofs.lemmas.List.Elements.{All-weaker, All-nil, All-cons, All-head, All-tail, All-append, All-map}
@@ -28,26 +28,28 @@ use Rattle.vt_arena.specs.declared.error.ArenaBad.TheVariants.{Torn}
 use Rattle.vt_arena.specs.declared.error.Field.TheVariants.{Sealed}
 use Rattle.vt_arena.specs.declared.head.ArenaHead.{ArenaHead}
 use Rattle.vt_arena.specs.declared.head.Found.{Found}
-use Rattle.vt_arena.specs.Arena.{ArenaState, fresh_arena, is_committing}
-use Rattle.vt_arena.specs.Faults.{first_bad_head, CanStand}
-use Rattle.vt_arena.specs.Heads.{fields_of, flag_of, sealed_in, clump_count_in}
+use Rattle.vt_arena.specs.Arena.{ArenaState, fresh_arena, is_committing, version_counted}
+use Rattle.vt_arena.specs.Faults.{first_bad_head, read_at, CanStand}
+use Rattle.vt_arena.specs.Heads.{fields_of, flag_of, own_fields, sealed_in, clump_count_in}
 use Rattle.vt_arena.specs.Layout.{Content, IsArena, arena_head}
-use Rattle.vt_arena.specs.Places.{IsArenaLen, block_room, lengths_of}
+use Rattle.vt_arena.specs.Places.{IsArenaLen, IsVersion, bad_last, block_room, lengths_of}
 use Rattle.vt_arena.specs.Sound.{IsRegion, IsSettled, IsSoundArena}
-use Rattle.vt_arena.proofs.Finds.{arena_passes}
+use Rattle.vt_arena.proofs.ArenaFound.{arena_reads}
+use Rattle.vt_arena.proofs.Finds.{own_clumps}
 use Rattle.vt_arena.proofs.Fresh.{fresh_sound}
 use Rattle.vt_arena.proofs.Unique.{read_clumps}
 use Rattle.vt_log.specs.declared.error.LogBad.{LogBad}
 use Rattle.vt_log.specs.declared.error.LogBad.TheVariants.{Part as PartRefused, Arena, Order, Fault, NoMemory}
 use Rattle.vt_log.specs.Answers.{HoldTheSame}
-use Rattle.vt_log.specs.Faults.{AreFields, RefusesLogMount, IsMountedBy, bad_arena, first_of_two, first_bad_log}
+use Rattle.vt_log.specs.Faults.{AreReadAt, RefusesLogMount, IsMountedBy, bad_arena, first_of_two, first_bad_log}
 use Rattle.vt_log.specs.Log.{LogState, IsMountedLog, disks_of, filled_as, found_filling}
 use Rattle.vt_log.specs.Logs.{accepted_in, blocks_from, IsSealed, IsUntouched, InOrder, IsLog, arena_count}
 use Rattle.vt_log.specs.Mounting.{OnlyReadsParts, AreFound, ArePassed, IsFoundArena, IsFirstOpen, IsRoomFor, found_log}
 use Rattle.vt_log.specs.Sound.{IsArenaAt, IsSplit, IsFilledBy, IsSoundLog}
 use Rattle.vt_log.specs.Whole.{IsOnDisk, IsWholeLog}
 use Rattle.vt_log.proofs.IsSplit.{split_order, blocks_arenas, last_arena_le}
-use Rattle.vt_log.proofs.AreFound.{fields_of_all, on_held}
+use Rattle.vt_log.proofs.AreFound.{fields_of_all, on_held, sealed_read}
+use Rattle.vt_log.proofs.Versions.{used_counted, version_there}
 use Rattle.vt_log.proofs.Lists.{slice_get_other, at_slice}
 
 -- ---- the regions
@@ -117,23 +119,33 @@ zero_flag : (b : Bool) → b ≡ false → (flag_of b == 0) ≡ true
 zero_flag true is = cc
 zero_flag false is = refl
 
-behind_none : (i : ℕ) (o : Option ArenaBad) (h : ArenaHead) → bad_arena true i o (fields_of h) ≡ None → h.sealed ≡ false
-behind_none i (Some bad) h is = absurd (cc)
-behind_none i None h is = flag_zero h.sealed (order_none i (clump_count_in (fields_of h)) (clump_count_in (fields_of h) == 0) (sealed_in (fields_of h) == 0) _ is)
+behind_none : (i : ℕ) (o : Option ArenaBad) (h : ArenaHead) (f : List ℕ) → fields_of h ≡ own_fields f → bad_arena true i o f ≡ None → h.sealed ≡ false
+behind_none i (Some bad) h f spelled is = absurd (cc)
+behind_none i None h f spelled is =
+    flag_zero h.sealed (ap (λ (n : ℕ). n == 0) (sym (sealed_read h f spelled)) ∙ order_none i (clump_count_in f) (clump_count_in f == 0) (sealed_in f == 0) _ is)
+
+-- what is read of the first arena, and of those behind it
+first_spelled : (h : Found) (hs : List Found) (f : List ℕ) (fs : List (List ℕ)) → fields_of_all (h ∷ hs) ≡ map own_fields (f ∷ fs) → fields_of h.head ≡ own_fields f
+first_spelled h hs f fs is = cc
+
+rest_spelled : (h : Found) (hs : List Found) (f : List ℕ) (fs : List (List ℕ)) → fields_of_all (h ∷ hs) ≡ map own_fields (f ∷ fs) → fields_of_all hs ≡ map own_fields fs
+rest_spelled h hs f fs is = cc
 
 -- behind an unsealed arena none is sealed
-open_behind : (behind : Bool) (i : ℕ) (layout : List ArenaRegion) (heads : List Found) → behind ≡ true → length heads ≡ length layout → first_bad_log behind i layout (fields_of_all heads) ≡ None
-    → (k : ℕ) (found : Found) → slice_get heads k ≡ Some found → found.head.sealed ≡ false
-open_behind behind i layout [] is many none k found at = absurd (cc)
-open_behind behind i [] (h ∷ hs) is many none k found at = absurd (omega (arith, many))
-open_behind behind i (r ∷ rs) (h ∷ hs) is many none zero found at =
-    let both = two_none (bad_arena behind i (first_bad_head r.number r.region.len (fields_of h.head)) (fields_of h.head)) _ none in
+open_behind : (behind : Bool) (i : ℕ) (layout : List ArenaRegion) (heads : List Found) (fields : List (List ℕ)) → behind ≡ true → length heads ≡ length layout → fields_of_all heads ≡ map own_fields fields
+    → first_bad_log behind i layout fields ≡ None → (k : ℕ) (found : Found) → slice_get heads k ≡ Some found → found.head.sealed ≡ false
+open_behind behind i layout [] fields is many spelled none k found at = absurd (cc)
+open_behind behind i [] (h ∷ hs) fields is many spelled none k found at = absurd (omega (arith, many))
+open_behind behind i (r ∷ rs) (h ∷ hs) [] is many spelled none k found at = absurd (cc)
+open_behind behind i (r ∷ rs) (h ∷ hs) (f ∷ fs) is many spelled none zero found at =
+    let both = two_none (bad_arena behind i (first_bad_head r.number r.region.len f) f) _ none in
     let same : h ≡ found = same_Some h found at in
     subst (λ (x : Found). x.head.sealed ≡ false) same
-    (behind_none i (first_bad_head r.number r.region.len (fields_of h.head)) h.head (subst (λ (b : Bool). bad_arena b i (first_bad_head r.number r.region.len (fields_of h.head)) (fields_of h.head) ≡ None) is both.0))
-open_behind behind i (r ∷ rs) (h ∷ hs) is many none (suc k) found at =
-    let both = two_none (bad_arena behind i (first_bad_head r.number r.region.len (fields_of h.head)) (fields_of h.head)) _ none in
-    open_behind (behind || sealed_in (fields_of h.head) == 0) (i + 1) rs hs (ap (λ (b : Bool). b || sealed_in (fields_of h.head) == 0) is) (omega (arith, many)) both.1 k found at
+    (behind_none i (first_bad_head r.number r.region.len f) h.head f (first_spelled h hs f fs spelled)
+    (subst (λ (b : Bool). bad_arena b i (first_bad_head r.number r.region.len f) f ≡ None) is both.0))
+open_behind behind i (r ∷ rs) (h ∷ hs) (f ∷ fs) is many spelled none (suc k) found at =
+    let both = two_none (bad_arena behind i (first_bad_head r.number r.region.len f) f) _ none in
+    open_behind (behind || sealed_in f == 0) (i + 1) rs hs fs (ap (λ (b : Bool). b || sealed_in f == 0) is) (omega (arith, many)) (rest_spelled h hs f fs spelled) both.1 k found at
 
 first_rest : (h : Found) (hs : List Found) (base : ℕ) → IsFirstOpen (h ∷ hs) (suc base) → IsFirstOpen hs base
 first_rest h hs base first = record {
@@ -147,18 +159,21 @@ or_true true b is = refl
 or_true false b is = is
 
 -- from the first unsealed arena on none is sealed
-unsealed_from : (behind : Bool) (i : ℕ) (layout : List ArenaRegion) (heads : List Found) (base : ℕ) → length heads ≡ length layout → first_bad_log behind i layout (fields_of_all heads) ≡ None → IsFirstOpen heads base
+unsealed_from : (behind : Bool) (i : ℕ) (layout : List ArenaRegion) (heads : List Found) (fields : List (List ℕ)) (base : ℕ) → length heads ≡ length layout → fields_of_all heads ≡ map own_fields fields
+    → first_bad_log behind i layout fields ≡ None → IsFirstOpen heads base
     → (k : ℕ) (found : Found) → base ≤ k → slice_get heads k ≡ Some found → found.head.sealed ≡ false
-unsealed_from behind i layout [] base many none first k found least at = absurd (cc)
-unsealed_from behind i [] (h ∷ hs) base many none first k found least at = absurd (omega (arith, many))
-unsealed_from behind i (r ∷ rs) (h ∷ hs) zero many none first zero found least at = first.at found at
-unsealed_from behind i (r ∷ rs) (h ∷ hs) zero many none first (suc k) found least at =
-    let both = two_none (bad_arena behind i (first_bad_head r.number r.region.len (fields_of h.head)) (fields_of h.head)) _ none in
-    open_behind (behind || sealed_in (fields_of h.head) == 0) (i + 1) rs hs (or_true behind (sealed_in (fields_of h.head) == 0) (zero_flag h.head.sealed (first.at h refl))) (omega (arith, many)) both.1 k found at
-unsealed_from behind i (r ∷ rs) (h ∷ hs) (suc base) many none first zero found least at = absurd (omega (arith, least))
-unsealed_from behind i (r ∷ rs) (h ∷ hs) (suc base) many none first (suc k) found least at =
-    let both = two_none (bad_arena behind i (first_bad_head r.number r.region.len (fields_of h.head)) (fields_of h.head)) _ none in
-    unsealed_from (behind || sealed_in (fields_of h.head) == 0) (i + 1) rs hs base (omega (arith, many)) both.1 (first_rest h hs base first) k found (omega (arith, least)) at
+unsealed_from behind i layout [] fields base many spelled none first k found least at = absurd (cc)
+unsealed_from behind i [] (h ∷ hs) fields base many spelled none first k found least at = absurd (omega (arith, many))
+unsealed_from behind i (r ∷ rs) (h ∷ hs) [] base many spelled none first k found least at = absurd (cc)
+unsealed_from behind i (r ∷ rs) (h ∷ hs) (f ∷ fs) zero many spelled none first zero found least at = first.at found at
+unsealed_from behind i (r ∷ rs) (h ∷ hs) (f ∷ fs) zero many spelled none first (suc k) found least at =
+    let both = two_none (bad_arena behind i (first_bad_head r.number r.region.len f) f) _ none in
+    let flag : (sealed_in f == 0) ≡ true = ap (λ (n : ℕ). n == 0) (sealed_read h.head f (first_spelled h hs f fs spelled)) ∙ zero_flag h.head.sealed (first.at h refl) in
+    open_behind (behind || sealed_in f == 0) (i + 1) rs hs fs (or_true behind (sealed_in f == 0) flag) (omega (arith, many)) (rest_spelled h hs f fs spelled) both.1 k found at
+unsealed_from behind i (r ∷ rs) (h ∷ hs) (f ∷ fs) (suc base) many spelled none first zero found least at = absurd (omega (arith, least))
+unsealed_from behind i (r ∷ rs) (h ∷ hs) (f ∷ fs) (suc base) many spelled none first (suc k) found least at =
+    let both = two_none (bad_arena behind i (first_bad_head r.number r.region.len f) f) _ none in
+    unsealed_from (behind || sealed_in f == 0) (i + 1) rs hs fs base (omega (arith, many)) (rest_spelled h hs f fs spelled) both.1 (first_rest h hs base first) k found (omega (arith, least)) at
 
 -- what is known of a log that was found
 pub record IsFoundLog {D : Type 0} (disk : DiskOf D) (disks : List D) (tables : List Table) (layout : List ArenaRegion) (files : List (List ℕ)) (fields : List (List ℕ))
@@ -202,14 +217,22 @@ module _ {D : Type 0} (disk : DiskOf D) (disks : List D) (tables : List Table) (
     many = is.found.many;
     heads = λ i r found at at_found.
         let stands = it_stands i r found at at_found in
-        record { number = stands.number_is; fit = stands.fit };
-    unsealed = unsealed_from false 0 layout heads base is.found.many (ap (first_bad_log false 0 layout) is.passed.heads_are ∙ is.passed.passed) is.first;
+        record { number = stands.number_is; version = stands.version; last = stands.last; fit = stands.fit };
+    versions = refl;
+    unsealed = unsealed_from false 0 layout heads fields base is.found.many is.passed.heads_are is.passed.passed is.first;
     base = omega arith;
     committing = omega (arith, is.first.most, is.found.many);
     arena = λ r found at at_found.
         let it = is.room.there r found at at_found in
         let stands = it_stands base r found at at_found in
-        record { len = it.0; number = ap (λ (h : ArenaHead). h.number) it.2 ∙ stands.number_is; head = it.2 };
+        record {
+          len = it.0;
+          number = ap (λ (h : ArenaHead). h.number) it.2 ∙ stands.number_is;
+          head = it.2;
+          counted = ap version_counted it.2;
+          version = subst (λ (h : ArenaHead). IsVersion h.version) (sym it.2) stands.version;
+          last = subst (λ (h : ArenaHead). h.version ≡ 2 → bad_last h.clumps h.used h.last ≡ None) (sym it.2) stands.last;
+        };
     none = λ past. (refl, room_open);
     number = refl;
     clumps = omega arith;
@@ -408,22 +431,28 @@ module _ {D : Type 0} (disk : DiskOf D) (disks : List D) (tables : List Table) (
       (settled_at r.part device r.region at.disk_is) (arena_at base r device a at.arena at.disk_is has)
       (it.1 ∙ own.selector told) (it.2 ∙ head_at base r found.0 a at.arena found.1 has) stand))
 
-  filled : IsFilledBy (lengths_in base h) (filled_as base arena.head)
-  filled = subst (λ (x : ArenaState). IsFilledBy (lengths_in base h) (filled_as base x.head)) (sym is.room.fresh) (⊎_elim
+  whole_found : IsWholeLog disk l
+  whole_found = found_whole disk disks tables layout files fields heads base arena is
+
+  filled : IsFilledBy (slice_index l.versions base) (lengths_in base h) (filled_as base arena.head)
+  filled = subst (λ (x : ArenaState). IsFilledBy (slice_index l.versions base) (lengths_in base h) (filled_as base x.head)) (sym is.room.fresh) (⊎_elim
       (λ (it : (a : Content) × (base < length log.contents) × (slice_get log.contents base ≡ Some a) × (get_or log.contents base a ≡ a)).
       let found = slice_get_other heads log.contents base it.0 (sym many) it.2 in
       let r = slice_get_other layout heads base found.0 is.found.many found.1 in
       let head : is.room.head ≡ arena_head score_of r.0.number it.0 = (is.room.there r.0 found.0 r.1 found.1).2 ∙ head_at base r.0 found.0 it.0 r.1 found.1 it.2 in
       let lengths : lengths_in base h ≡ lengths_of it.0.stored = ap (lengths_in base) log.history ∙ ap (λ (j : ℕ). lengths_in j (blocks_from 0 log.contents)) (let e : base ≡ 0 + base = omega arith in e) ∙ lengths_at 0 base log.contents it.0 it.2 in
       record {
-        used = ap (λ (x : ArenaHead). x.used) head ∙ ap (λ (ls : List ℕ). sum_by block_room ls) (sym lengths);
+        used = ap (λ (x : ArenaHead). x.used) head ∙ sym (used_counted it.0)
+            ∙ ap (λ (v : ℕ). sum_by (block_room v) (lengths_of it.0.stored))
+            (sym (version_there disk l whole_found base found.0 found.1 ∙ ap version_counted (head_at base r.0 found.0 it.0 r.1 found.1 it.2)))
+            ∙ ap (λ (ls : List ℕ). sum_by (block_room (slice_index l.versions base)) ls) (sym lengths);
         clumps = ap (λ (x : ArenaHead). x.clumps) head ∙ sym (length-map it.0.stored (λ (s : Stored). length s.block)) ∙ ap (λ (ls : List ℕ). length ls) (sym lengths);
       })
       (λ (past : (length log.contents ≤ base) × (slice_get log.contents base ≡ None)).
       let none = is.room.past (omega (arith, past.0, log.arenas.many)) in
       let lengths : lengths_in base h ≡ [] = ap (lengths_in base) log.history ∙ lengths_past base log.contents past.0 in
       record {
-        used = none.1 ∙ ap (λ (ls : List ℕ). sum_by block_room ls) (sym lengths);
+        used = none.1 ∙ ap (λ (ls : List ℕ). sum_by (block_room (slice_index l.versions base)) ls) (sym lengths);
         clumps = none.2 ∙ ap (λ (ls : List ℕ). length ls) (sym lengths);
       })
       (slice_get_cases log.contents base).1)
@@ -431,7 +460,7 @@ module _ {D : Type 0} (disk : DiskOf D) (disks : List D) (tables : List Table) (
   pub found_sound : IsFoundSound score_of disk (found_log disks tables layout heads base arena) h first
   found_sound = record {
     sound = record {
-      whole = found_whole disk disks tables layout files fields heads base arena is;
+      whole = whole_found;
       contents = log.contents;
       many = log.arenas.many;
       split = split;
@@ -509,8 +538,8 @@ passes_order behind k (r ∷ rs) (f ∷ fs) (a ∷ rest) is many many_fields eac
         (λ i q g b at at_f has. each (suc i) q g b at at_f has) (subst (λ (b : Bool). MatchBool b (InOrder rest) (All IsUntouched rest)) sealed order)
 
 pub log_passes : {D : Type 0} (disk : DiskOf D) (disks : List D) (layout : List ArenaRegion) (fields : List (List ℕ)) (score_of : List ℕ → List ℕ) (h : History) (base : ℕ)
-    → All (IsOnDisk disk disks) layout → All (λ r. r.number < 2 ^ 32) layout → AreFields layout (map disk.bytes disks) fields → IsLog score_of layout (map disk.bytes disks) h base → first_bad_log false 0 layout fields ≡ None
-log_passes {D = D} disk disks layout fields score_of h base regions numbers are log =
+    → ((d : D) → length (disk.bytes d) ≡ disk.size d) → All (IsOnDisk disk disks) layout → All (λ r. r.number < 2 ^ 32) layout → AreReadAt layout (map disk.bytes disks) fields → IsLog score_of layout (map disk.bytes disks) h base → first_bad_log false 0 layout fields ≡ None
+log_passes {D = D} disk disks layout fields score_of h base fit regions numbers are log =
     passes_order false 0 layout fields log.contents refl log.arenas.many are.many each log.order
   where
     each : (i : ℕ) (r : ArenaRegion) (f : List ℕ) (a : Content) → slice_get layout i ≡ Some r → slice_get fields i ≡ Some f → slice_get log.contents i ≡ Some a → AreOf r f a
@@ -518,11 +547,17 @@ log_passes {D = D} disk disks layout fields score_of h base regions numbers are 
         let on = at_slice (IsOnDisk disk disks) layout i r regions at in
         let number : r.number < 2 ^ 32 = at_slice (λ (r : ArenaRegion). r.number < 2 ^ 32) layout i r numbers at in
         let x = log.arenas.each i r a at has in
-        let fields_is : f ≡ fields_of (arena_head score_of r.number a) = same_Some f (fields_of (arena_head score_of r.number a)) (sym at_f ∙ are.each i r x.0 at x.1 ∙ ap (λ (l : List ℕ). Some l) x.2.head) in
+        let file : x.0 ≡ disk.bytes on.device =
+        same_Some x.0 (disk.bytes on.device) (sym x.1 ∙ slice_get-map disk.bytes disks r.part ∙ ap (option_map disk.bytes) on.has) in
+        let there : IsArena score_of r.region r.number a (disk.bytes on.device) = subst (λ (z : List ℕ). IsArena score_of r.region r.number a z) file x.2 in
+        let fields_is : f ≡ read_at r.region r.number (disk.bytes on.device) =
+        same_Some f (read_at r.region r.number (disk.bytes on.device)) (sym at_f ∙ are.each i r x.0 at x.1 ∙ ap (λ (z : List ℕ). Some (read_at r.region r.number z)) file) in
+        let reads = arena_reads score_of r.region (disk.size on.device) r.number a (disk.bytes on.device) on.region (fit on.device) there number in
+        let spelled : fields_of (arena_head score_of r.number a) ≡ own_fields f = sym (ap own_fields fields_is ∙ reads.1) in
         record {
-          passes = ap (first_bad_head r.number r.region.len) fields_is ∙ arena_passes score_of r.region.len r.number a number on.region.len.1 x.2.content;
-          sealed = ap sealed_in fields_is;
-          clumps = ap clump_count_in fields_is ∙ read_clumps score_of r.region.len r.number on.region.len.1 a x.2.content;
+          passes = ap (first_bad_head r.number r.region.len) fields_is ∙ reads.0;
+          sealed = sealed_read (arena_head score_of r.number a) f spelled;
+          clumps = sym (own_clumps f) ∙ ap clump_count_in (sym spelled) ∙ read_clumps score_of r.region.len r.number on.region.len.1 a there.content;
         }
 
 -- so that a log isn't refused but for a fault or want of memory

@@ -1,6 +1,7 @@
 -- Walking back.
 use Rattle.std.proofs.Common.{◌≡◌, ℕ, ◌+◌, ◌<◌, ◌≤◌, min, List, [], ◌∷◌, length, take, map, sym, ap, subst, arith}
-use Rattle.std.specs.Prelude.{All, sum_by}
+use Rattle.std.specs.Prelude.{All, slice_index, sum_by}
+use Rattle.std.proofs.lemmas.Option.{slice_get_within}
 use Rattle.std.proofs.lemmas.List.Elements.{All-nil, All-append, All-map, All-weaker}
 use Rattle.vt_disk.specs.Members.{DiskOf}
 use Rattle.vt_model.specs.History.{Accepted, History}
@@ -23,7 +24,7 @@ blocks_below k (a ∷ rest) =
 
 -- a new walk has all blocks before it
 pub tail_behind : {D : Type 0} (score_of : List ℕ → List ℕ) (disk : DiskOf D) (l : LogState D) (h : History)
-    → IsSoundLog score_of disk l h → IsTailBehind l h (length h) (record { left = front l; queued = queued l; arena = length l.heads; at = record { index = 0; end = 0 } })
+    → IsSoundLog score_of disk l h → IsTailBehind l h (length h) (record { left = front l; queued = queued l; arena = length l.heads; at = record { index = 0; end = 0; sectors = 0 } })
 tail_behind score_of disk l h sound =
     let inside : l.durable ≤ length h = omega (arith, sound.front) in
     let few : min (length h) l.durable ≡ l.durable = omega (arith, inside) in
@@ -38,6 +39,7 @@ tail_behind score_of disk l h sound =
       most = omega arith;
       queue = omega (arith, sound.front);
       index = sym (ap (λ (ls : List ℕ). length ls) none);
-      end = sym (ap (λ (ls : List ℕ). sum_by block_room ls) none);
+      end = sym (ap (λ (ls : List ℕ). sum_by (block_room (slice_index l.versions (length l.heads))) ls) none);
+      sectors = λ found at. absurd (omega (arith, slice_get_within l.heads (length l.heads) found at));
       arenas = All-weaker (λ (e : Accepted). e.arena < length l.heads) (λ (e : Accepted). e.arena ≤ length l.heads) (λ e less. omega (arith, less)) (take (min (length h) l.durable) h) below;
     }

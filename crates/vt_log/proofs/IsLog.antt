@@ -7,7 +7,7 @@ use Rattle.vt_model.specs.History.{History}
 use Rattle.vt_part.specs.declared.layout.ArenaRegion.{ArenaRegion}
 use Rattle.vt_arena.specs.Layout.{Content, IsArena}
 use Rattle.vt_arena.proofs.Unique.{one_content}
-use Rattle.vt_log.specs.Logs.{blocks_from, first_unsealed, AreArenas, IsLog}
+use Rattle.vt_log.specs.Logs.{blocks_from, first_unsealed, versions_of, AreArenas, IsLog}
 use Rattle.vt_log.proofs.Lists.{slice_get_other, at_slice}
 
 pub same_contents : (score_of : List ℕ → List ℕ) (layout : List ArenaRegion) (files : List (List ℕ)) (cs ds : List Content) → All (λ r. r.region.len ≤ 2 ^ 30) layout
@@ -29,3 +29,7 @@ pub one_log : (score_of : List ℕ → List ℕ) (layout : List ArenaRegion) (fi
 one_log score_of layout files g h a b short one two =
     let same = same_contents score_of layout files one.contents two.contents short one.arenas two.arenas in
     (one.history ∙ ap (blocks_from 0) same ∙ sym two.history, one.base_is ∙ ap first_unsealed same ∙ sym two.base_is)
+
+pub one_versions : (score_of : List ℕ → List ℕ) (layout : List ArenaRegion) (files : List (List ℕ)) (g h : History) (a b : ℕ) → All (λ r. r.region.len ≤ 2 ^ 30) layout
+    → (one : IsLog score_of layout files g a) → (two : IsLog score_of layout files h b) → versions_of one.contents ≡ versions_of two.contents
+one_versions score_of layout files g h a b short one two = ap versions_of (same_contents score_of layout files one.contents two.contents short one.arenas two.arenas)

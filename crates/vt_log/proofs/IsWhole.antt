@@ -5,6 +5,7 @@ use Rattle.std.proofs.lemmas.Option.{slice_get-get_or}
 use Rattle.std.proofs.lemmas.List.Sums.{sum_by-le}
 use Rattle.vt_disk.specs.Members.{DiskOf}
 use Rattle.vt_arena.specs.declared.head.Found.{Found}
+use Rattle.vt_arena.proofs.Layouts.{entries_least}
 use Rattle.vt_log.specs.Log.{LogState}
 use Rattle.vt_log.specs.Whole.{IsOnDisk, IsWholeLog}
 use Rattle.vt_log.proofs.Lists.{slice_get_other, at_slice}
@@ -16,7 +17,8 @@ head_small disk l i found whole at =
     let r = slice_get_other l.layout l.heads i found whole.many at in
     let on = at_slice (IsOnDisk disk l.disks) l.layout i r.0 whole.regions r.1 in
     let fit = (whole.heads i r.0 found r.1 at).fit in
-    (omega (arith, fit, on.region.len.1), omega (arith, fit, on.region.len.1))
+    let least = entries_least found.head.version found.head.clumps in
+    (omega (arith, fit, least, on.region.len.1), omega (arith, fit, on.region.len.1))
 
 -- so that all of them have few
 pub durable_small : {D : Type 0} (disk : DiskOf D) (l : LogState D) → IsWholeLog disk l → l.durable ≤ 184467440000000000

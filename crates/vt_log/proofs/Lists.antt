@@ -18,6 +18,12 @@ slice_get_other (x ∷ xs) [] i z many at = absurd (cc)
 slice_get_other (x ∷ xs) (y ∷ ys) zero z many at = (x, refl)
 slice_get_other (x ∷ xs) (y ∷ ys) (suc i) z many at = slice_get_other xs ys i z (omega (arith, many)) at
 
+-- an element is at each place within
+pub slice_get_there : {X : Type 0} (xs : List X) (i : ℕ) → i < length xs → (x : X) × (slice_get xs i ≡ Some x)
+slice_get_there [] i below = absurd (omega (arith, below))
+slice_get_there (x ∷ xs) zero below = (x, refl)
+slice_get_there (x ∷ xs) (suc i) below = slice_get_there xs i (omega (arith, below))
+
 -- what holds of each element
 pub at_slice : {X : Type 0} (P : X → Type 0) (xs : List X) (i : ℕ) (x : X) → All P xs → slice_get xs i ≡ Some x → P x
 at_slice P xs i x all at =

@@ -98,7 +98,7 @@ takes_all l part e b calls stopped keeps all = record {
 -- what else is known where the last call was made
 pub record IsLast {D : Type 0} (l : LogState D) (r : ArenaRegion) (found : Found) (b : ArenaState) : Type 0 where
   pub has : slice_get l.heads l.committing ≡ Some found
-  pub fit : b.head.used + directory_room b.head.clumps ≤ arena_room r.region.len
+  pub fit : b.head.used + directory_room b.head.version b.head.clumps ≤ arena_room r.region.len
 
 -- the blocks leave the queue
 ends_commit : {D : Type 0} (l : LogState D) (found : Found) (b : ArenaState) (m : LogState D) → slice_get l.heads l.committing ≡ Some found → b.head ≡ l.arena.next
@@ -164,6 +164,7 @@ module _ {D : Type 0} (score_of : List ℕ → List ℕ) (disk : DiskOf D) (l : 
     makes = (makes_call l r.part e b l.stopped keeps, it.runs, call_owed l b (set l.disks r.part e) (one_more l.calls) l.stopped keeps.staged keeps.next it.ready made it.made.left);
     batch = λ all more. takes_all l r.part e b (one_more l.calls) l.stopped keeps all;
     last = λ n is. absurd (cc);
+    versions = refl;
     kept = (refl, refl, refl, refl);
     calls = calls_arena (called l r.part e b (one_more l.calls) l.stopped) (Ok More) (Ok StepMade) it refl it.made.makes.cause;
   }
@@ -188,6 +189,7 @@ module _ {D : Type 0} (score_of : List ℕ → List ℕ) (disk : DiskOf D) (l : 
     makes = (makes_call l r.part e b (Some l.calls) keeps, refl);
     batch = λ all more. takes_all l r.part e b (one_more l.calls) (Some l.calls) keeps all;
     last = λ n is. absurd (cc);
+    versions = refl;
     kept = (refl, refl, refl, refl);
     calls = calls_arena (called l r.part e b (one_more l.calls) (Some l.calls)) (Err err) (Err Fault) it refl it.made.makes.cause;
   }
@@ -235,6 +237,7 @@ module _ {D : Type 0} (score_of : List ℕ → List ℕ) (disk : DiskOf D) (l : 
     );
     batch = λ all more. absurd (omega (arith, more, it.made.done refl));
     last = λ n is. it.made.done refl;
+    versions = refl;
     kept = (refl, refl, refl, refl);
     calls = calls_arena m (Ok Done) (Ok (Durable (l.durable + length l.arena.staged))) it refl it.made.makes.cause;
   }
@@ -272,6 +275,7 @@ module _ {D : Type 0} (score_of : List ℕ → List ℕ) (disk : DiskOf D) (l : 
     );
     batch = λ all more. absurd (omega (arith, more, it.made.done refl));
     last = λ n is. it.made.done refl;
+    versions = refl;
     kept = (refl, refl, refl, refl);
     calls = calls_arena m (Ok Done) (Ok (Durable (l.durable + length l.arena.staged))) it refl it.made.makes.cause;
   }
@@ -354,15 +358,15 @@ same_len {D = D} disk v m rs r view whole some layout r_is =
 -- and its head is the one that the log has
 pub last_call : {D : Type 0} {disk : DiskOf D} {ps : List (Part D)} {p : Part D} {v m : LogState D} {r : ArenaRegion} {found : Found} {head : ArenaHead} {b : ArenaState}
     → IsThere disk ps p v m r → found ≡ get_or v.heads v.committing found → head ≡ b.head → b.len ≡ v.arena.len
-    → head.used + directory_room head.clumps ≤ arena_room b.len → IsLast v r found b
+    → head.used + directory_room head.version head.clumps ≤ arena_room b.len → IsLast v r found b
 last_call {v = v} {r = r} {found = found} {head = head} {b = b} it found_is head_is len fit =
     let other = slice_get_other v.heads v.layout v.committing r (sym it.whole.many) it.at.arena in
     let within : v.committing < length v.heads = slice_get_within v.heads v.committing other.0 other.1 in
     let long : b.len ≡ r.region.len = len ∙ (it.whole.arena r other.0 it.at.arena other.1).len in
     record {
       has = slice_get_read v.heads (length v.heads) v.committing found refl within found_is;
-      fit = subst (λ (n : ℕ). b.head.used + directory_room b.head.clumps ≤ arena_room n) long
-          (subst (λ (h : ArenaHead). h.used + directory_room h.clumps ≤ arena_room b.len) head_is fit);
+      fit = subst (λ (n : ℕ). b.head.used + directory_room b.head.version b.head.clumps ≤ arena_room n) long
+          (subst (λ (h : ArenaHead). h.used + directory_room h.version h.clumps ≤ arena_room b.len) head_is fit);
     }
 
 -- where it seals, the next arena is there, and may be turned to
@@ -370,7 +374,7 @@ pub record IsNextArena {D : Type 0} (v : LogState D) (q : ArenaRegion) (next : F
   pub here : slice_get v.layout (v.committing + 1) ≡ Some q
   pub has : slice_get v.heads (v.committing + 1) ≡ Some next
   pub len : IsArenaLen q.region.len
-  pub fit : next.head.used + directory_room next.head.clumps ≤ arena_room q.region.len
+  pub fit : next.head.used + directory_room next.head.version next.head.clumps ≤ arena_room q.region.len
 
 pub seals_too : (E : Type 0) (a b : ArenaState) (step : Step) → ArenaAdvances {E = E} (Ok step) a b → step ≡ Done → b.next.sealed ≡ true → a.next.sealed ≡ true
 seals_too E a b step it done seals =

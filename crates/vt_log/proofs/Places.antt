@@ -16,7 +16,7 @@ use Rattle.vt_arena.specs.Layout.{Content}
 use Rattle.vt_arena.specs.Places.{lengths_of}
 use Rattle.vt_log.specs.Logs.{accepted_in, blocks_from}
 use Rattle.vt_log.proofs.Appends.{lengths_none}
-use Rattle.vt_log.proofs.Lists.{slice_get_left, slice_get_right}
+use Rattle.vt_log.proofs.Lists.{slice_get_left, slice_get_right, slice_get_there}
 use Rattle.vt_log.proofs.IsBehind.{blocks_below}
 
 -- how many blocks stand in the arenas before this one
@@ -77,11 +77,6 @@ pub record IsBlockOf (contents : List Content) (i : ℕ) : Type 0 where
   pub at : slice_get contents arena ≡ Some content
   pub has : slice_get content.stored index ≡ Some stored
   pub is : i ≡ blocks_before arena contents + index
-
-pub slice_get_there : {X : Type 0} (xs : List X) (i : ℕ) → i < length xs → (x : X) × (slice_get xs i ≡ Some x)
-slice_get_there [] i below = absurd (omega (arith, below))
-slice_get_there (x ∷ xs) zero below = (x, refl)
-slice_get_there (x ∷ xs) (suc i) below = slice_get_there xs i (omega (arith, below))
 
 pub block_of : (k : ℕ) (contents : List Content) (i : ℕ) → i < length (blocks_from k contents) → IsBlockOf contents i
 block_of k [] i below = absurd (omega (arith, below))

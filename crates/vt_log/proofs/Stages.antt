@@ -1,11 +1,10 @@
 -- Staging a block that waits, and asking for a seal.
-use Rattle.std.proofs.Common.{◌≡◌, ◌≢◌, ⊎_elim, ℕ, suc, ◌+◌, ◌<◌, ◌≤◌, ◌==◌, Bool, true, false, cond, List, [], ◌∷◌, ◌++◌, length, map, refl, sym, ◌∙◌, ap, subst, arith, append_assoc}
-use Rattle.std.specs.Prelude.{All, slice_index, IsTrue, IsFalse}
-use Rattle.std.proofs.lemmas.Bool.Decides.{eqb_tells}
+use Rattle.std.proofs.Common.{◌≡◌, ◌≢◌, ⊎_elim, ℕ, suc, ◌+◌, ◌<◌, ◌≤◌, ◌==◌, ◌&&◌, inl, Bool, true, false, cond, List, [], ◌∷◌, ◌++◌, length, map, refl, sym, ◌∙◌, ap, subst, arith, append_assoc}
+use Rattle.std.specs.Prelude.{All, slice_index, not, IsTrue, IsFalse}
+use Rattle.std.proofs.lemmas.Bool.Decides.{eqb_tells, Decides-eqb}
 use Rattle.std.proofs.lemmas.List.{map-append, length_push, get_or-map}
 use Rattle.std.proofs.lemmas.List.Elements.{All-head, All-tail}
 use Rattle.std.proofs.lemmas.Option.{slice_get_within, get_or_from_slice_get}
-use Rattle.vt_disk.specs.declared.region.Region.{Region}
 use Rattle.vt_base.specs.declared.place.Place.{Place}
 use Rattle.vt_disk.specs.Members.{DiskOf}
 use Rattle.vt_clump.specs.declared.packed.Packed.{Packed}
@@ -13,12 +12,11 @@ use Rattle.vt_clump.specs.Clumps.{IsPacked, stored_of}
 use Rattle.vt_clump.specs.Spelling.{Stored}
 use Rattle.vt_model.specs.History.{History}
 use Rattle.vt_part.specs.declared.layout.ArenaRegion.{ArenaRegion}
-use Rattle.vt_arena.specs.declared.head.ArenaHead.{ArenaHead}
 use Rattle.vt_arena.specs.declared.head.Found.{Found}
-use Rattle.vt_arena.specs.Arena.{ArenaState, added_by_commit, fits, is_committing, with_staged, with_seal}
-use Rattle.vt_arena.specs.Layout.{Content}
-use Rattle.vt_arena.specs.Sound.{IsSoundArena}
-use Rattle.vt_arena.proofs.Stage.{stage_sound, resting}
+use Rattle.vt_model.specs.declared.TheConstants.{WRITTEN_VERSION}
+use Rattle.vt_arena.specs.Arena.{added_by_commit, fits, is_committing, version_counted, with_staged, with_seal}
+use Rattle.vt_arena.specs.Places.{has_room}
+use Rattle.vt_arena.proofs.Stage.{both, stage_sound, seal_sound as seal_arena}
 use Rattle.vt_log.specs.declared.filling.Filling.{Filling}
 use Rattle.vt_log.specs.declared.queue.Waiting.{Waiting}
 use Rattle.vt_log.specs.Log.{LogState, filled_as, found_filling, fits_in, with_room_taken}
@@ -27,7 +25,8 @@ use Rattle.vt_log.specs.Queue.{QueueState, WaitsFor, waiting_block}
 use Rattle.vt_log.specs.Sound.{IsSoundLog}
 use Rattle.vt_log.specs.Whole.{IsWholeLog, Fill, turned_to}
 use Rattle.vt_log.proofs.Fill.{fits_within, turned_arena}
-use Rattle.vt_log.proofs.Lists.{slice_get_other}
+use Rattle.vt_log.proofs.Lists.{slice_get_other, slice_get_there}
+use Rattle.vt_log.proofs.Versions.{counted_first, version_there}
 
 -- the log with the block staged that waits longest, and these left to wait
 abbrev pub with_next_staged : {D : Type 0} → (score_of : List ℕ → List ℕ) → Packed → List Waiting → LogState D → LogState D
@@ -46,25 +45,35 @@ turned_same heads arena f same = ⊎_elim
 pub waiting_fits : {D : Type 0} (disk : DiskOf D) (l : LogState D) (w : Waiting) (ws : List Waiting) → IsWholeLog disk l
     → l.queue.waiting ≡ w ∷ ws → w.arena ≡ l.committing → IsTrue (fits l.arena w.packed.len)
 waiting_fits disk l w ws whole is arena =
-    let fill = subst (λ (q : List Waiting). Fill l.layout l.heads (filled_as l.committing l.arena.next) q l.filling) is whole.queue in
+    let fill = subst (λ (q : List Waiting). Fill l.layout l.versions l.heads (filled_as l.committing l.arena.next) q l.filling) is whole.queue in
     let same = turned_same l.heads w.arena (filled_as l.committing l.arena.next) arena in
-    let fit : IsTrue (fits_in l.layout (filled_as l.committing l.arena.next) w.packed.len) = subst (λ (f : Filling). IsTrue (fits_in l.layout f w.packed.len)) same fill.2 in
-    let there = fits_within l.layout (filled_as l.committing l.arena.next) w.packed.len fit in
+    let fit : IsTrue (fits_in l.layout l.versions (filled_as l.committing l.arena.next) w.packed.len) = subst (λ (f : Filling). IsTrue (fits_in l.layout l.versions f w.packed.len)) same fill.3 in
+    let there = fits_within l.layout l.versions (filled_as l.committing l.arena.next) w.packed.len fit in
     let found = slice_get_other l.heads l.layout l.committing there.0 (sym whole.many) there.1 in
     let len : slice_index (map (λ (r : ArenaRegion). r.region.len) l.layout) l.committing ≡ l.arena.len =
     get_or-map (λ (r : ArenaRegion). r.region.len) l.layout l.committing there.0 0 (slice_get_within l.layout l.committing there.0 there.1)
     ∙ ap (λ (r : ArenaRegion). r.region.len) (get_or_from_slice_get l.layout l.committing there.0 there.0 there.1)
     ∙ sym (whole.arena there.0 found.0 there.1 found.1).len in
-    rw (← len) fit
+    let version : slice_index l.versions l.committing ≡ version_counted l.arena.next =
+    version_there disk l whole l.committing found.0 found.1 ∙ sym (whole.arena there.0 found.0 there.1 found.1).counted in
+    subst (λ (v : ℕ). IsTrue (v == WRITTEN_VERSION && has_room WRITTEN_VERSION l.arena.len l.arena.next.used l.arena.next.clumps w.packed.len)) version
+    (subst (λ (n : ℕ). IsTrue (slice_index l.versions l.committing == WRITTEN_VERSION && has_room WRITTEN_VERSION n l.arena.next.used l.arena.next.clumps w.packed.len)) len fit)
+
+-- the next head counts as one of the version that is written
+waiting_counted : {D : Type 0} (disk : DiskOf D) (l : LogState D) (w : Waiting) (ws : List Waiting) → IsWholeLog disk l
+    → l.queue.waiting ≡ w ∷ ws → w.arena ≡ l.committing → version_counted l.arena.next ≡ WRITTEN_VERSION
+waiting_counted disk l w ws whole is arena =
+    (Decides-eqb (version_counted l.arena.next) WRITTEN_VERSION).0
+    (both (version_counted l.arena.next == WRITTEN_VERSION) (has_room WRITTEN_VERSION l.arena.len l.arena.next.used l.arena.next.clumps w.packed.len) (waiting_fits disk l w ws whole is arena)).0
 
 -- a log in memory stays whole
 pub stage_whole : {D : Type 0} (score_of : List ℕ → List ℕ) (disk : DiskOf D) (l : LogState D) (w : Waiting) (ws : List Waiting) → IsWholeLog disk l
     → IsFalse (is_committing l.arena) → l.queue.waiting ≡ w ∷ ws → w.arena ≡ l.committing → IsWholeLog disk (with_next_staged score_of w.packed ws l)
 stage_whole score_of disk l w ws whole rest is arena =
     let from : Filling = filled_as l.committing l.arena.next in
-    let fill = subst (λ (q : List Waiting). Fill l.layout l.heads from q l.filling) is whole.queue in
+    let fill = subst (λ (q : List Waiting). Fill l.layout l.versions l.heads from q l.filling) is whole.queue in
     let same : turned_to l.heads w.arena from ≡ from = turned_same l.heads w.arena from arena in
-    let there = fits_within l.layout (turned_to l.heads w.arena from) w.packed.len fill.2 in
+    let there = fits_within l.layout l.versions (turned_to l.heads w.arena from) w.packed.len fill.3 in
     let below = slice_get_within l.layout _ there.0 there.1 in
     let there_arena = turned_arena l.heads w.arena from in
     let long : length l.queue.waiting ≡ suc (length ws) = ap (λ (q : List Waiting). length q) is in
@@ -76,22 +85,34 @@ stage_whole score_of disk l w ws whole rest is arena =
       few = whole.few;
       many = whole.many;
       heads = whole.heads;
+      versions = whole.versions;
       unsealed = whole.unsealed;
       base = whole.base;
       committing = whole.committing;
-      arena = λ r found at has. let it = whole.arena r found at has in record { len = it.len; number = it.number; head = it.head };
+      arena = λ r found at has. let it = whole.arena r found at has in record {
+        len = it.len;
+        number = it.number;
+        head = it.head;
+        counted = written (l.arena.next.clumps + 1 == 0) ∙ sym (waiting_counted disk l w ws whole is arena) ∙ it.counted;
+        version = inl refl;
+        last = λ second. absurd (omega (arith, second));
+      };
       none = λ past. absurd (omega (arith, past, below, there_arena, arena));
       number = whole.number;
       clumps = omega (arith, whole.clumps, length_push l.arena.staged w.packed);
       runs = whole.runs;
       some = λ committing. absurd (cc);
       way = λ sealed. absurd (other (subst (WaitsFor (l.committing + 1)) is (whole.way sealed)));
-      queue = subst (λ (f : Filling). Fill l.layout l.heads (with_room_taken w.packed.len f) ws l.filling) same fill.3;
+      queue = subst (λ (f : Filling). Fill l.layout l.versions l.heads (with_room_taken w.packed.len f) ws l.filling) same fill.4;
       places = omega (arith, whole.places, long, length_push l.arena.staged w.packed);
       most = whole.most;
       durable = whole.durable;
     }
   where
+    written : (b : Bool) → cond b WRITTEN_VERSION WRITTEN_VERSION ≡ WRITTEN_VERSION
+    written true = refl
+    written false = refl
+
     other : WaitsFor (l.committing + 1) (w ∷ ws) → ⊥
     other waits = omega (arith, waits, arena)
 
@@ -160,9 +181,9 @@ pub waits_for_next : {D : Type 0} (disk : DiskOf D) (l : LogState D) (w : Waitin
     → ¬ WaitsFor l.committing l.queue.waiting → (w.arena ≡ l.committing + 1) × (l.committing + 1 < length l.layout)
 waits_for_next disk l w ws whole is other =
     let from : Filling = filled_as l.committing l.arena.next in
-    let fill = subst (λ (q : List Waiting). Fill l.layout l.heads from q l.filling) is whole.queue in
+    let fill = subst (λ (q : List Waiting). Fill l.layout l.versions l.heads from q l.filling) is whole.queue in
     let not_this : w.arena ≢ l.committing = λ same. other (subst (WaitsFor l.committing) (sym is) same) in
-    let there = fits_within l.layout (turned_to l.heads w.arena from) w.packed.len fill.2 in
+    let there = fits_within l.layout l.versions (turned_to l.heads w.arena from) w.packed.len fill.3 in
     let below = slice_get_within l.layout _ there.0 there.1 in
     let there_arena = turned_arena l.heads w.arena from in
     let least : l.committing ≤ w.arena = fill.0 in
@@ -188,10 +209,12 @@ seal_whole {D = D} disk l m view whole rest some other = at l.queue.waiting refl
           few = whole.few;
           many = whole.many;
           heads = whole.heads;
+          versions = whole.versions;
           unsealed = whole.unsealed;
           base = whole.base;
           committing = whole.committing;
-          arena = λ r found at has. let it = whole.arena r found at has in record { len = it.len; number = it.number; head = it.head };
+          arena = λ r found at has. let it = whole.arena r found at has in
+              record { len = it.len; number = it.number; head = it.head; counted = it.counted; version = it.version; last = it.last };
           none = λ past. absurd (omega (arith, past, next.1));
           number = whole.number;
           clumps = whole.clumps;
@@ -204,28 +227,23 @@ seal_whole {D = D} disk l m view whole rest some other = at l.queue.waiting refl
           durable = whole.durable;
         }
 
--- the arena is sound with the seal asked for, as between two commits
-seal_arena : (score_of : List ℕ → List ℕ) (a : ArenaState) (region : Region) (old : Content) (read : List ℕ) (images : List ℕ → Type 0) → IsFalse (is_committing a)
-    → IsSoundArena score_of a region old read images → IsSoundArena score_of (with_seal a) region old read images
-seal_arena score_of a region old read images rest sound =
-    let rests = resting a rest in
-    record {
-      len = sound.len;
-      frame_len = sound.frame_len;
-      head = sound.head;
-      next = ap (λ (head : ArenaHead). record head { sealed = Bool.true }) sound.next;
-      chain = sound.chain;
-      packed = sound.packed;
-      content = sound.content;
-      next_content_is = record { stored = sound.next_content_is.stored; fit = sound.next_content_is.fit };
-      begun = λ some. absurd (cc);
-      frame = sound.frame;
-      twin = sound.twin;
-      fields = sound.fields;
-      kept = sound.kept;
-      written = record { clumps = sound.written.clumps; directory = sound.written.directory };
-      synced = λ made c left. let h = sound.synced made c left in record { clumps = h.clumps; directory = h.directory };
-    }
+-- the version that the seal asks for
+pub seal_version : {D : Type 0} (disk : DiskOf D) (l : LogState D) → IsWholeLog disk l → 0 < length l.queue.waiting
+    → ¬ WaitsFor l.committing l.queue.waiting → version_counted l.arena.next ≡ WRITTEN_VERSION
+seal_version disk l whole some other = at l.queue.waiting refl
+  where
+    at : (ws : List Waiting) → l.queue.waiting ≡ ws → version_counted l.arena.next ≡ WRITTEN_VERSION
+    at [] is = absurd (omega (arith, some, ap (λ (q : List Waiting). length q) is))
+    at (w ∷ ws) is =
+        let next = waits_for_next disk l w ws whole is other in
+        let fill = subst (λ (q : List Waiting). Fill l.layout l.versions l.heads (filled_as l.committing l.arena.next) q l.filling) is whole.queue in
+        let shut : not (slice_index l.versions l.committing == 2) ≡ true = fill.2 (omega (arith, next.0)) in
+        let r = slice_get_there l.layout l.committing (omega (arith, next.1)) in
+        let found = slice_get_other l.heads l.layout l.committing r.0 (sym whole.many) r.1 in
+        let it = whole.arena r.0 found.0 r.1 found.1 in
+        let version = version_there disk l whole l.committing found.0 found.1 in
+        counted_first l.arena.next it.version (λ second.
+        let wrong : false ≡ true = ap (λ (v : ℕ). not (v == 2)) (sym (version ∙ sym it.counted ∙ second)) ∙ shut in absurd (cc))
 
 pub seal_sound : {D : Type 0} (score_of : List ℕ → List ℕ) (disk : DiskOf D) (l m : LogState D) (h : History) → l ≡ m
     → IsSoundLog score_of disk m h → IsFalse (is_committing m.arena) → 0 < length l.queue.waiting
@@ -235,8 +253,9 @@ seal_sound {D = D} score_of disk l m h view of_view rest some other = record {
   contents = sound.contents;
   many = sound.many;
   split = sound.split;
-  current = λ r device a at has. seal_arena score_of l.arena r.region a (disk.bytes device) (disk.images device) (subst (λ (k : LogState D). IsFalse (is_committing k.arena)) (sym view) rest)
-      (sound.current r device a (record { arena = at.arena; disk_is = at.disk_is }) has);
+  current = λ r device a at has. seal_arena score_of l.arena r.region a (disk.bytes device) (disk.images device)
+      (sound.current r device a (record { arena = at.arena; disk_is = at.disk_is }) has)
+      (subst (λ (k : LogState D). IsFalse (is_committing k.arena)) (sym view) rest) (seal_version disk l sound.whole some other);
   others = λ i r device a other at has. sound.others i r device a other (record { arena = at.arena; disk_is = at.disk_is }) has;
   heads = sound.heads;
   selectors = λ i r device found behind at has. sound.selectors i r device found behind (record { arena = at.arena; disk_is = at.disk_is }) has;

@@ -9,7 +9,7 @@ use Rattle.vt_disk.specs.Members.{DiskOf}
 use Rattle.vt_model.specs.History.{Accepted, History}
 use Rattle.vt_model.specs.Places.{last_arena}
 use Rattle.vt_part.specs.declared.layout.ArenaRegion.{ArenaRegion}
-use Rattle.vt_arena.specs.Arena.{added_by_commit, next_content}
+use Rattle.vt_arena.specs.Arena.{added_by_commit, next_content, version_counted}
 use Rattle.vt_arena.specs.Layout.{Content, IsArena}
 use Rattle.vt_arena.specs.declared.head.Found.{Found}
 use Rattle.vt_arena.specs.Sound.{HasBegunSelector}
@@ -18,10 +18,12 @@ use Rattle.vt_arena.proofs.Regions.{arena_in_region}
 use Rattle.vt_log.specs.declared.filling.Filling.{Filling}
 use Rattle.vt_log.specs.declared.queue.Waiting.{Waiting}
 use Rattle.vt_log.specs.Log.{LogState}
-use Rattle.vt_log.specs.Logs.{accepted_in, blocks_from, AreArenas}
+use Rattle.vt_log.specs.Logs.{accepted_in, blocks_from, versions_of, AreArenas}
 use Rattle.vt_log.specs.Queue.{WaitsFor, waiting_block}
 use Rattle.vt_log.specs.Sound.{IsArenaAt, IsSplit, IsSoundLog, AreImagesOf, LogStandsForPrefix}
 use Rattle.vt_log.specs.Whole.{IsOnDisk, IsWholeLog, Fill}
+use Rattle.vt_log.proofs.Disks.{map_same}
+use Rattle.vt_log.proofs.Versions.{counted_as, versions_are as contents_versions}
 use Rattle.vt_log.proofs.IsSplit.{split_order, blocks_set, blocks_arenas, last_arena_le, split_set, split_sealed, longer_prefix}
 use Rattle.vt_log.proofs.Fill.{fill_arena, turned_arena}
 use Rattle.vt_log.proofs.Lists.{slice_get_other, at_slice, slice_get_set_same, slice_get_set_other}
@@ -37,10 +39,10 @@ there disk l i r whole is =
     record { disk = on.device; at = record { arena = is; disk_is = on.has } }
 
 -- a block that waits for an arena comes before what is filled
-pub waits_below : (layout : List ArenaRegion) (heads : List Found) (from to : Filling) (ws : List Waiting) (arena : ℕ) → Fill layout heads from ws to → WaitsFor arena ws → arena ≤ to.arena
-waits_below layout heads from to [] arena fill waits = absurd waits
-waits_below layout heads from to (w ∷ ws) arena fill waits =
-    let rest = fill_arena layout heads _ to ws fill.3 in
+pub waits_below : (layout : List ArenaRegion) (versions : List ℕ) (heads : List Found) (from to : Filling) (ws : List Waiting) (arena : ℕ) → Fill layout versions heads from ws to → WaitsFor arena ws → arena ≤ to.arena
+waits_below layout versions heads from to [] arena fill waits = absurd waits
+waits_below layout versions heads from to (w ∷ ws) arena fill waits =
+    let rest = fill_arena layout versions heads _ to ws fill.4 in
     omega (arith, rest.0, turned_arena heads w.arena from, waits)
 
 -- The files stand for what is committed, where each arena is what it was; and for that with what is
@@ -70,7 +72,7 @@ stand_for_prefix {D = D} score_of disk l h files sound many gives rest =
     (slice_get_cases sound.contents l.committing).1
   where
     below : (l.committing ≤ l.filling.arena) × (l.committing ≤ length l.layout → l.filling.arena ≤ length l.layout)
-    below = fill_arena l.layout l.heads _ l.filling l.queue.waiting sound.whole.queue
+    below = fill_arena l.layout l.versions l.heads _ l.filling l.queue.waiting sound.whole.queue
 
     has_at : (r : ArenaRegion) (a : Content) (file : List ℕ) → slice_get l.layout l.committing ≡ Some r → slice_get files r.part ≡ Some file → IsArena score_of r.region r.number a file
         → (cs : List Content) → slice_get cs l.committing ≡ Some a
@@ -100,8 +102,8 @@ stand_for_prefix {D = D} score_of disk l h files sound many gives rest =
     }
 
     conclude : (n c : ℕ) (cs : List Content) → l.durable ≤ n → n ≤ length h → take n h ≡ blocks_from 0 cs → IsSplit c cs → c ≤ length cs
-        → l.base ≤ c → c ≤ l.filling.arena → AreArenas score_of l.layout files cs → LogStandsForPrefix score_of l files h
-    conclude n c cs durable inside history split within base most are =
+        → l.base ≤ c → c ≤ l.filling.arena → l.versions ≡ versions_of cs → AreArenas score_of l.layout files cs → LogStandsForPrefix score_of l files h
+    conclude n c cs durable inside history split within base most versions are =
         let order = split_order c cs split within in
         let up_to : last_arena 0 (blocks_from 0 cs) ≤ c = last_arena_le c 0 (blocks_from 0 cs) (omega arith)
         (All-weaker (λ (e : Accepted). e.arena ≤ 0 + c) (λ (e : Accepted). e.arena ≤ c) (λ e least. omega (arith, least)) (blocks_from 0 cs) (blocks_arenas 0 c cs split.behind)) in
@@ -112,6 +114,7 @@ stand_for_prefix {D = D} score_of disk l h files sound many gives rest =
           record {
             base = c;
             log = record { contents = cs; arenas = are; order = order.0; history = history; base_is = sym order.1 };
+            versions = versions;
             least = omega (arith, up_to, last, base);
             most = omega (arith, most, sound.last);
           },
@@ -120,10 +123,13 @@ stand_for_prefix {D = D} score_of disk l h files sound many gives rest =
     inside : l.durable ≤ length h
     inside = omega (arith, sound.front)
 
+    versions_are : l.versions ≡ versions_of sound.contents
+    versions_are = contents_versions score_of disk l h sound
+
     before : ((q : ArenaRegion) (b : Content) → slice_get l.layout l.committing ≡ Some q → slice_get sound.contents l.committing ≡ Some b
         → (file : List ℕ) × (slice_get files q.part ≡ Some file) × IsArena score_of q.region q.number b file) → LogStandsForPrefix score_of l files h
     before current = conclude l.durable l.committing sound.contents (omega arith) inside sound.committed sound.split (omega (arith, sound.whole.committing, sound.many))
-        sound.whole.base below.0 (arenas sound.contents refl (λ i other. refl) current)
+        sound.whole.base below.0 versions_are (arenas sound.contents refl (λ i other. refl) current)
 
     after : (a : Content) → slice_get sound.contents l.committing ≡ Some a → l.committing < length sound.contents
         → ((q : ArenaRegion) (b : Content) → slice_get l.layout l.committing ≡ Some q → slice_get (set sound.contents l.committing (next_content l.arena a)) l.committing ≡ Some b
@@ -157,13 +163,25 @@ stand_for_prefix {D = D} score_of disk l h files sound many gives rest =
         are : AreArenas score_of l.layout files cs
         are = arenas cs long (λ i other. slice_get_set_other sound.contents l.committing i next other) current
 
+        -- the version stays, since the next head counts as one of the same
+        versions : l.versions ≡ versions_of cs
+        versions =
+            let r = slice_get_other l.layout sound.contents l.committing a sound.many is in
+            let found = slice_get_other l.heads l.layout l.committing r.0 (sym sound.whole.many) r.1 in
+            let t = there disk l l.committing r.0 sound.whole r.1 in
+            versions_are
+            ∙ sym (map_same counted_as sound.contents l.committing a next is
+            (ap version_counted (sym (sound.current r.0 t.disk a t.at is).next)
+            ∙ (sound.whole.arena r.0 found.0 r.1 found.1).counted
+            ∙ ap version_counted (sound.heads l.committing r.0 found.0 a r.1 found.1 is)))
+
         sealing : (b : Bool) → l.arena.next.sealed ≡ b → LogStandsForPrefix score_of l files h
         sealing false unsealed = conclude (l.durable + length added) l.committing cs (omega arith) most history
-            (split_set l.committing sound.contents next within sound.split unsealed) (omega (arith, long, within)) sound.whole.base below.0 are
+            (split_set l.committing sound.contents next within sound.split unsealed) (omega (arith, long, within)) sound.whole.base below.0 versions are
         sealing true sealed =
-            let waits = waits_below l.layout l.heads _ l.filling l.queue.waiting (l.committing + 1) sound.whole.queue (sound.whole.way sealed) in
+            let waits = waits_below l.layout l.versions l.heads _ l.filling l.queue.waiting (l.committing + 1) sound.whole.queue (sound.whole.way sealed) in
             conclude (l.durable + length added) (l.committing + 1) cs (omega arith) most history
-            (split_sealed l.committing sound.contents next within sound.split sealed) (omega (arith, long, within)) (omega (arith, sound.whole.base)) waits are
+            (split_sealed l.committing sound.contents next within sound.split sealed) (omega (arith, long, within)) (omega (arith, sound.whole.base)) waits versions are
 
 -- the arena in memory has the number of the region's arena
 pub number_is : {D : Type 0} (disk : DiskOf D) (l : LogState D) (r : ArenaRegion) → IsWholeLog disk l → slice_get l.layout l.committing ≡ Some r → l.arena.number ≡ r.number

@@ -1,6 +1,6 @@
 -- A walk back through the arenas.
-use Rattle.std.proofs.Common.{◌≡◌, ◌≢◌, ◌⊎◌, ⊎_elim, inl, inr, ℕ, zero, suc, ◌+◌, ◌-◌, ◌<◌, ◌≤◌, min, List, [], ◌∷◌, ◌++◌, length, get_or, take, drop, map, refl, sym, ◌∙◌, ap, subst, arith, Some, Ok, Err, ◌^◌}
-use Rattle.std.specs.Prelude.{All, slice_get, sum_by}
+use Rattle.std.proofs.Common.{◌≡◌, ◌≢◌, ◌⊎◌, ⊎_elim, inl, inr, ℕ, zero, suc, ◌+◌, ◌-◌, ◌<◌, ◌≤◌, ◌==◌, min, List, [], ◌∷◌, ◌++◌, length, get_or, take, drop, map, refl, sym, ◌∙◌, ap, subst, arith, Some, Ok, Err, ◌^◌}
+use Rattle.std.specs.Prelude.{All, IsTrue, slice_get, slice_index, sum_by, if◌then◌else◌}
 use Rattle.std.specs.Option.{option_map}
 use Rattle.std.proofs.lemmas.Bool.{cases_eq, cases_lt}
 use Rattle.std.proofs.lemmas.List.{length-take-le, length-map, take_all, take_more, get_or-take}
@@ -13,17 +13,20 @@ use Rattle.vt_clump.specs.declared.packed.Packed.{Packed}
 use Rattle.vt_clump.specs.Clumps.{stored_of}
 use Rattle.vt_clump.specs.Spelling.{Stored, IsStoredBlock}
 use Rattle.vt_model.specs.History.{Accepted, History}
-use Rattle.vt_model.specs.Places.{Spot, lengths_in, offset_behind, place_of}
+use Rattle.vt_model.specs.declared.TheConstants.{ARENA_HEAD_LEN}
+use Rattle.vt_model.specs.Places.{Spot, clump_len_in, lengths_in, offset_behind, place_of}
 use Rattle.vt_arena.specs.declared.directory.At.{At}
 use Rattle.vt_arena.specs.declared.head.Found.{Found}
 use Rattle.vt_arena.specs.declared.error.BackBad.{BackBad}
 use Rattle.vt_arena.specs.declared.error.BackBad.TheVariants.{Fault, Damaged}
-use Rattle.vt_arena.specs.Directory.{WalksEntry, IsInfoOfBlock, IsAtBlock}
+use Rattle.vt_arena.specs.declared.head.ArenaHead.{ArenaHead}
+use Rattle.vt_arena.specs.Directory.{walks_headers, IsOnClump, IsInfoOfBlock, IsAtBlock, WalksOn}
 use Rattle.vt_base.specs.declared.key.Key.{Key}
 use Rattle.vt_disk.specs.Members.{DiskOf}
 use Rattle.vt_arena.specs.Layout.{Content, arena_head, used_of}
-use Rattle.vt_arena.specs.Places.{block_room, lengths_of, offset_of}
+use Rattle.vt_arena.specs.Places.{block_room, last_sectors, lengths_of, offset_of}
 use Rattle.vt_arena.proofs.Layouts.{used-append, used-cons}
+use Rattle.vt_arena.proofs.Sectors.{last_none, last_push}
 use Rattle.vt_log.specs.Back.{TailState, GivesEntry, IsTailOf, IsTailBehind, IsQueued, StepsBack, IsNextEntry}
 use Rattle.vt_log.specs.Log.{LogState, setup_of_log, packed_of}
 use Rattle.vt_log.specs.Logs.{accepted_in, blocks_from}
@@ -31,11 +34,11 @@ use Rattle.vt_log.specs.Queue.{spot_of}
 use Rattle.vt_log.specs.Sound.{IsSoundLog}
 use Rattle.vt_log.specs.Whole.{IsWholeLog}
 use Rattle.vt_log.proofs.IsWhole.{head_small}
-use Rattle.vt_log.proofs.Lists.{slice_get_other, at_slice}
-use Rattle.vt_log.proofs.Places.{blocks_before, take_blocks, block_at, lengths_take, slice_get_there, split_at}
+use Rattle.vt_log.proofs.Lists.{slice_get_other, at_slice, slice_get_there}
+use Rattle.vt_log.proofs.Places.{blocks_before, take_blocks, block_at, lengths_take, split_at}
 use Rattle.vt_log.proofs.StoredAt.{HasContent, has_content, queued_as, front_take, front_same}
 use Rattle.vt_log.proofs.IsBehind.{blocks_below}
-use Rattle.vt_log.proofs.Versions.{offset_is}
+use Rattle.vt_log.proofs.Versions.{headers_second, used_counted, version_counted_as, version_own}
 
 clumps_before : (arena : ℕ) → List Found → ℕ
 clumps_before arena heads = sum_by (λ found. found.head.clumps) (take arena heads)
@@ -63,7 +66,9 @@ pub record IsStanding (contents : List Content) (durable : ℕ) (arena index lef
   pub at : slice_get contents arena ≡ Some content
   pub count : left ≡ blocks_before arena contents + index
   pub clumps : found.head.clumps ≡ length content.stored
-  pub used : found.head.used ≡ used_of content.stored
+  pub used : found.head.used ≡ used_of content.version content.stored
+  pub version : found.head.version ≡ content.version
+  pub last : IsTrue (walks_headers found.head) → found.head.last ≡ last_sectors 0 (lengths_of content.stored)
   pub within : index ≤ length content.stored
   pub most : left ≤ durable
 
@@ -73,12 +78,14 @@ standing score_of disk l h t found sound tail none at =
     let whole = sound.whole in
     let many : length l.heads ≡ length sound.contents = omega (arith, whole.many, sound.many) in
     let a = slice_get_other sound.contents l.heads t.arena found many at in
-    let head : (i : ℕ) (f : Found) (b : Content) → slice_get l.heads i ≡ Some f → slice_get sound.contents i ≡ Some b → (f.head.clumps ≡ length b.stored) × (f.head.used ≡ used_of b.stored) = λ i f b has holds.
+    let head : (i : ℕ) (f : Found) (b : Content) → slice_get l.heads i ≡ Some f → slice_get sound.contents i ≡ Some b → (f.head.clumps ≡ length b.stored) × (f.head.used ≡ used_of b.version b.stored) = λ i f b has holds.
     let r = slice_get_other l.layout l.heads i f (whole.many) has in
     let is = sound.heads i r.0 f b r.1 has holds in
     (ap (λ (x : _). x.clumps) is, ap (λ (x : _). x.used) is) in
     let below = slice_get_within l.heads t.arena found at in
     let own = head t.arena found a.0 at a.1 in
+    let r = slice_get_other l.layout l.heads t.arena found (whole.many) at in
+    let is = sound.heads t.arena r.0 found a.0 r.1 at a.1 in
     let index : t.at.index ≤ found.head.clumps = (tail.head found at).0 in
     let sums : sum_by (λ (f : Found). f.head.clumps) (take t.arena l.heads) + found.head.clumps ≤ sum_by (λ (f : Found). f.head.clumps) l.heads =
     subst (λ (f : Found). sum_by (λ (f : Found). f.head.clumps) (take t.arena l.heads) + f.head.clumps ≤ sum_by (λ (f : Found). f.head.clumps) l.heads) (get_or_from_slice_get l.heads t.arena found found at)
@@ -89,6 +96,10 @@ standing score_of disk l h t found sound tail none at =
       count = omega (arith, tail.left, none, counts_same l.heads sound.contents t.arena many (λ i f b has holds. (head i f b has holds).0));
       clumps = own.0;
       used = own.1;
+      version = ap (λ (x : ArenaHead). x.version) is;
+      last = λ on.
+          ap (λ (x : ArenaHead). x.last) is
+          ∙ ap (λ (v : ℕ). if v == 2 then last_sectors 0 (lengths_of a.0.stored) else 0) (sym (ap (λ (x : ArenaHead). x.version) is) ∙ headers_second found.head on);
       within = omega (arith, index, own.0);
       most = omega (arith, tail.left, none, index, sums, whole.durable);
     }
@@ -119,7 +130,7 @@ front_is score_of disk l h arena j n a sound at most is below =
 
 -- a walk that comes to an arena has all of its blocks before it
 pub turned_behind : {D : Type 0} (score_of : List ℕ → List ℕ) (disk : DiskOf D) (l : LogState D) (h : History) (n : ℕ) (t : TailState) (found : Found)
-    → IsSoundLog score_of disk l h → IsTailOf l t → t.queued ≡ 0 → t.left ≡ n → slice_get l.heads t.arena ≡ Some found → t.at ≡ record { index = found.head.clumps; end = found.head.used }
+    → IsSoundLog score_of disk l h → IsTailOf l t → t.queued ≡ 0 → t.left ≡ n → slice_get l.heads t.arena ≡ Some found → t.at ≡ record { index = found.head.clumps; end = found.head.used; sectors = found.head.last }
     → IsTailBehind l h n t
 turned_behind score_of disk l h n t found sound tail none left at start =
     let it = standing score_of disk l h t found sound tail none at in
@@ -135,7 +146,12 @@ turned_behind score_of disk l h n t found sound tail none left at start =
       most = omega (arith, left, it.most, within);
       queue = omega (arith, none, left, it.most);
       index = index ∙ sym (length-map it.content.stored (λ (s : Stored). length s.block)) ∙ ap (λ (ls : List ℕ). length ls) (sym lengths);
-      end = ap (λ (x : At). x.end) start ∙ it.used ∙ ap (λ (ls : List ℕ). sum_by block_room ls) (sym lengths);
+      end = ap (λ (x : At). x.end) start ∙ it.used ∙ sym (used_counted it.content)
+          ∙ ap (λ (v : ℕ). sum_by (block_room v) (lengths_of it.content.stored)) (sym (version_counted_as score_of disk l h sound t.arena it.content it.at))
+          ∙ ap (λ (ls : List ℕ). sum_by (block_room (slice_index l.versions t.arena)) ls) (sym lengths);
+      sectors = λ other has on.
+          let same : found ≡ other = same_Some found other (sym at ∙ has) in
+          ap (λ (x : At). x.sectors) start ∙ it.last (ap (λ (f : Found). walks_headers f.head) same ∙ on) ∙ ap (λ (ls : List ℕ). last_sectors 0 ls) (sym lengths);
       arenas = subst (λ (k : ℕ). All (λ (e : Accepted). e.arena ≤ t.arena) (take k h)) (sym few) front.arenas;
     }
 
@@ -150,16 +166,17 @@ pub record IsAtLast {D : Type 0} (score_of : List ℕ → List ℕ) (disk : Disk
   pub is : HasContent score_of disk l t.arena content
   pub head : found.head ≡ arena_head score_of is.r.number content
   pub split : content.stored ≡ before ++ stored ∷ behind
-  pub at : IsAtBlock before stored t.at
+  pub at : IsAtBlock found.head before stored t.at
+  pub version : slice_index l.versions t.arena ≡ found.head.version
   pub block : slice_get h number ≡ Some (accepted_in t.arena stored)
-  pub place : place_of (setup_of_log l) h number ≡ Some (record { arena = t.arena; offset = offset_of before })
+  pub place : place_of (setup_of_log l) h number ≡ Some (record { arena = t.arena; offset = offset_of content.version before })
   pub scored : stored.score ≡ score_of stored.block
   pub front : IsFront h t.arena number before
   pub inside : number < l.durable
   pub within : number < length h
 
-used_push : (xs : List Stored) (s : Stored) → used_of (xs ++ s ∷ []) ≡ used_of xs + block_room (length s.block)
-used_push xs s = omega (arith, used-append xs (s ∷ []), used-cons s [])
+used_push : (v : ℕ) (xs : List Stored) (s : Stored) → used_of v (xs ++ s ∷ []) ≡ used_of v xs + block_room v (length s.block)
+used_push v xs s = omega (arith, used-append v xs (s ∷ []), used-cons v s [])
 
 take_push : {X : Type 0} (xs : List X) (i : ℕ) (x : X) → slice_get xs i ≡ Some x → take (i + 1) xs ≡ take i xs ++ x ∷ []
 take_push {X = X} xs i x at =
@@ -186,8 +203,13 @@ at_last score_of disk l h n t found sound tail none at some behind reads =
     let front = front_is score_of disk l h t.arena j m it.content sound it.at (omega (arith, index, it.within)) count (omega (arith, below)) in
     let all = front_is score_of disk l h t.arena t.at.index t.left it.content sound it.at it.within it.count it.most in
     let few : min n l.durable ≡ t.left = omega (arith, behind.left, it.most) in
-    let end : t.at.end ≡ used_of (take (j + 1) stored) =
-    behind.end ∙ ap (λ (k : ℕ). sum_by block_room (lengths_in t.arena (take k h))) few ∙ ap (λ (ls : List ℕ). sum_by block_room ls) all.lengths ∙ ap (λ (k : ℕ). used_of (take k stored)) (sym index) in
+    let own_version : slice_index l.versions t.arena ≡ found.head.version =
+    version_own score_of disk l h sound t.arena it.content it.at (omega (arith, some, it.within)) ∙ sym it.version in
+    let lengths : lengths_in t.arena (take (min n l.durable) h) ≡ lengths_of (take (j + 1) stored) =
+    ap (λ (k : ℕ). lengths_in t.arena (take k h)) few ∙ all.lengths ∙ ap (λ (k : ℕ). lengths_of (take k stored)) (sym index) in
+    let end : t.at.end ≡ used_of found.head.version (take (j + 1) stored) =
+    behind.end ∙ ap (λ (ls : List ℕ). sum_by (block_room (slice_index l.versions t.arena)) ls) lengths
+    ∙ ap (λ (v : ℕ). used_of v (take (j + 1) stored)) own_version in
     let is = has_content score_of disk l h sound t.arena it.content it.at reads in
     let spot : Accepted → Spot = λ (x : Accepted). record { arena = x.arena; offset = offset_behind (setup_of_log l) x.arena (lengths_in x.arena (take m h)) } in
     let placed : place_of (setup_of_log l) h m ≡ Some (spot (accepted_in t.arena s.0)) = ap (option_map spot) block in
@@ -203,11 +225,14 @@ at_last score_of disk l h n t found sound tail none at some behind reads =
       split = split_at stored j s.0 s.1;
       at = record {
         index = omega (arith, index, length-take-le j stored (omega (arith, index, it.within)));
-        end = end ∙ ap used_of (take_push stored j s.0 s.1) ∙ used_push (take j stored) s.0;
+        end = end ∙ ap (used_of found.head.version) (take_push stored j s.0 s.1) ∙ used_push found.head.version (take j stored) s.0;
+        sectors = λ on. behind.sectors found at on ∙ ap (λ (ls : List ℕ). last_sectors 0 ls) lengths
+            ∙ ap (λ (l : List Stored). last_sectors 0 (lengths_of l)) (take_push stored j s.0 s.1) ∙ last_push 0 (take j stored) s.0;
       };
+      version = own_version;
       block = block;
       place = placed ∙ ap (λ (ls : List ℕ). Some (record { arena = t.arena; offset = offset_behind (setup_of_log l) t.arena ls })) front.lengths
-          ∙ ap (λ (k : ℕ). Some (record { arena = t.arena; offset = k })) (offset_is l t.arena (lengths_of (take j stored)));
+          ∙ ap (λ (v : ℕ). Some (record { arena = t.arena; offset = ARENA_HEAD_LEN + sum_by (clump_len_in v) (lengths_of (take j stored)) })) (own_version ∙ it.version);
       scored = (at_slice (IsStoredBlock score_of) stored j s.0 is.content.stored s.1).scored;
       front = front;
       inside = below;
@@ -239,7 +264,11 @@ queue_steps score_of disk l h n t new p place info sound behind is packed placed
         most = omega (arith, left, behind.left, behind.most);
         queue = omega (arith, number);
         index = ap (λ (a : At). a.index) at ∙ behind.index ∙ same new.left before (λ (ls : List ℕ). length ls);
-        end = ap (λ (a : At). a.end) at ∙ behind.end ∙ same new.left before (λ (ls : List ℕ). sum_by block_room ls);
+        end = ap (λ (a : At). a.end) at ∙ behind.end
+            ∙ ap (λ (a : ℕ). sum_by (block_room (slice_index l.versions a)) (lengths_in a (take (min n l.durable) h))) (sym arena)
+            ∙ ap (λ (k : ℕ). sum_by (block_room (slice_index l.versions new.arena)) (lengths_in new.arena (take k h))) before;
+        sectors = λ found has on. ap (λ (a : At). a.sectors) at ∙ behind.sectors found (ap (slice_get l.heads) (sym arena) ∙ has) on
+            ∙ same new.left before (λ (ls : List ℕ). last_sectors 0 ls);
         arenas = subst (λ (k : ℕ). All (λ (e : Accepted). e.arena ≤ new.arena) (take k h)) before
             (subst (λ (a : ℕ). All (λ (e : Accepted). e.arena ≤ a) (take (min n l.durable) h)) (sym arena) behind.arenas);
       },
@@ -248,13 +277,22 @@ queue_steps score_of disk l h n t new p place info sound behind is packed placed
     same : (k : ℕ) → min n l.durable ≡ min k l.durable → (f : List ℕ → ℕ) → f (lengths_in t.arena (take (min n l.durable) h)) ≡ f (lengths_in new.arena (take (min k l.durable) h))
     same k e f = ap (λ (a : ℕ). f (lengths_in a (take (min n l.durable) h))) (sym arena) ∙ ap (λ (j : ℕ). f (lengths_in new.arena (take j h))) e
 
+-- some blocks have a last one
+snoc : (x : Stored) (xs : List Stored) → (front : List Stored) × (last : Stored) × (x ∷ xs ≡ front ++ last ∷ [])
+snoc x [] = ([], x, refl)
+snoc x (y ∷ ys) = let rest = snoc y ys in (x ∷ rest.0, rest.1, ap (λ (l : List Stored). x ∷ l) rest.2)
+
 -- and the one that it gives from an arena
 pub arena_steps : {D : Type 0} (score_of : List ℕ → List ℕ) (disk : DiskOf D) (l : LogState D) (h : History) (n : ℕ) (t new : TailState) (found : Found) (entry info : Info)
-    → (last : IsAtLast score_of disk l h n t found) → IsInfoOfBlock last.is.r.number last.before last.stored entry → t.queued ≡ 0
-    → new.at.index + 1 ≡ t.at.index → new.at.end + block_room entry.size ≡ t.at.end → new.left + 1 ≡ n → new.queued ≡ t.queued → new.arena ≡ t.arena
+    → (last : IsAtLast score_of disk l h n t found) → slice_get l.heads t.arena ≡ Some found
+    → IsInfoOfBlock found.head last.before last.stored entry
+    × ((first : List Stored) (s : Stored) → last.before ≡ first ++ s ∷ [] → IsAtBlock found.head first s new.at)
+    → IsOnClump found.head new.at → t.queued ≡ 0
+    → new.at.index + 1 ≡ t.at.index → new.at.end + block_room found.head.version entry.size ≡ t.at.end → new.left + 1 ≡ n → new.queued ≡ t.queued → new.arena ≡ t.arena
     → info ≡ record { key = entry.key; size = entry.size; place = record { arena = t.arena; offset = entry.place.offset }; number = new.left }
     → StepsBack score_of l h n new (Some info)
-arena_steps score_of disk l h n t new found entry info last is none index end left queue arena info_is =
+arena_steps score_of disk l h n t new found entry info last found_at given clump none index end left queue arena info_is =
+    let is = given.0 in
     let number : last.number ≡ new.left = omega (arith, last.number_is, left) in
     let few : min new.left l.durable ≡ last.number = omega (arith, number, last.inside) in
     let lengths : lengths_in new.arena (take (min new.left l.durable) h) ≡ lengths_of last.before =
@@ -268,7 +306,8 @@ arena_steps score_of disk l h n t new found entry info last is none index end le
         score = ap (λ (x : Info). x.key.score.0) info_is ∙ is.score ∙ last.scored;
         size = ap (λ (x : Info). x.size) info_is ∙ is.size;
         place = subst (λ (k : ℕ). place_of (setup_of_log l) h k ≡ Some (spot_of info.place)) number
-            (last.place ∙ ap (λ (k : ℕ). Some (record { arena = t.arena; offset = k })) (sym is.offset) ∙ ap (λ (x : Info). Some (spot_of x.place)) (sym info_is));
+            (last.place ∙ ap (λ (v : ℕ). Some (record { arena = t.arena; offset = offset_of v last.before })) (sym (ap (λ (x : ArenaHead). x.version) last.head))
+            ∙ ap (λ (k : ℕ). Some (record { arena = t.arena; offset = k })) (sym is.offset) ∙ ap (λ (x : Info). Some (spot_of x.place)) (sym info_is));
         number = ap (λ (x : Info). x.number) info_is;
       },
       record {
@@ -276,14 +315,28 @@ arena_steps score_of disk l h n t new found entry info last is none index end le
         most = omega (arith, number, last.within);
         queue = omega (arith, queue, none, number, last.inside);
         index = omega (arith, index, last.at.index) ∙ sym (length-map last.before (λ (s : Stored). length s.block)) ∙ ap (λ (ls : List ℕ). length ls) (sym lengths);
-        end = ends new.at.end entry.size last.stored.block (used_of last.before) t.at.end is.size end last.at.end ∙ ap (λ (ls : List ℕ). sum_by block_room ls) (sym lengths);
+        end = ends found.head.version new.at.end entry.size last.stored.block (used_of found.head.version last.before) t.at.end is.size end last.at.end
+            ∙ ap (λ (v : ℕ). used_of v last.before) (sym last.version)
+            ∙ ap (λ (a : ℕ). sum_by (block_room (slice_index l.versions a)) (lengths_of last.before)) (sym arena)
+            ∙ ap (λ (ls : List ℕ). sum_by (block_room (slice_index l.versions new.arena)) ls) (sym lengths);
+        sectors = λ other has on.
+            let same : found ≡ other = same_Some found other (sym found_at ∙ ap (slice_get l.heads) (sym arena) ∙ has) in
+            before_sectors last.before refl (ap (λ (f : Found). walks_headers f.head) same ∙ on) ∙ ap (λ (ls : List ℕ). last_sectors 0 ls) (sym lengths);
         arenas = subst (λ (k : ℕ). All (λ (e : Accepted). e.arena ≤ new.arena) (take k h)) (sym few)
             (subst (λ (a : ℕ). All (λ (e : Accepted). e.arena ≤ a) (take last.number h)) (sym arena) last.front.arenas);
       },
     )
   where
-    ends : (new_end n : ℕ) (block : List ℕ) (used old_end : ℕ) → n ≡ length block → new_end + block_room n ≡ old_end → old_end ≡ used + block_room (length block) → new_end ≡ used
-    ends new_end n block used old_end long e was = omega (arith, long, e, was)
+    ends : (v new_end n : ℕ) (block : List ℕ) (used old_end : ℕ) → n ≡ length block → new_end + block_room v n ≡ old_end → old_end ≡ used + block_room v (length block) → new_end ≡ used
+    ends v new_end n block used old_end long e was = omega (arith, ap (block_room v) long, e, was)
+
+    -- the sectors of the clump before, of which there may be none
+    before_sectors : (before : List Stored) → last.before ≡ before → IsTrue (walks_headers found.head) → new.at.sectors ≡ last_sectors 0 (lengths_of before)
+    before_sectors [] is on =
+        last_none new.at.index new.at.end new.at.sectors (clump on) (omega (arith, index, last.at.index, ap (λ (l : List Stored). length l) is))
+    before_sectors (x ∷ xs) is on =
+        let it = snoc x xs in
+        (given.1 it.0 it.1 (is ∙ it.2)).sectors on ∙ sym (ap (λ (l : List Stored). last_sectors 0 (lengths_of l)) it.2 ∙ last_push 0 it.0 it.1)
 
 -- ---- the next arena that has a block left
 
@@ -293,7 +346,7 @@ pub record IsSkipped {D : Type 0} (l : LogState D) (from t : TailState) : Type 0
   pub left : t.left ≡ from.left
   pub queue : t.queued ≡ 0
   pub here : ((t.arena ≡ from.arena) × (t.at ≡ from.at))
-      ⊎ ((from.at.index ≡ 0) × (t.arena < from.arena) × ((found : Found) → slice_get l.heads t.arena ≡ Some found → t.at ≡ record { index = found.head.clumps; end = found.head.used }))
+      ⊎ ((from.at.index ≡ 0) × (t.arena < from.arena) × ((found : Found) → slice_get l.heads t.arena ≡ Some found → t.at ≡ record { index = found.head.clumps; end = found.head.used; sectors = found.head.last }))
   pub first : (i : ℕ) (found : Found) → t.arena < i → i < from.arena → slice_get l.heads i ≡ Some found → found.head.clumps ≡ 0
 
 pub skip_none : {D : Type 0} (l : LogState D) (from : TailState) → IsTailOf l from → from.queued ≡ 0 → IsSkipped l from from
@@ -316,8 +369,9 @@ skip_some l from t so some zero_left = ⊎_elim
     (cases_lt 0 t.arena)
 
 pub skip_more : {D : Type 0} (l : LogState D) (from t new : TailState) (found : Found) → IsSkipped l from t → 0 < from.left → t.at.index ≡ 0 → new.arena + 1 ≡ t.arena → slice_get l.heads new.arena ≡ Some found
-    → new.left ≡ t.left → new.queued ≡ t.queued → new.at ≡ record { index = found.head.clumps; end = found.head.used } → IsSkipped l from new
-skip_more l from t new found so some zero_left below at left queue start =
+    → new.left ≡ t.left → new.queued ≡ t.queued → new.at ≡ record { index = found.head.clumps; end = found.head.used; sectors = found.head.last }
+    → IsOnClump found.head (record { index = found.head.clumps; end = found.head.used; sectors = found.head.last }) → IsSkipped l from new
+skip_more l from t new found so some zero_left below at left queue start clump =
     let index : new.at.index ≡ found.head.clumps = ap (λ (x : At). x.index) start in
     let end : new.at.end ≡ found.head.used = ap (λ (x : At). x.end) start in
     let inside = slice_get_within l.heads new.arena found at in
@@ -331,8 +385,11 @@ skip_more l from t new found so some zero_left below at left queue start =
         arena = omega (arith, inside);
         end = λ past. absurd (omega (arith, past, inside));
         head = λ f is.
-            let same : f ≡ found = same_Some f found (sym is ∙ at) in
-            (omega (arith, index, ap (λ (x : Found). x.head.clumps) same), omega (arith, end, ap (λ (x : Found). x.head.used) same));
+            let same : f ≡ found = same_Some f found (sym is ∙ at) in (
+              omega (arith, index, ap (λ (x : Found). x.head.clumps) same),
+              omega (arith, end, ap (λ (x : Found). x.head.used) same),
+              subst (λ (a : At). IsOnClump f.head a) (sym start) (subst (λ (x : Found). IsOnClump x.head (record { index = found.head.clumps; end = found.head.used; sectors = found.head.last })) (sym same) clump),
+            );
         left = omega (arith, left, queue, so.tail.left, zero_left, index, sums);
       };
       left = left ∙ so.left;
@@ -340,14 +397,14 @@ skip_more l from t new found so some zero_left below at left queue start =
       here = inr (
         ⊎_elim (λ (is : (t.arena ≡ from.arena) × (t.at ≡ from.at)). ap (λ (x : At). x.index) (sym is.1) ∙ zero_left) (λ (is : (from.at.index ≡ 0) × (t.arena < from.arena) × _). is.0) so.here,
         ⊎_elim (λ (is : (t.arena ≡ from.arena) × (t.at ≡ from.at)). omega (arith, is.0, below)) (λ (is : (from.at.index ≡ 0) × (t.arena < from.arena) × _). omega (arith, is.1, below)) so.here,
-        λ f is. start ∙ ap (λ (x : Found). record { index = x.head.clumps; end = x.head.used }) (same_Some found f (sym at ∙ is)),
+        λ f is. start ∙ ap (λ (x : Found). record { index = x.head.clumps; end = x.head.used; sectors = x.head.last }) (same_Some found f (sym at ∙ is)),
       );
       first = λ i f less more is. ⊎_elim
           (λ (here : i ≡ t.arena).
           let at_t : slice_get l.heads t.arena ≡ Some f = ap (slice_get l.heads) (sym here) ∙ is in
           ⊎_elim
           (λ (same : (t.arena ≡ from.arena) × (t.at ≡ from.at)). absurd (omega (arith, same.0, here, more)))
-          (λ (turned : (from.at.index ≡ 0) × (t.arena < from.arena) × ((found : Found) → slice_get l.heads t.arena ≡ Some found → t.at ≡ record { index = found.head.clumps; end = found.head.used })).
+          (λ (turned : (from.at.index ≡ 0) × (t.arena < from.arena) × ((found : Found) → slice_get l.heads t.arena ≡ Some found → t.at ≡ record { index = found.head.clumps; end = found.head.used; sectors = found.head.last })).
           sym (ap (λ (x : At). x.index) (turned.2 f at_t)) ∙ zero_left)
           so.here)
           (λ (other : i ≢ t.arena). so.first i f (omega (arith, less, below, other)) more is)
@@ -360,7 +417,7 @@ skip_next l from t so some = record {
   here = λ there. ⊎_elim (λ (is : (t.arena ≡ from.arena) × (t.at ≡ from.at)). is) (λ (is : (from.at.index ≡ 0) × (t.arena < from.arena) × _). absurd (omega (arith, is.0, there))) so.here;
   below = λ none. ⊎_elim
       (λ (is : (t.arena ≡ from.arena) × (t.at ≡ from.at)). absurd (omega (arith, ap (λ (x : At). x.index) is.1, none, some)))
-      (λ (is : (from.at.index ≡ 0) × (t.arena < from.arena) × ((found : Found) → slice_get l.heads t.arena ≡ Some found → t.at ≡ record { index = found.head.clumps; end = found.head.used })). (is.1, is.2))
+      (λ (is : (from.at.index ≡ 0) × (t.arena < from.arena) × ((found : Found) → slice_get l.heads t.arena ≡ Some found → t.at ≡ record { index = found.head.clumps; end = found.head.used; sectors = found.head.last })). (is.1, is.2))
       so.here;
   first = λ none i found less more at. so.first i found less more at;
 }
@@ -373,10 +430,13 @@ skip_behind score_of disk l h n from t tail none so sound behind = ⊎_elim
       most = behind.most;
       queue = so.queue ∙ sym none ∙ behind.queue;
       index = ap (λ (x : At). x.index) is.1 ∙ behind.index ∙ ap (λ (a : ℕ). length (lengths_in a (take (min n l.durable) h))) (sym is.0);
-      end = ap (λ (x : At). x.end) is.1 ∙ behind.end ∙ ap (λ (a : ℕ). sum_by block_room (lengths_in a (take (min n l.durable) h))) (sym is.0);
+      end = ap (λ (x : At). x.end) is.1 ∙ behind.end
+          ∙ ap (λ (a : ℕ). sum_by (block_room (slice_index l.versions a)) (lengths_in a (take (min n l.durable) h))) (sym is.0);
+      sectors = λ found has on. ap (λ (x : At). x.sectors) is.1 ∙ behind.sectors found (ap (slice_get l.heads) (sym is.0) ∙ has) on
+          ∙ ap (λ (a : ℕ). last_sectors 0 (lengths_in a (take (min n l.durable) h))) (sym is.0);
       arenas = subst (λ (a : ℕ). All (λ (e : Accepted). e.arena ≤ a) (take (min n l.durable) h)) (sym is.0) behind.arenas;
     })
-    (λ (is : (from.at.index ≡ 0) × (t.arena < from.arena) × ((found : Found) → slice_get l.heads t.arena ≡ Some found → t.at ≡ record { index = found.head.clumps; end = found.head.used })).
+    (λ (is : (from.at.index ≡ 0) × (t.arena < from.arena) × ((found : Found) → slice_get l.heads t.arena ≡ Some found → t.at ≡ record { index = found.head.clumps; end = found.head.used; sectors = found.head.last })).
     let found = slice_get_there l.heads t.arena (omega (arith, is.1, tail.arena)) in
     turned_behind score_of disk l h n t found.0 sound so.tail so.queue (so.left ∙ behind.left) found.1 (is.2 found.0 found.1))
     so.here
@@ -413,13 +473,13 @@ no_next l t a at found tail none has next = ⊎_elim
     (cases_lt 0 t.at.index)
 
 -- what is given of an entry
-pub gives_bad : (number arena left used : ℕ) (at : At) (entry : List ℕ) (bad : BackBad) → WalksEntry number used at entry (Err bad) → GivesEntry arena left used at entry (Err bad)
-gives_bad number arena left used at entry Fault walks = tt
-gives_bad number arena left used at entry (Damaged want found) walks = walks
+pub gives_bad : (arena left : ℕ) (head : ArenaHead) (at new : At) (bytes : List ℕ) (bad : BackBad) → WalksOn head at new bytes (Err bad) → GivesEntry arena left head at bytes (Err bad)
+gives_bad arena left head at new bytes Fault walks = tt
+gives_bad arena left head at new bytes (Damaged want found) walks = walks.0
 
-pub gives_info : (number arena left used : ℕ) (at : At) (entry : List ℕ) (read info : Info) → WalksEntry number used at entry (Ok read) → info.number + 1 ≡ left
-    → info.key ≡ read.key → info.size ≡ read.size → info.place.offset ≡ read.place.offset → info.place.arena ≡ arena → GivesEntry arena left used at entry (Ok (Some info))
-gives_info number arena left used at entry read info walks many key size offset place = (
+pub gives_info : (arena left : ℕ) (head : ArenaHead) (at new : At) (bytes : List ℕ) (read info : Info) → WalksOn head at new bytes (Ok read) → info.number + 1 ≡ left
+    → info.key ≡ read.key → info.size ≡ read.size → info.place.offset ≡ read.place.offset → info.place.arena ≡ arena → GivesEntry arena left head at bytes (Ok (Some info))
+gives_info arena left head at new bytes read info walks many key size offset place = (
   walks.0,
   many,
   record {
@@ -436,8 +496,32 @@ gives_info number arena left used at entry read info walks many key size offset 
 pub tail_inside : {D : Type 0} (l : LogState D) (t : TailState) → IsTailOf l t → 0 < t.at.index → t.arena < length l.heads
 tail_inside l t tail some = ⊎_elim
     (λ (less : t.arena < length l.heads). less)
-    (λ (past : length l.heads ≤ t.arena). absurd (omega (arith, (tail.end past).0, some)))
+    (λ (past : length l.heads ≤ t.arena). absurd (omega (arith, ap (λ (x : At). x.index) (tail.end past), some)))
     (cases_lt t.arena (length l.heads))
+
+-- another disk leaves the walk one of the log
+pub tail_held : {D : Type 0} (l : LogState D) (ds : List D) (t : TailState) → IsTailOf l t → IsTailOf (record l { disks = ds }) t
+tail_held l ds t tail = record { queue = tail.queue; arena = tail.arena; end = tail.end; head = λ found at. tail.head found at; left = tail.left }
+
+-- and so does a block of an arena that is given
+pub tail_moved : {D : Type 0} (l : LogState D) (t new : TailState) → IsTailOf l t → 0 < t.at.index → new.queued ≡ t.queued → new.arena ≡ t.arena → new.left + 1 ≡ t.left
+    → ((found : Found) → slice_get l.heads t.arena ≡ Some found → (new.at.index + 1 ≡ t.at.index) × (new.at.end ≤ t.at.end) × IsOnClump found.head new.at) → IsTailOf l new
+tail_moved l t new tail some queue arena left moved =
+    let inside = tail_inside l t tail some in
+    record {
+      queue = omega (arith, queue, tail.queue);
+      arena = omega (arith, arena, tail.arena);
+      end = λ past. absurd (omega (arith, past, arena, inside));
+      head = λ found at.
+          let there : slice_get l.heads t.arena ≡ Some found = ap (slice_get l.heads) (sym arena) ∙ at in
+          let old = tail.head found there in
+          let it = moved found there in
+          (omega (arith, old.0, it.0), omega (arith, old.1, it.1), it.2);
+      left =
+          let found = slice_get_there l.heads t.arena inside in
+          let it = moved found.0 found.1 in
+          omega (arith, left, tail.left, queue, it.0, ap (λ (k : ℕ). sum_by (λ (f : Found). f.head.clumps) (take k l.heads)) arena);
+    }
 
 -- the place before a walk is a small one
 pub tail_small : {D : Type 0} (disk : DiskOf D) (l : LogState D) (t : TailState) → IsWholeLog disk l → IsTailOf l t → t.at.end ≤ 2 ^ 30
@@ -445,5 +529,5 @@ tail_small disk l t whole tail = ⊎_elim
     (λ (less : t.arena < length l.heads).
     let found = slice_get_there l.heads t.arena less in
     omega (arith, (tail.head found.0 found.1).1, (head_small disk l t.arena found.0 whole found.1).1))
-    (λ (past : length l.heads ≤ t.arena). omega (arith, (tail.end past).1))
+    (λ (past : length l.heads ≤ t.arena). omega (arith, ap (λ (x : At). x.end) (tail.end past)))
     (cases_lt t.arena (length l.heads))

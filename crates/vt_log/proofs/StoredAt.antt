@@ -1,6 +1,6 @@
 -- What stands at the place of a block: in the queue, or in an arena.
 use Rattle.std.proofs.Common.{◌≡◌, ◌≢◌, ⊎_elim, ℕ, zero, suc, ◌+◌, ◌-◌, ◌<◌, ◌≤◌, List, [], ◌∷◌, ◌++◌, length, take, drop, map, refl, sym, ◌∙◌, ap, subst, arith, Some, None}
-use Rattle.std.specs.Prelude.{All, slice_get}
+use Rattle.std.specs.Prelude.{All, slice_get, sum_by}
 use Rattle.std.specs.Option.{option_map}
 use Rattle.std.proofs.lemmas.Bool.{cases_eq, cases_lt}
 use Rattle.std.proofs.lemmas.List.{length-take-le, length-drop, take_all, take-append-le, take-append-drop, length-take}
@@ -12,7 +12,8 @@ use Rattle.vt_clump.specs.declared.packed.Packed.{Packed}
 use Rattle.vt_clump.specs.Clumps.{IsPacked, stored_of}
 use Rattle.vt_clump.specs.Spelling.{Stored, IsStoredBlock, size_in}
 use Rattle.vt_model.specs.History.{Accepted, History}
-use Rattle.vt_model.specs.Places.{Setup, Spot, StandsAt, lengths_in, offset_behind, place_of, version_of}
+use Rattle.vt_model.specs.declared.TheConstants.{ARENA_HEAD_LEN}
+use Rattle.vt_model.specs.Places.{Setup, Spot, StandsAt, clump_len_in, lengths_in, offset_behind, place_of, version_of}
 use Rattle.vt_model.proofs.Spots.{behind_earlier, some_taken}
 use Rattle.vt_part.specs.declared.layout.ArenaRegion.{ArenaRegion}
 use Rattle.vt_arena.specs.declared.head.Found.{Found}
@@ -24,9 +25,9 @@ use Rattle.vt_log.specs.Logs.{accepted_in, blocks_from}
 use Rattle.vt_log.specs.Queue.{IsNowhere, spot_of, waiting_block}
 use Rattle.vt_log.specs.Sound.{IsArenaAt, IsSoundLog}
 use Rattle.vt_log.proofs.StandForPrefix.{there}
-use Rattle.vt_log.proofs.Versions.{offset_is}
-use Rattle.vt_log.proofs.Lists.{slice_get_other, at_slice, slice_get_left, slice_get_drop}
-use Rattle.vt_log.proofs.Places.{blocks_before, block_of, block_at, lengths_take, slice_get_there, split_at}
+use Rattle.vt_log.proofs.Versions.{version_own}
+use Rattle.vt_log.proofs.Lists.{slice_get_other, at_slice, slice_get_left, slice_get_drop, slice_get_there}
+use Rattle.vt_log.proofs.Places.{blocks_before, block_of, block_at, lengths_take, split_at}
 
 -- a block that has a place is there
 placed_block : (c : Setup) (h : History) (i : ℕ) (s : Spot) → place_of c h i ≡ Some s → (e : Accepted) × (slice_get h i ≡ Some e)
@@ -113,7 +114,7 @@ pub record HasContent {D : Type 0} (score_of : List ℕ → List ℕ) (disk : Di
   pub device : D
   pub at : IsArenaAt l arena r device
   pub content : IsArenaContent score_of r.region.len a
-  pub stand : HasBlocks r.region a.stored (disk.bytes device)
+  pub stand : HasBlocks r.region a (disk.bytes device)
   pub head : (found : Found) → slice_get l.heads arena ≡ Some found → found.head ≡ arena_head score_of r.number a
 
 -- the block whose place is none of the queue's stands there in its arena
@@ -124,7 +125,7 @@ pub record IsStoredAt {D : Type 0} (score_of : List ℕ → List ℕ) (disk : Di
   pub stored : Stored
   pub is : HasContent score_of disk l place.arena content
   pub split : content.stored ≡ before ++ stored ∷ behind
-  pub offset : place.offset ≡ offset_of before
+  pub offset : place.offset ≡ offset_of content.version before
   pub block : e ≡ accepted_in place.arena stored
   pub scored : stored.score ≡ score_of stored.block
 
@@ -198,7 +199,7 @@ module _ {D : Type 0} (score_of : List ℕ → List ℕ) (disk : DiskOf D) (l : 
   has_content arena a at reads =
       let r = slice_get_other l.layout sound.contents arena a sound.many at in
       let it = there disk l arena r.0 sound.whole r.1 in
-      let both : IsArenaContent score_of r.0.region.len a × HasBlocks r.0.region a.stored (disk.bytes it.disk) = ⊎_elim
+      let both : IsArenaContent score_of r.0.region.len a × HasBlocks r.0.region a (disk.bytes it.disk) = ⊎_elim
       (λ (same : arena ≡ l.committing).
       let arena_at : IsArenaAt l l.committing r.0 it.disk = subst (λ (n : ℕ). IsArenaAt l n r.0 it.disk) same it.at in
       let current = sound.current r.0 it.disk a arena_at (subst (λ (n : ℕ). slice_get sound.contents n ≡ Some a) same at) in
@@ -224,9 +225,11 @@ module _ {D : Type 0} (score_of : List ℕ → List ℕ) (disk : DiskOf D) (l : 
       let spot : Accepted → Spot = λ (x : Accepted). record { arena = x.arena; offset = offset_behind (setup_of_log l) x.arena (lengths_in x.arena (take i h)) } in
       let spots : spot e ≡ spot_of place = same_Some (spot e) (spot_of place) (sym (ap (option_map spot) at) ∙ placed) in
       let arena : e.arena ≡ place.arena = ap (λ (s : Spot). s.arena) spots in
-      let offset : place.offset ≡ offset_of (take it.index it.content.stored) =
+      let some : 0 < length it.content.stored = omega (arith, slice_get_within it.content.stored it.index it.stored it.has) in
+      let offset : place.offset ≡ offset_of it.content.version (take it.index it.content.stored) =
       sym (ap (λ (s : Spot). s.offset) spots) ∙ ap (offset_behind (setup_of_log l) e.arena) it.lengths
-      ∙ offset_is l e.arena (lengths_of (take it.index it.content.stored)) in
+      ∙ ap (λ (v : ℕ). ARENA_HEAD_LEN + sum_by (clump_len_in v) (lengths_of (take it.index it.content.stored)))
+      (version_own score_of disk l h sound e.arena it.content it.at some) in
       let is = has_content e.arena it.content it.at reads in
       record {
         content = it.content;

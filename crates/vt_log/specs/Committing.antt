@@ -54,6 +54,7 @@ pub record LogTakesStep {D : Type 0} (disk : DiskOf D) (result : Result Progress
   pub idle : old.stopped ≡ None → queued old ≡ 0 → result ≡ Ok Idle
   pub kept : (new.layout ≡ old.layout) × (new.tables ≡ old.tables) × (new.base ≡ old.base)
       × (new.filling ≡ old.filling)
+  pub versions : new.versions ≡ old.versions
   -- the count of accepted blocks stays, and where the next block goes
   pub front_is : front new ≡ front old
   pub next : (n : ℕ) → next_filling new n ≡ next_filling old n
@@ -91,6 +92,7 @@ pub record MakesOneCall {D : Type 0} (score_of : List ℕ → List ℕ) (disk : 
       → TakesAllWaiting new
   pub last : (n : ℕ) → result ≡ Ok (Durable n)
       → calls_made old.arena + 1 ≡ commit_calls old.arena
+  pub versions : new.versions ≡ old.versions
   pub kept : (new.layout ≡ old.layout) × (new.tables ≡ old.tables) × (new.base ≡ old.base)
       × (new.filling ≡ old.filling)
   pub calls : CallsArena disk result old new

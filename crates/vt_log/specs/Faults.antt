@@ -9,21 +9,21 @@ use Rattle.vt_arena.specs.declared.error.ArenaBad.{ArenaBad}
 use Rattle.vt_arena.specs.declared.error.ArenaBad.TheVariants.{Torn}
 use Rattle.vt_arena.specs.declared.head.Found.{Found}
 use Rattle.vt_arena.specs.declared.error.Field.TheVariants.{Sealed}
-use Rattle.vt_arena.specs.Faults.{first_bad_head}
-use Rattle.vt_arena.specs.Heads.{fields_of, sealed_in, clump_count_in}
-use Rattle.vt_arena.specs.Layout.{fields_at}
+use Rattle.vt_arena.specs.Faults.{first_bad_head, read_at}
+use Rattle.vt_arena.specs.Heads.{fields_of, own_fields, sealed_in, clump_count_in}
 use Rattle.vt_log.specs.declared.error.LogBad.{LogBad}
 use Rattle.vt_log.specs.declared.error.LogBad.TheVariants.{Part, Arena, Order, Fault, NoMemory}
 use Rattle.vt_log.specs.declared.error.LogErr.{LogErr}
 use Rattle.vt_log.specs.declared.error.LogErr.TheVariants.{Fault as LogFault, Stopped}
 use Rattle.vt_log.specs.Log.{LogState}
 
--- the fields of each arena's current head, as the files have them
-pub record AreFields (layout : List ArenaRegion) (files : List (List ℕ)) (fields : List (List ℕ))
+-- what mounting reads of each arena, as the files have it: the fields of its current head and, where
+-- these say where the last clump is, that clump's header
+pub record AreReadAt (layout : List ArenaRegion) (files : List (List ℕ)) (fields : List (List ℕ))
     : Type 0 where
   pub many : length fields ≡ length layout
   pub each : (i : ℕ) (r : ArenaRegion) (file : List ℕ) → slice_get layout i ≡ Some r
-      → slice_get files r.part ≡ Some file → slice_get fields i ≡ Some (fields_at r.region file)
+      → slice_get files r.part ≡ Some file → slice_get fields i ≡ Some (read_at r.region r.number file)
 
 -- why arena i, with these fields, can't stand behind an unsealed one
 abbrev pub out_of_order : (i : ℕ) → (fields : List ℕ) → Option LogBad
@@ -105,7 +105,7 @@ pub record IsMountedBy {D : Type 0} (names : List (List ℕ)) (layout : List Are
     (fields : List (List ℕ)) (l : LogState D) : Type 0 where
   pub distinct : AreDistinct names
   pub passed : first_bad_log Bool.false 0 layout fields ≡ None
-  pub heads : map (λ found. fields_of found.head) l.heads ≡ fields
+  pub heads : map (λ found. fields_of found.head) l.heads ≡ map own_fields fields
   pub before : All (λ found. found.head.sealed ≡ Bool.true) (take l.base l.heads)
   pub base : (found : Found) → slice_get l.heads l.base ≡ Some found
       → found.head.sealed ≡ Bool.false

@@ -1,8 +1,9 @@
 -- A log as its calls see it.
-use Rattle.std.specs.Prelude.{◌≡◌, ℕ, ◌+◌, Bool, IsFalse, if◌then◌else◌, is_some, Option, Some, None, Result, Ok, Err, Vec, List, [], ◌++◌, length, map, sum_by, slice_get, slice_index}
+use Rattle.std.specs.Prelude.{◌≡◌, ℕ, ◌+◌, ◌==◌, ◌&&◌, not, Bool, IsFalse, if◌then◌else◌, is_some, Option, Some, None, Result, Ok, Err, Vec, List, [], ◌++◌, length, map, sum_by, slice_get, slice_index}
 use Rattle.std.specs.declared.alloc.Global.{Global}
 use Rattle.std.specs.Option.{option_map_or}
 use Rattle.vt_clump.specs.declared.packed.Packed.{Packed}
+use Rattle.vt_model.specs.declared.TheConstants.{WRITTEN_VERSION}
 use Rattle.vt_model.specs.History.{History}
 use Rattle.vt_model.specs.Places.{Setup}
 use Rattle.vt_part.specs.declared.layout.ArenaRegion.{ArenaRegion}
@@ -14,19 +15,20 @@ use Rattle.vt_arena.specs.declared.head.Found.{Found}
 use Rattle.vt_arena.specs.Arena.{ArenaState, added_by_commit, is_committing}
 use Rattle.vt_arena.specs.Places.{block_room, has_room}
 use Rattle.vt_log.specs.declared.filling.Filling.{Filling}
-use Rattle.vt_log.specs.Logs.{accepted_in, versions_of}
+use Rattle.vt_log.specs.Logs.{accepted_in}
 use Rattle.vt_log.specs.Queue.{QueueState, no_queue, waiting_block}
 
 -- A log: the disks of its partitions and their tables, the regions of all arenas, and each one's
--- head as mounted or last committed; the first arena that wasn't sealed at mounting; the arena that
--- is committed in, by its number and as it is in memory; the blocks that are queued; how full the
--- arena is that the next block goes to, these counted; how many blocks are committed; how many
--- device calls `advance` has made, and the number of the one that failed.
+-- head as mounted or last committed, and its version; the first arena that wasn't sealed at
+-- mounting; the arena that is committed in, by its number and as it is in memory; the blocks that
+-- are queued; how full the arena is that the next block goes to, these counted; how many blocks are
+-- committed; how many device calls `advance` has made, and the number of the one that failed.
 pub record LogState (D : Type 0) : Type 0 where
   pub disks : List D
   pub tables : List Table
   pub layout : List ArenaRegion
   pub heads : List Found
+  pub versions : List ℕ
   pub base : ℕ
   pub committing : ℕ
   pub arena : ArenaState
@@ -48,7 +50,7 @@ front l = l.durable + queued l
 abbrev pub setup_of_log : {D : Type 0} → LogState D → Setup
 setup_of_log l = record {
   arenas = map (λ r. r.region.len) l.layout;
-  versions = versions_of l.layout;
+  versions = l.versions;
   base = l.base;
   sections = [];
 }
@@ -74,22 +76,31 @@ found_filling heads arena =
     option_map_or (λ found. filled_as arena found.head) (slice_get heads arena)
     (record { arena = arena; used = 0; clumps = 0 })
 
--- a block of n bytes fits behind what fills an arena so far; where there is no arena none does
-abbrev pub fits_in : List ArenaRegion → Filling → (n : ℕ) → Bool
-fits_in layout f n =
-    has_room (slice_index (map (λ r. r.region.len) layout) f.arena) f.used f.clumps n
+-- A block of n bytes fits behind what fills an arena so far. Where there is no arena none does, and
+-- only one of the version that is written takes more.
+abbrev pub fits_in : List ArenaRegion → (versions : List ℕ) → Filling → (n : ℕ) → Bool
+fits_in layout versions f n =
+    slice_index versions f.arena == WRITTEN_VERSION
+    && has_room WRITTEN_VERSION (slice_index (map (λ r. r.region.len) layout) f.arena) f.used
+    f.clumps n
+
+-- An arena can be sealed unless it is of version 2.
+abbrev pub can_close : (versions : List ℕ) → (arena : ℕ) → Bool
+can_close versions arena = not (slice_index versions arena == 2)
 
 -- the arena with that block
 abbrev pub with_room_taken : (n : ℕ) → Filling → Filling
-with_room_taken n f = record f { used = f.used + block_room n; clumps = f.clumps + 1 }
+with_room_taken n f =
+    record f { used = f.used + block_room WRITTEN_VERSION n; clumps = f.clumps + 1 }
 
 -- the arena that a block of n bytes goes to, as it is before the block: the one that is being
--- filled if it fits there, else the next one if it fits there
+-- filled if it fits there, else the next one, if this one can be sealed and it fits there
 abbrev pub next_filling : {D : Type 0} → LogState D → (n : ℕ) → Option Filling
 next_filling l n =
     let next = found_filling l.heads (l.filling.arena + 1) in
-    if fits_in l.layout l.filling n then Some l.filling
-    else if fits_in l.layout next n then Some next
+    if fits_in l.layout l.versions l.filling n then Some l.filling
+    else if can_close l.versions l.filling.arena && fits_in l.layout l.versions next n
+    then Some next
     else None
 
 -- Whether an arena has room for a block of n bytes: the one that is being filled, or the next one.

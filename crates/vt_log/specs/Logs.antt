@@ -1,6 +1,6 @@
 -- What the arenas of all partitions stand for, in order: the blocks of the arenas up to and with
 -- the first that isn't sealed (Quinlan and Dorward 2002, the data log; venti(8)).
-use Rattle.std.specs.Prelude.{◌≡◌, ⊤, ℕ, ◌+◌, ◌≤◌, Bool, if◌then◌else◌, MatchBool, Some, List, [], ◌∷◌, ◌++◌, All, length, map, sum_by, take, slice_get}
+use Rattle.std.specs.Prelude.{◌≡◌, ⊤, ℕ, ◌+◌, ◌==◌, ◌≤◌, Bool, if◌then◌else◌, MatchBool, Some, List, [], ◌∷◌, ◌++◌, All, length, map, sum_by, take, slice_get}
 use Rattle.vt_clump.specs.Spelling.{Stored}
 use Rattle.vt_model.specs.declared.TheConstants.{WRITTEN_VERSION}
 use Rattle.vt_model.specs.History.{Accepted, History}
@@ -8,10 +8,6 @@ use Rattle.vt_model.specs.Places.{Setup, current_arena}
 use Rattle.vt_part.specs.declared.layout.ArenaRegion.{ArenaRegion}
 use Rattle.vt_part.specs.Table.{Table}
 use Rattle.vt_arena.specs.Layout.{Content, IsArena}
-
--- the version of each arena: every one is of the version that is written
-abbrev pub versions_of : List ArenaRegion → List ℕ
-versions_of layout = map (λ r. WRITTEN_VERSION) layout
 
 -- a block of the arena with this number, over all partitions
 abbrev pub accepted_in : (arena : ℕ) → Stored → Accepted
@@ -21,6 +17,12 @@ accepted_in arena s = record { block = record { kind = s.kind; bytes = s.block }
 abbrev pub blocks_from : (arena : ℕ) → List Content → History
 blocks_from arena [] = []
 blocks_from arena (a ∷ rest) = map (accepted_in arena) a.stored ++ blocks_from (arena + 1) rest
+
+-- the version of each: an arena without blocks counts as one of the version that is written, since
+-- its first commit writes it so
+abbrev pub versions_of : List Content → List ℕ
+versions_of contents =
+    map (λ a. if length a.stored == 0 then WRITTEN_VERSION else a.version) contents
 
 -- how many arenas are sealed before the first that isn't
 abbrev pub first_unsealed : List Content → ℕ
@@ -59,12 +61,13 @@ pub record IsLog (score_of : List ℕ → List ℕ) (layout : List ArenaRegion) 
   pub history : h ≡ blocks_from 0 contents
   pub base_is : base ≡ first_unsealed contents
 
--- The files stand for the first n blocks of a history, with a base from the arena that was filled
--- last with these to the one that is being filled now.
+-- The files stand for the first n blocks of a history, with the setup's versions, and a base from the
+-- arena that was filled last with these to the one that is being filled now.
 pub record LogStandsFor (score_of : List ℕ → List ℕ) (c : Setup) (layout : List ArenaRegion)
     (files : List (List ℕ)) (h : History) (n : ℕ) : Type 0 where
   pub base : ℕ
   pub log : IsLog score_of layout files (take n h) base
+  pub versions : c.versions ≡ versions_of log.contents
   pub least : current_arena c (take n h) ≤ base
   pub most : base ≤ current_arena c h
 

@@ -1,10 +1,11 @@
 -- How a log is found.
-use Rattle.std.specs.Prelude.{◌≡◌, ◌⊎◌, ⊤, ℕ, ◌+◌, ◌%◌, ◌<◌, ◌≤◌, All, Bool, IsTrue, None, Some, List, length, map, sum_by, take, slice_get, Result, Ok, Err}
+use Rattle.std.specs.Prelude.{◌≡◌, ◌⊎◌, ⊤, ℕ, ◌+◌, ◌%◌, ◌<◌, ◌≤◌, All, Bool, IsTrue, None, Some, List, [], ◌∷◌, length, map, sum_by, take, slice_get, Result, Ok, Err}
 use Rattle.vt_disk.specs.Members.{DiskOf}
 use Rattle.vt_disk.specs.Calls.{IsSynced}
 use Rattle.vt_twin.specs.Frames.{named_number}
 use Rattle.vt_part.specs.declared.layout.ArenaRegion.{ArenaRegion}
 use Rattle.vt_part.specs.declared.part.Part.{Part}
+use Rattle.vt_part.specs.Layout.{layout_of}
 use Rattle.vt_part.specs.Parts.{tables_of}
 use Rattle.vt_part.specs.Table.{Table}
 use Rattle.vt_arena.specs.declared.TheConstants.{FRAME_LEN}
@@ -12,10 +13,10 @@ use Rattle.vt_arena.specs.declared.error.ArenaBad.{ArenaBad}
 use Rattle.vt_arena.specs.declared.error.ArenaBad.TheVariants.{Fault as ArenaFault, NotFormatted, Torn, NoMemory as ArenaNoMemory}
 use Rattle.vt_arena.specs.declared.head.ArenaHead.{ArenaHead}
 use Rattle.vt_arena.specs.declared.head.Found.{Found}
-use Rattle.vt_arena.specs.Arena.{ArenaState, fresh_arena}
-use Rattle.vt_arena.specs.Faults.{first_bad_head, CanStand}
-use Rattle.vt_arena.specs.Heads.{fields_of}
-use Rattle.vt_arena.specs.Layout.{Content, IsArena, fields_at, arena_head}
+use Rattle.vt_arena.specs.Arena.{ArenaState, fresh_arena, version_counted}
+use Rattle.vt_arena.specs.Faults.{first_bad_head, read_at, reads_to_find, CanStand}
+use Rattle.vt_arena.specs.Heads.{fields_of, own_fields}
+use Rattle.vt_arena.specs.Layout.{Content, IsArena, arena_head}
 use Rattle.vt_log.specs.declared.error.LogBad.{LogBad}
 use Rattle.vt_log.specs.declared.error.LogBad.TheVariants.{Part as PartRefused, Arena, Order, Fault, NoMemory}
 use Rattle.vt_log.specs.Answers.{HoldTheSame}
@@ -30,6 +31,21 @@ pub record OnlyReadsParts {D : Type 0} (disk : DiskOf D) (most : ℕ) (old new :
   pub disks : HoldTheSame disk (disks_of old) (disks_of new)
   pub calls_most : IsTrue disk.tells
       → sum_by disk.calls (disks_of new) ≤ sum_by disk.calls (disks_of old) + most
+
+-- how many reads find these arenas, of which this is read
+abbrev pub reads_to_find_all : List ArenaRegion → (fields : List (List ℕ)) → ℕ
+reads_to_find_all [] fields = 0
+reads_to_find_all (r ∷ rest) [] = 0
+reads_to_find_all (r ∷ rest) (f ∷ fields) =
+    reads_to_find r.number r.region.len f + reads_to_find_all rest fields
+
+-- A log was mounted by so many calls at most: a sync of each disk, and the reads that find its
+-- arenas, of which this is read.
+abbrev pub MountsInCalls : {D : Type 0} → DiskOf D → List (Part D) → (fields : List (List ℕ))
+    → LogState D → Type 0
+MountsInCalls disk parts fields log = IsTrue disk.tells
+    → sum_by disk.calls log.disks ≤ sum_by disk.calls (disks_of parts) + length parts
+    + reads_to_find_all (layout_of (tables_of parts)) fields
 
 -- a crash leaves of these partitions' disks just what a read gives
 abbrev pub AreSettled : {D : Type 0} → DiskOf D → List (Part D) → Type 0
@@ -61,10 +77,10 @@ IsBeforeCalls (Order i clumps) = ⊥
 IsBeforeCalls Fault = ⊥
 IsBeforeCalls NoMemory = ⊤
 
--- these are the fields of an arena's current head, as the files have it
+-- this is what mounting reads of an arena, as the files have it
 abbrev pub AreFieldsAt : (files : List (List ℕ)) → ArenaRegion → (fields : List ℕ) → Type 0
 AreFieldsAt files r fields =
-    (file : List ℕ) → slice_get files r.part ≡ Some file → fields ≡ fields_at r.region file
+    (file : List ℕ) → slice_get files r.part ≡ Some file → fields ≡ read_at r.region r.number file
 
 -- what finding arena i answers where these are its fields; `behind` is whether an unsealed one
 -- stands before it
@@ -72,7 +88,7 @@ abbrev pub FindsNext : (behind : Bool) (i : ℕ) → ArenaRegion → (fields : L
     → Result Found LogBad → Type 0
 FindsNext behind i r fields (Ok found) =
     (bad_arena behind i (first_bad_head r.number r.region.len fields) fields ≡ None)
-    × (fields_of found.head ≡ fields)
+    × (fields_of found.head ≡ own_fields fields)
 FindsNext behind i r fields (Err (PartRefused bad)) = ⊥
 FindsNext behind i r fields (Err (Arena j bad)) =
     bad_arena behind i (first_bad_head r.number r.region.len fields) fields ≡ Some (Arena j bad)
@@ -118,7 +134,7 @@ RefusesArenas layout fields NoMemory = ⊤
 pub record ArePassed (layout : List ArenaRegion) (fields : List (List ℕ)) (heads : List Found)
     : Type 0 where
   pub passed : first_bad_log Bool.false 0 layout fields ≡ None
-  pub heads_are : map (λ found. fields_of found.head) heads ≡ fields
+  pub heads_are : map (λ found. fields_of found.head) heads ≡ map own_fields fields
 
 -- the arenas before this one are sealed, and it isn't, if it is there
 pub record IsFirstOpen (heads : List Found) (arena : ℕ) : Type 0 where
@@ -149,6 +165,7 @@ found_log disks tables layout heads base arena = record {
   tables = tables;
   layout = layout;
   heads = heads;
+  versions = map (λ found. version_counted found.head) heads;
   base = base;
   committing = base;
   arena = arena;

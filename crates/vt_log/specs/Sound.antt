@@ -1,5 +1,5 @@
 -- What the disks of a log hold, and what a crash leaves of them.
-use Rattle.std.specs.Prelude.{◌≡◌, ◌≢◌, ◌%◌, ℕ, ◌+◌, ◌<◌, ◌≤◌, Bool, Some, List, All, length, take, drop, sum_by, slice_get}
+use Rattle.std.specs.Prelude.{◌≡◌, ◌≢◌, ◌%◌, ℕ, ◌+◌, ◌<◌, ◌≤◌, Bool, Some, List, All, length, take, drop, sum_by, slice_get, slice_index}
 use Rattle.vt_base.specs.declared.place.Place.{Place}
 use Rattle.vt_disk.specs.Members.{DiskOf}
 use Rattle.vt_disk.specs.Disk.{WithinCall}
@@ -32,9 +32,9 @@ pub record IsSplit (committing : ℕ) (contents : List Content) : Type 0 where
   pub current : (a : Content) → slice_get contents committing ≡ Some a → a.sealed ≡ Bool.false
   pub behind : All IsUntouched (drop (committing + 1) contents)
 
--- an arena is filled by blocks of these lengths
-pub record IsFilledBy (lengths : List ℕ) (f : Filling) : Type 0 where
-  pub used : f.used ≡ sum_by block_room lengths
+-- an arena of this version is filled by blocks of these lengths
+pub record IsFilledBy (version : ℕ) (lengths : List ℕ) (f : Filling) : Type 0 where
+  pub used : f.used ≡ sum_by (block_room version) lengths
   pub clumps : f.clumps ≡ length lengths
 
 -- The disks, by what they read as and by their images, are sound for a log that has accepted this
@@ -70,7 +70,8 @@ pub record IsSoundLog {D : Type 0} (score_of : List ℕ → List ℕ) (disk : Di
   -- the blocks stand where the model puts them
   pub places : (i : ℕ) (place : Place) → slice_get l.queue.places i ≡ Some place
       → place_of (setup_of_log l) h (l.durable + i) ≡ Some (spot_of place)
-  pub filling : IsFilledBy (lengths_in l.filling.arena h) l.filling
+  pub filling : IsFilledBy (slice_index l.versions l.filling.arena)
+      (lengths_in l.filling.arena h) l.filling
   pub last : l.filling.arena ≡ current_arena (setup_of_log l) h
   pub arenas : All (λ e. e.arena ≤ l.filling.arena) h
 

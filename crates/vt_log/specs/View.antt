@@ -11,6 +11,7 @@ state_of l = record {
   tables = tables_of l.parts.items;
   layout = l.layout;
   heads = l.heads.items;
+  versions = l.versions.items;
   base = l.base;
   committing = l.committing;
   arena = l.arena;

@@ -1,6 +1,6 @@
 //! Walking a log from its last block to the first.
 
-ghost use Rattle.std.specs.Prelude.{◌≡◌, ◌≢◌, ◌↔◌, ◌⊎◌, ◌∷◌, ◌++◌, ◌+◌, ◌-◌, ◌<◌, ◌≤◌, ℕ, List, Some, None, Ok, Err, IsTrue, IfOk, IfErr, MatchOption, MatchResult, length, slice_get};
+ghost use Rattle.std.specs.Prelude.{◌≡◌, ◌≢◌, ◌↔◌, ◌⊎◌, ◌∷◌, ◌++◌, [], ◌+◌, ◌-◌, ◌<◌, ◌≤◌, ℕ, List, Some, None, Ok, Err, IsTrue, IfOk, IfErr, MatchOption, MatchResult, length, slice_get};
 ghost use Rattle.vt_base.specs.declared.place.Info.{Info};
 ghost use Rattle.vt_base.specs.declared.place.Place.{Place};
 ghost use Rattle.vt_clump.specs.declared.packed.Packed.{Packed};
@@ -10,7 +10,7 @@ ghost use Rattle.vt_part.specs.declared.layout.ArenaRegion.{ArenaRegion};
 ghost use Rattle.vt_arena.specs.declared.directory.At.{At};
 ghost use Rattle.vt_arena.specs.declared.head.Found.{Found};
 ghost use Rattle.vt_clump.specs.Spelling.{Stored};
-ghost use Rattle.vt_arena.specs.Directory.{last_entry, WalksEntry, IsInfoOfBlock, NamesDamage, is_back_fault, IsAtBlock};
+ghost use Rattle.vt_arena.specs.Directory.{what_is_walked, WalksOn, IsOnClump, IsInfoOfBlock, NamesDamage, is_back_fault, IsAtBlock};
 ghost use Rattle.vt_arena.specs.Layout.{Content, IsArenaContent, HasBlocks, arena_head};
 ghost use Rattle.vt_arena.specs.Places.{block_room};
 
@@ -31,7 +31,7 @@ pub struct Tail {
     queued: usize,
     /// The arena of the others that come next, if it has one left.
     arena: u32,
-    /// Where the walk stands in that arena's directory.
+    /// Where the walk stands in that arena.
     at: At,
 }
 
@@ -70,6 +70,7 @@ impl<D: Disk, S: Scorer> Log<D, S> {
         ensures whole { IsWholeLog D.Disk self.now }
         ensures tail { IsTailOf self.now result }
         ensures all { result.left ≡ front self.now }
+        ensures past { result.arena ≡ length self.now.heads }
         ensures behind { (h : History)
             → IsSoundLog S.score_of D.Disk self.now h
             → IsTailBehind self.now h (length h) result }
@@ -78,7 +79,11 @@ impl<D: Disk, S: Scorer> Log<D, S> {
             left: self.front(),
             queued: self.queue.len(),
             arena: self.heads.len() as u32,
-            at: At { index: 0, end: 0 },
+            at: At {
+                index: 0,
+                end: 0,
+                sectors: 0,
+            },
         }
     }
 
@@ -99,11 +104,12 @@ impl<D: Disk, S: Scorer> Log<D, S> {
     }
 
     /// What is known of the block that comes next on the way from the last to the first. None where
-    /// all were given. A queued one comes from the queue; else one directory entry is read, and
-    /// counted as one step.
+    /// all were given. A queued one comes from the queue; else one directory entry, or the header
+    /// that stands for it in an arena of version 2 that isn't sealed, is read, and counted as one
+    /// step.
     ///
-    /// Damaged says by what value the entry differs from what was wanted, and Fault that the device
-    /// call failed. The walk has as many blocks before it then as it had.
+    /// Damaged says by what value the entry or header differs from what was wanted, and Fault that
+    /// the device call failed. The walk has as many blocks before it then as it had.
     pub fn back<L: Ledger>(
         &mut self,
         tail: &mut Tail,
@@ -129,10 +135,10 @@ impl<D: Disk, S: Scorer> Log<D, S> {
         ensures entry { (arena : ℕ) (at : At) (found : Found) (r : ArenaRegion) (disk : D)
             → tail.old.queued ≡ 0 → IsNextEntry self.old.heads tail.old arena at
             → slice_get self.old.heads arena ≡ Some found → IsArenaAt self.old arena r disk
-            → (entry : List ℕ) × (IsTrue D.tells
-            → entry ≡ last_entry r.region at.index (D.bytes disk))
-            × GivesEntry arena tail.old.left found.head.used at entry result
-            × MovesBack arena at tail.new result }
+            → (bytes : List ℕ) × (IsTrue D.tells
+            → bytes ≡ what_is_walked found.head r.region at (D.bytes disk))
+            × GivesEntry arena tail.old.left found.head at bytes result
+            × MovesBack arena found.head at bytes tail.new result }
         ensures none { (result ≡ Ok None) ↔ (tail.old.left ≡ 0) }
 
         // The two values of a damage are of one form, and differ.
@@ -214,8 +220,8 @@ impl<D: Disk, S: Scorer> Log<D, S> {
         }
     }
 
-    /// What is known of the last block that is left in an arena. It fails where the directory can't
-    /// be read, or its entry can't stand there.
+    /// What is known of the last block that is left in an arena. It fails where its directory entry
+    /// or header can't be read, or can't stand there.
     fn back_in_arena(&mut self, tail: &mut Tail) -> Result<Option<Info>, BackBad>
         requires tail { IsTailOf self.old tail.old }
         requires queued { tail.old.queued ≡ 0 }
@@ -226,11 +232,11 @@ impl<D: Disk, S: Scorer> Log<D, S> {
             (λ bad. (bad ≡ BackBad.Fault) × IsTailBehind self.old h n tail.new) }
         ensures entry { (found : Found) (r : ArenaRegion) (disk : D)
             → slice_get self.old.heads tail.old.arena ≡ Some found
-            → IsArenaAt self.old tail.old.arena r disk → (entry : List ℕ)
-            × (IsTrue D.tells → entry ≡ last_entry r.region tail.old.at.index (D.bytes disk))
-            × GivesEntry tail.old.arena tail.old.left found.head.used tail.old.at entry result }
+            → IsArenaAt self.old tail.old.arena r disk → (bytes : List ℕ)
+            × (IsTrue D.tells → bytes ≡ what_is_walked found.head r.region tail.old.at (D.bytes disk))
+            × GivesEntry tail.old.arena tail.old.left found.head tail.old.at bytes result
+            × MovesBack tail.old.arena found.head tail.old.at bytes tail.new result }
         ensures differs { IfErr result NamesDamage }
-        ensures moved { MovesBack tail.old.arena tail.old.at tail.new result }
         ensures some { result ≢ Ok None }
         ensures tail { IsTailOf self.new tail.new }
         ensures left { MatchResult result (λ it. MatchOption it (tail.new.left ≡ tail.old.left)
@@ -254,29 +260,35 @@ impl<D: Disk, S: Scorer> Log<D, S> {
         }))
     }
 
-    /// What the directory of an arena says of the block at which a walk of it stands. It fails
-    /// where the directory can't be read, or its entry can't stand there.
+    /// What the directory of an arena says of the block at which a walk of it stands, or the block's
+    /// header. It fails where that can't be read, or can't stand there.
     fn read_entry(&mut self, arena: u32, at: &mut At) -> Result<Info, BackBad>
         requires arena { arena < length self.old.heads }
         requires some { 0 < at.old.index }
         requires head { (found : Found) → slice_get self.old.heads arena ≡ Some found
-            → (at.old.index ≤ found.head.clumps) × (at.old.end ≤ found.head.used) }
+            → (at.old.index ≤ found.head.clumps) × (at.old.end ≤ found.head.used)
+            × IsOnClump found.head at.old }
         ensures entry { (found : Found) (r : ArenaRegion) (disk : D)
             → slice_get self.old.heads arena ≡ Some found
-            → IsArenaAt self.old arena r disk → (entry : List ℕ)
-            × (IsTrue D.tells → entry ≡ last_entry r.region at.old.index (D.bytes disk))
-            × WalksEntry found.head.number found.head.used at.old entry result }
+            → IsArenaAt self.old arena r disk → (bytes : List ℕ)
+            × (IsTrue D.tells → bytes ≡ what_is_walked found.head r.region at.old (D.bytes disk))
+            × WalksOn found.head at.old at.new bytes result }
         ensures differs { IfErr result NamesDamage }
-        ensures moved { IfOk result (λ info. (at.new.index + 1 ≡ at.old.index)
-            × (at.new.end + block_room info.size ≡ at.old.end)) }
+        ensures moved { (found : Found) → slice_get self.old.heads arena ≡ Some found
+            → IfOk result (λ info. (at.new.index + 1 ≡ at.old.index)
+            × (at.new.end + block_room found.head.version info.size ≡ at.old.end)) }
+        ensures clump { (found : Found) → slice_get self.old.heads arena ≡ Some found
+            → IsOnClump found.head at.new }
         ensures stays { IfErr result (λ _. at.new ≡ at.old) }
         ensures committed { (found : Found) (r : ArenaRegion) (disk : D) (number : ℕ)
             (a : Content) (before behind : List Stored) (s : Stored) → IsTrue D.tells
             → slice_get self.old.heads arena ≡ Some found → IsArenaAt self.old arena r disk
-            → IsArenaContent S.score_of r.region.len a → HasBlocks r.region a.stored (D.bytes disk)
+            → IsArenaContent S.score_of r.region.len a → HasBlocks r.region a (D.bytes disk)
             → a.stored ≡ before ++ s ∷ behind → found.head ≡ arena_head S.score_of number a
-            → IsAtBlock before s at.old
-            → MatchResult result (IsInfoOfBlock number before s) (λ bad. bad ≡ BackBad.Fault) }
+            → IsAtBlock found.head before s at.old
+            → MatchResult result (λ info. IsInfoOfBlock found.head before s info
+            × ((first : List Stored) (t : Stored) → before ≡ first ++ t ∷ []
+            → IsAtBlock found.head first t at.new)) (λ bad. bad ≡ BackBad.Fault) }
         ensures reads { OnlyReadsLog S.score_of D.Disk 1 self.old self.new }
         ensures spares { (r : ArenaRegion) → slice_get self.old.layout arena ≡ Some r
             → Spares r.part self.old.disks self.new.disks }

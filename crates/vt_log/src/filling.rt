@@ -12,7 +12,7 @@ use vt_model::CLUMP_HEADER_LEN;
 pub(crate) struct Filling {
     /// The arena's number, over all partitions.
     pub arena: u32,
-    /// How many bytes its clumps are.
+    /// How many bytes its clumps take.
     pub used: u64,
     /// How many they are.
     pub clumps: u32,

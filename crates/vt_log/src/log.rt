@@ -1,7 +1,8 @@
 //! A log in memory: which arena it commits in, what is queued, and how full the arenas are.
 
-ghost use Rattle.std.specs.Prelude.{Bool, ◌≡◌, ◌↔◌, ◌+◌, ◌<◌, ◌≤◌, ◌^◌, Some, Err, Result, IsTrue, IsFalse, OnOk, IfSome, is_some, [], length, map, slice_get};
+ghost use Rattle.std.specs.Prelude.{Bool, ◌≡◌, ◌↔◌, ◌+◌, ◌<◌, ◌≤◌, ◌^◌, Some, Err, Result, IsTrue, IsFalse, OnOk, IfSome, is_some, [], length, map, slice_get, slice_index};
 ghost use Rattle.vt_disk.specs.Disk.{part as part_of};
+ghost use Rattle.vt_disk.specs.Region.{FitsDisk};
 ghost use Rattle.vt_clump.specs.Clumps.{IsPacked};
 ghost use Rattle.vt_model.specs.declared.TheConstants.{CLUMP_HEADER_LEN};
 ghost use Rattle.vt_model.specs.History.{History};
@@ -21,7 +22,7 @@ use vt_arena::{Arena, ArenaHead, Found, has_room};
 use vt_base::{Failed, Place, Score, Scorer};
 use vt_clump::Packed;
 use vt_disk::{CallCount, Disk};
-use vt_model::ARENA_HEAD_LEN;
+use vt_model::{ARENA_HEAD_LEN, SECTOR_VERSION, WRITTEN_VERSION};
 use vt_part::{ArenaRegion, Layout, Part};
 
 /// The arenas of all partitions as one log, in the order of the partitions, and a queue of at most
@@ -39,6 +40,9 @@ pub struct Log<D: Disk, S: Scorer> {
     pub(crate) layout: Layout,
     /// Each arena's head, as mounted or last committed. The selectors are those at mounting.
     pub(crate) heads: Vec<Found>,
+    /// Each arena's version, fixed at mounting: one without blocks counts as one of the version that
+    /// is written.
+    pub(crate) versions: Vec<u16>,
     /// The first arena that wasn't sealed at mounting, or the count of arenas.
     pub(crate) base: u32,
     /// The number of the arena that is committed in.
@@ -73,7 +77,8 @@ impl<D: Disk, S: Scorer> Log<D, S> {
     ghost use Rattle.vt_log.specs.Answers.{AppendsBlock, OnlyReadsLog, TakesOrRefuses, Spares};
     ghost use Rattle.vt_log.specs.Faults.{CountsFaults};
     ghost use Rattle.vt_log.specs.Log.{LogState, front, queued, setup_of_log, has_next, next_filling, fits_in};
-    ghost use Rattle.vt_log.specs.Sound.{IsSoundLog};
+    ghost use Rattle.vt_log.specs.Sound.{IsArenaAt, IsSoundLog};
+    ghost use Rattle.vt_log.specs.Whole.{IsHeadFor};
 
     /// How many arenas there are.
     pub fn arenas(&self) -> u32
@@ -98,7 +103,12 @@ impl<D: Disk, S: Scorer> Log<D, S> {
         ensures head { (found : Found) × (slice_get self.now.heads arena ≡ Some found)
             × (result ≡ found.head) }
         ensures fit { (r : ArenaRegion) → slice_get self.now.layout arena ≡ Some r
-            → result.used + directory_room result.clumps ≤ arena_room r.region.len }
+            → result.used + directory_room result.version result.clumps
+            ≤ arena_room r.region.len }
+        ensures stands { (r : ArenaRegion) → slice_get self.now.layout arena ≡ Some r
+            → IsHeadFor r result }
+        ensures within { (r : ArenaRegion) (disk : D) → IsArenaAt self.now arena r disk
+            → FitsDisk r.region (D.size disk) }
     {
         self.heads[arena as usize].head
     }
@@ -220,6 +230,10 @@ impl<D: Disk, S: Scorer> Log<D, S> {
         if self.fits(filling, n) {
             return Some(filling);
         }
+        if self.version(filling.arena) == SECTOR_VERSION {
+            // (no arena of version 2 is sealed)
+            return None;
+        }
         let arena = filling.arena.checked_add(1)?;
         let found = self.heads.get(arena as usize)?;
         let next = Filling::of(arena, &found.head);
@@ -228,11 +242,25 @@ impl<D: Disk, S: Scorer> Log<D, S> {
 
     /// Whether a block of `n` bytes fits behind what fills an arena.
     fn fits(&self, filling: Filling, n: u32) -> bool
-        ensures { result ≡ fits_in self.now.layout filling n }
+        ensures { result ≡ fits_in self.now.layout self.now.versions filling n }
     {
         match self.layout.as_slice().get(filling.arena as usize) {
-            Some(r) => has_room(r.region.len, filling.used, filling.clumps, n),
+            Some(r) => {
+                let len = r.region.len;
+                self.version(filling.arena) == WRITTEN_VERSION
+                    && has_room(WRITTEN_VERSION, len, filling.used, filling.clumps, n)
+            }
             None => false,
+        }
+    }
+
+    /// The version of an arena; 0 past the last one.
+    fn version(&self, arena: u32) -> u16
+        ensures { result ≡ slice_index self.now.versions arena }
+    {
+        match self.versions.get(arena as usize) {
+            Some(version) => *version,
+            None => 0,
         }
     }
 }

@@ -10,15 +10,16 @@ ghost use Rattle.vt_part.specs.Table.{arenas_end};
 ghost use Rattle.vt_part.specs.declared.layout.ArenaRegion.{ArenaRegion};
 ghost use Rattle.vt_part.specs.declared.part.Part.{Part};
 ghost use Rattle.vt_arena.specs.declared.head.Found.{Found};
-ghost use Rattle.vt_arena.specs.Faults.{CanStand};
+ghost use Rattle.vt_arena.specs.Arena.{version_counted};
+ghost use Rattle.vt_arena.specs.Faults.{CanStand, reads_to_find};
 ghost use Rattle.vt_arena.specs.Heads.{fields_of};
 ghost use Rattle.vt_arena.specs.Places.{IsArenaLen};
 ghost use Rattle.vt_log.specs.Answers.{HoldTheSame};
-ghost use Rattle.vt_log.specs.Faults.{AreFields, RefusesLogMount, CountsFaults, IsMountedBy, out_of_order, is_log_fault};
+ghost use Rattle.vt_log.specs.Faults.{AreReadAt, RefusesLogMount, CountsFaults, IsMountedBy, out_of_order, is_log_fault};
 ghost use Rattle.vt_log.specs.Formatting.{IsEmpty, WritesInHeads, StopsAtArena, StopsIn};
 ghost use Rattle.vt_log.specs.Log.{IsMountedLog, disks_of, disks_after};
 ghost use Rattle.vt_log.specs.Logs.{IsLog, arena_count};
-ghost use Rattle.vt_log.specs.Mounting.{TellsOfSettled, IsBeforeCalls, StopsSyncing, OnlyReadsParts, AreFieldsAt, FindsNext, arena_refusal, IsFoundArena, AreFound, RefusesArenas, ArePassed, IsFirstOpen, IsRoomFor};
+ghost use Rattle.vt_log.specs.Mounting.{TellsOfSettled, IsBeforeCalls, StopsSyncing, OnlyReadsParts, reads_to_find_all, MountsInCalls, AreFieldsAt, FindsNext, arena_refusal, IsFoundArena, AreFound, RefusesArenas, ArePassed, IsFirstOpen, IsRoomFor};
 ghost use Rattle.vt_log.specs.Queue.{no_queue};
 ghost use Rattle.vt_log.specs.Sound.{IsSoundLog, AreImagesOf};
 ghost use Rattle.vt_log.specs.Whole.{IsOnDisk, IsWholeLog};
@@ -28,7 +29,7 @@ use crate::filling::Filling;
 use crate::log::Log;
 use crate::queue::Queue;
 use std::alloc::{AllocError, Global};
-use vt_arena::{Arena, ArenaBad, ArenaHead, Field, Found, find};
+use vt_arena::{Arena, ArenaBad, ArenaHead, Field, Found, find, version_counted};
 use vt_base::{Failed, Score, Scorer};
 use vt_disk::{CallCount, Disk, LEAST_ARENA};
 use vt_part::{ArenaRegion, Layout, Part, PartBad};
@@ -107,14 +108,15 @@ pub fn mount<D: Disk, S: Scorer + Drop>(
     ensures layout { IfOk result (λ log. (log.layout ≡ layout_of (tables_of parts.items))
         × (log.tables ≡ tables_of parts.items)) }
 
-    // Each refusal comes exactly where its test is the first to fail.
+    // Each refusal comes exactly where its test is the first to fail. A log is mounted by a sync of
+    // each disk, and two reads of each arena or, by what its head says, three.
     ensures answer { (fields : List (List ℕ)) × (IsTrue D.tells
-        → AreFields (layout_of (tables_of parts.items)) (map D.bytes (disks_of parts.items)) fields)
+        → AreReadAt (layout_of (tables_of parts.items)) (map D.bytes (disks_of parts.items)) fields)
         × MatchResult result
         (IsMountedBy (names_of parts.items) (layout_of (tables_of parts.items)) fields)
-        (λ refusal. RefusesLogMount (names_of parts.items) (layout_of (tables_of parts.items))
-        fields
-        refusal.0) }
+        (λ it. RefusesLogMount (names_of parts.items) (layout_of (tables_of parts.items)) fields
+        it.0)
+        × IfOk result (MountsInCalls D.Disk parts.items fields) }
 
     // A refusal is told of disks that are settled, and nothing is read behind a failed sync.
     ensures told { IfErr result
@@ -127,7 +129,7 @@ pub fn mount<D: Disk, S: Scorer + Drop>(
     ensures disks { HoldTheSame D.Disk (disks_of parts.items) (disks_after result) }
     ensures most_calls { IsTrue D.tells → sum_by D.calls (disks_after result)
         ≤ sum_by D.calls (disks_of parts.items) + length parts.items
-        + 2 * arena_count (tables_of parts.items) }
+        + 3 * arena_count (tables_of parts.items) }
     ensures cause { CountsFaults D.Disk (λ refusal. is_log_fault refusal.0) result
         (disks_of parts.items) (disks_after result) }
 {
@@ -143,6 +145,8 @@ struct Opened {
     layout: Layout,
     /// Each arena's current head.
     heads: Vec<Found>,
+    /// Each arena's version, as it counts.
+    versions: Vec<u16>,
     /// The first arena that isn't sealed, or the count of arenas.
     base: u32,
     /// That one. Where every arena is sealed, it is one of no partition.
@@ -159,6 +163,7 @@ impl Opened {
     /// lost.
     fn into_log<D: Disk, S: Scorer>(self, parts: Vec<Part<D>>, scorer: S) -> Log<D, S>
         requires queue { self.queue ≡ no_queue }
+        requires versions { self.versions.items ≡ map (λ f. version_counted f.head) self.heads.items }
         requires whole { IsWholeLog D.Disk (found_log (disks_of parts.items) (tables_of parts.items)
             self.layout self.heads.items self.base self.arena) }
         ensures { result ≡ found_log (disks_of parts.items) (tables_of parts.items)
@@ -167,6 +172,7 @@ impl Opened {
         let Opened {
             layout,
             heads,
+            versions,
             base,
             arena,
             queue,
@@ -178,6 +184,7 @@ impl Opened {
             scorer,
             layout,
             heads,
+            versions,
             base,
             committing: base,
             arena,
@@ -209,21 +216,26 @@ fn find_log<D: Disk>(alloc: Global, parts: &mut [Part<D>]) -> Result<Opened, Log
     requires rooms { All (λ part. arenas_end (table_of part) ≤ D.size (disk_of part)) parts.old }
     ensures distinct { OnOk result (AreDistinct (names_of parts.old)) }
     ensures answer { (fields : List (List ℕ)) × (IsTrue D.tells
-        → AreFields (layout_of (tables_of parts.old)) (map D.bytes (disks_of parts.old)) fields)
+        → AreReadAt (layout_of (tables_of parts.old)) (map D.bytes (disks_of parts.old)) fields)
         × MatchResult result
         (λ it. ArePassed (layout_of (tables_of parts.old)) fields it.heads.items)
-        (λ bad. RefusesLogMount (names_of parts.old) (layout_of (tables_of parts.old)) fields bad) }
+        (λ bad. RefusesLogMount (names_of parts.old) (layout_of (tables_of parts.old)) fields bad)
+        × OnOk result (OnlyReadsParts D.Disk
+        (length parts.old + reads_to_find_all (layout_of (tables_of parts.old)) fields)
+        parts.old parts.new) }
     ensures found { IfOk result (λ it. AreFound D.tells (layout_of (tables_of parts.old))
         (map D.bytes (disks_of parts.old)) it.heads.items) }
     ensures layout { IfOk result (λ it. it.layout ≡ layout_of (tables_of parts.old)) }
     ensures base { IfOk result (λ it. IsFirstOpen it.heads.items it.base) }
     ensures arena { IfOk result
         (λ it. IsRoomFor (layout_of (tables_of parts.old)) it.heads.items it.base it.arena) }
+    ensures versions { IfOk result
+        (λ it. it.versions.items ≡ map (λ f. version_counted f.head) it.heads.items) }
     ensures queue { IfOk result (λ it. it.queue ≡ no_queue) }
     ensures settled { OnOk result (All (IsSynced D.Disk) (disks_of parts.new)) }
     ensures told { IfErr result (TellsOfSettled D.Disk parts.old parts.new) }
     ensures read { OnlyReadsParts D.Disk
-        (length parts.old + 2 * arena_count (tables_of parts.old)) parts.old parts.new }
+        (length parts.old + 3 * arena_count (tables_of parts.old)) parts.old parts.new }
     ensures cause { CountsFaults D.Disk is_log_fault result (disks_of parts.old)
         (disks_of parts.new) }
 {
@@ -274,12 +286,14 @@ fn find_all<D: Disk>(
     requires few { length layout.now < 2 ^ 32 }
     requires regions { All (IsOnDisk D.Disk (disks_of parts.old)) layout.now }
     ensures answer { (fields : List (List ℕ)) × (IsTrue D.tells
-        → AreFields layout.now (map D.bytes (disks_of parts.old)) fields)
+        → AreReadAt layout.now (map D.bytes (disks_of parts.old)) fields)
         × MatchResult result (λ heads. ArePassed layout.now fields heads.items)
-        (λ bad. RefusesArenas layout.now fields bad) }
+        (λ bad. RefusesArenas layout.now fields bad)
+        × OnOk result (OnlyReadsParts D.Disk (reads_to_find_all layout.now fields)
+        parts.old parts.new) }
     ensures found { IfOk result (λ heads. AreFound D.tells layout.now
         (map D.bytes (disks_of parts.old)) heads.items) }
-    ensures read { OnlyReadsParts D.Disk (2 * length layout.now) parts.old parts.new }
+    ensures read { OnlyReadsParts D.Disk (3 * length layout.now) parts.old parts.new }
     ensures cause { CountsFaults D.Disk is_log_fault result (disks_of parts.old)
         (disks_of parts.new) }
 {
@@ -308,10 +322,12 @@ fn find_next<D: Disk>(
     requires { IsOnDisk D.Disk (disks_of parts.old) r }
     ensures answer { (fields : List ℕ)
         × (IsTrue D.tells → AreFieldsAt (map D.bytes (disks_of parts.old)) r fields)
-        × FindsNext behind arena r fields result }
+        × FindsNext behind arena r fields result
+        × OnOk result (OnlyReadsParts D.Disk (reads_to_find r.number r.region.len fields)
+        parts.old parts.new) }
     ensures found { IfOk result (λ found. (disk : D) → slice_get (disks_of parts.old) r.part
         ≡ Some disk → IsFoundArena D.tells r (D.bytes disk) found) }
-    ensures read { OnlyReadsParts D.Disk 2 parts.old parts.new }
+    ensures read { OnlyReadsParts D.Disk 3 parts.old parts.new }
     ensures cause { CountsFaults D.Disk is_log_fault result (disks_of parts.old)
         (disks_of parts.new) }
 {
@@ -327,10 +343,12 @@ fn find_arena<D: Disk>(parts: &mut [Part<D>], r: ArenaRegion, arena: u32) -> Res
     requires { IsOnDisk D.Disk (disks_of parts.old) r }
     ensures answer { (fields : List ℕ)
         × (IsTrue D.tells → AreFieldsAt (map D.bytes (disks_of parts.old)) r fields)
-        × FindsNext Bool.false arena r fields result }
+        × FindsNext Bool.false arena r fields result
+        × OnOk result (OnlyReadsParts D.Disk (reads_to_find r.number r.region.len fields)
+        parts.old parts.new) }
     ensures found { IfOk result (λ found. (disk : D) → slice_get (disks_of parts.old) r.part
         ≡ Some disk → IsFoundArena D.tells r (D.bytes disk) found) }
-    ensures read { OnlyReadsParts D.Disk 2 parts.old parts.new }
+    ensures read { OnlyReadsParts D.Disk 3 parts.old parts.new }
     ensures cause { CountsFaults D.Disk is_log_fault result (disks_of parts.old)
         (disks_of parts.new) }
 {
@@ -386,6 +404,8 @@ fn make_room(alloc: Global, layout: Layout, heads: Vec<Found>) -> Result<Opened,
     ensures heads { IfOk result (λ it. it.heads.items ≡ heads.items) }
     ensures base { IfOk result (λ it. IsFirstOpen heads.items it.base) }
     ensures arena { IfOk result (λ it. IsRoomFor layout heads.items it.base it.arena) }
+    ensures versions { IfOk result
+        (λ it. it.versions.items ≡ map (λ f. version_counted f.head) heads.items) }
     ensures queue { IfOk result (λ it. it.queue ≡ no_queue) }
     ensures memory { IfErr result (λ bad. bad ≡ LogBad.NoMemory) }
 {
@@ -396,13 +416,32 @@ fn make_room(alloc: Global, layout: Layout, heads: Vec<Found>) -> Result<Opened,
     let Ok(queue) = Queue::new(alloc) else {
         return Err(LogBad::NoMemory);
     };
+    let versions = versions_of(alloc, &heads)?;
     Ok(Opened {
         layout,
         heads,
+        versions,
         base: base as u32,
         arena,
         queue,
     })
+}
+
+/// The version of each arena: one without blocks counts as one of the version that is written.
+fn versions_of(alloc: Global, heads: &[Found]) -> Result<Vec<u16>, LogBad>
+    ensures versions { IfOk result
+        (λ it. it.items ≡ map (λ f. version_counted f.head) heads.now) }
+    ensures memory { IfErr result (λ bad. bad ≡ LogBad.NoMemory) }
+{
+    let Ok(mut versions) = Vec::with_capacity(alloc, heads.len()) else {
+        return Err(LogBad::NoMemory);
+    };
+    for found in heads {
+        let Ok(()) = versions.push(version_counted(&found.head)) else {
+            return Err(LogBad::NoMemory);
+        };
+    }
+    Ok(versions)
 }
 
 /// The number of the first arena that isn't sealed, or their count.
@@ -449,6 +488,7 @@ fn no_arena() -> Found
             clumps: 0,
             used: 0,
             chain: Score([0; 20]),
+            last: 0,
         },
         selector: 0,
     }

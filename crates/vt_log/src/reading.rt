@@ -116,8 +116,8 @@ impl<D: Disk, S: Scorer> Log<D, S> {
         ensures committed { (r : ArenaRegion) (disk : D) (a : Content)
             (before behind : List Stored) (s : Stored) → IsTrue D.tells
             → IsArenaAt self.old place.arena r disk → IsArenaContent S.score_of r.region.len a
-            → HasBlocks r.region a.stored (D.bytes disk) → a.stored ≡ before ++ s ∷ behind
-            → place.offset ≡ offset_of before → MatchResult result (IsClumpRead s)
+            → HasBlocks r.region a (D.bytes disk) → a.stored ≡ before ++ s ∷ behind
+            → place.offset ≡ offset_of a.version before → MatchResult result (IsClumpRead s)
             (λ bad. (bad ≡ ReadBad.Fault) ⊎ (bad ≡ ReadBad.NoMemory)) }
         ensures whole { IfOk result (λ clump. length clump.bytes ≤ MAX_BLOCK) }
         ensures cost { (r : ArenaRegion) → slice_get self.old.layout place.arena ≡ Some r

@@ -427,7 +427,7 @@ const ROOMS: [(u64, u32, u32, bool); 5] = [
 fn see_rooms() -> Rows {
     let mut rows = Rows::new();
     for (row, (used, clumps, n, fits)) in ROOMS.iter().enumerate() {
-        let is_it = has_room(32_768, *used, *clumps, *n) == *fits;
+        let is_it = has_room(1, 32_768, *used, *clumps, *n) == *fits;
         rows.nth(row, "a block has room", is_it);
     }
     rows
@@ -617,14 +617,22 @@ fn tear<T: TestArena>(alloc: Global, choice: &[u16], fails: bool) -> Rows {
         Act::Stop(63, fails),
         Act::Stopped(stop),
     ];
-    let start = At { index: 1, end: 41 };
+    let start = At {
+        index: 1,
+        end: 41,
+        sectors: 0,
+    };
     let then = [
         Act::Read(24_576, b"abc"),
         Act::Start(start),
         Act::Back(
             start,
             Some(Ok(info_of(b"abc", 0, 24_576))),
-            At { index: 0, end: 0 },
+            At {
+                index: 0,
+                end: 0,
+                sectors: 0,
+            },
         ),
     ];
     run_on::<T>(alloc, failing, &acts, Crash::Choice(choice), &then)
@@ -664,7 +672,7 @@ type BadHead = (u64, [u8; 8], Option<(Field, u128, u128)>);
 
 const HEADS: [BadHead; 7] = [
     (0, *b"VARM\0\0\0\0", None),
-    (4, *b"\0\x02\0\0\0\x04\x02\0", Some((Field::Version, 2, 1))),
+    (4, *b"\0\x03\0\0\0\x04\x02\0", Some((Field::Version, 3, 2))),
     (6, *b"\0\0\0\x04\x02\0\0\0", Some((Field::Number, 4, 3))),
     (10, *b"\x02\0\0\x01\x48\0\0\0", Some((Field::Sealed, 2, 1))),
     (
@@ -856,10 +864,26 @@ fn info_of(block: &[u8], number: u64, offset: u32) -> Info {
 
 /// A directory of three blocks is walked.
 fn walk_three<T: TestArena>(alloc: Global) -> Rows {
-    let third = At { index: 3, end: 120 };
-    let second = At { index: 2, end: 79 };
-    let first = At { index: 1, end: 39 };
-    let none = At { index: 0, end: 0 };
+    let third = At {
+        index: 3,
+        end: 120,
+        sectors: 0,
+    };
+    let second = At {
+        index: 2,
+        end: 79,
+        sectors: 0,
+    };
+    let first = At {
+        index: 1,
+        end: 39,
+        sectors: 0,
+    };
+    let none = At {
+        index: 0,
+        end: 0,
+        sectors: 0,
+    };
     let acts = [
         Act::Stage(b"a", 1, 1),
         Act::Stage(b"bc", 1, 1),
@@ -926,12 +950,66 @@ fn each_read_fails(rt: HostRuntime) -> Result<(), Fail> {
 /// Where a walk stands, the bytes with which the entry there begins, and what is wanted and found
 /// in it.
 const ENTRIES: [(At, [u8; 5], u128, u128); 6] = [
-    (At { index: 3, end: 120 }, [0, 0, 3, 0, 3], 13, 0),
-    (At { index: 3, end: 120 }, [13, 0, 0, 0, 0], 1, 0),
-    (At { index: 3, end: 120 }, [13, 0xe0, 1, 0xe0, 1], 1, 57_345),
-    (At { index: 3, end: 120 }, [13, 0, 3, 0, 4], 3, 4),
-    (At { index: 3, end: 120 }, [13, 0, 83, 0, 83], 120, 121),
-    (At { index: 1, end: 39 }, [13, 0, 2, 0, 2], 120, 121),
+    (
+        At {
+            index: 3,
+            end: 120,
+            sectors: 0,
+        },
+        [0, 0, 3, 0, 3],
+        13,
+        0,
+    ),
+    (
+        At {
+            index: 3,
+            end: 120,
+            sectors: 0,
+        },
+        [13, 0, 0, 0, 0],
+        1,
+        0,
+    ),
+    (
+        At {
+            index: 3,
+            end: 120,
+            sectors: 0,
+        },
+        [13, 0xe0, 1, 0xe0, 1],
+        1,
+        57_345,
+    ),
+    (
+        At {
+            index: 3,
+            end: 120,
+            sectors: 0,
+        },
+        [13, 0, 3, 0, 4],
+        3,
+        4,
+    ),
+    (
+        At {
+            index: 3,
+            end: 120,
+            sectors: 0,
+        },
+        [13, 0, 83, 0, 83],
+        120,
+        121,
+    ),
+    (
+        At {
+            index: 1,
+            end: 39,
+            sectors: 0,
+        },
+        [13, 0, 2, 0, 2],
+        120,
+        121,
+    ),
 ];
 
 /// A walk of a directory of three blocks refuses an entry that begins with these bytes, and stays.

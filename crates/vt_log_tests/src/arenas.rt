@@ -55,7 +55,7 @@ pub trait TestArena: Drop {
     /// Makes one call of a commit.
     fn step(&mut self) -> Result<Step, TwinErr>;
 
-    /// Lets the next commit seal the arena.
+    /// Lets the next commit seal the arena, which takes more until then.
     fn begin_seal(&mut self) -> bool;
 
     /// The arena that stands on the disk.
@@ -71,7 +71,7 @@ pub trait TestArena: Drop {
     /// read.
     fn block(&mut self, alloc: Global, offset: u64, size: u16) -> Result<Clump, ReadBad>;
 
-    /// What the directory says where a walk stands, while it isn't at its end.
+    /// What the directory of an arena of version 1 says where a walk stands, while it isn't at its end.
     fn walk(&mut self, at: &mut At) -> Option<Result<Info, BackBad>>;
 
     /// Writes over the disk, from a place of the region on.
@@ -139,7 +139,7 @@ impl<D: TestDisk> TestArena for Rig<D> {
 
     fn begin_seal(&mut self) -> bool {
         let arena = &mut self.arena;
-        if arena.is_committing() {
+        if arena.is_committing() || !arena.fits(0) {
             return false;
         }
         arena.seal();
@@ -175,7 +175,7 @@ impl<D: TestDisk> TestArena for Rig<D> {
 
     fn walk(&mut self, at: &mut At) -> Option<Result<Info, BackBad>> {
         let head = self.arena.head();
-        if at.index == 0 || at.index > head.clumps || at.end > head.used {
+        if head.version != 1 || at.index == 0 || at.index > head.clumps || at.end > head.used {
             return None;
         }
         Some(info(&mut self.disk, REGION, &head, at))

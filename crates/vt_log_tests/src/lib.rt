@@ -11,3 +11,7 @@ mod disks;
 mod log;
 #[cfg(test)]
 mod logs;
+#[cfg(test)]
+mod version_two;
+#[cfg(test)]
+mod version_two_logs;

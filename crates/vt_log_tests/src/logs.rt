@@ -31,6 +31,14 @@ pub struct Told {
     pub is_full: bool,
 }
 
+/// Bytes that are written from a place of an arena's region on.
+#[derive(Clone, Copy)]
+pub struct Write<'a> {
+    pub arena: u32,
+    pub at: u64,
+    pub bytes: &'a [u8],
+}
+
 /// A log with which a test does something. What a test does is proved for any such log, which is much
 /// less work than for the real one, and runs on that.
 ///
@@ -52,10 +60,16 @@ pub trait TestLog: Drop {
     /// One on one partition is mounted again, behind a crash if there is one.
     fn again(self, alloc: Global, crash: Crash<'_>) -> Option<Self>;
 
+    /// One on one partition is mounted again, with these bytes in its arenas.
+    fn with(self, alloc: Global, writes: &[Write<'_>]) -> Option<Self>;
+
     fn told(&self) -> Told;
 
     /// Whether an arena is sealed, and how many blocks it has.
     fn head_of(&self, arena: u32) -> Option<(bool, u32)>;
+
+    /// The version of an arena's head.
+    fn version(&self, arena: u32) -> Option<u16>;
 
     /// Takes a block in: its place, or that there is no room for it. None says too that a place is
     /// given where there is no room, or the other way round.
@@ -73,6 +87,9 @@ pub trait TestLog: Drop {
 
     /// Whether a walk's first step fails and leaves as many blocks.
     fn stays(&mut self) -> bool;
+
+    /// How many blocks a walk gives before a step fails, and why that does.
+    fn stops(&mut self) -> Option<(u64, BackBad)>;
 
     /// The clump of three bytes at the start of the first arena.
     fn first_clump(&mut self) -> Option<Result<[u8; 41], Failed>>;
@@ -116,6 +133,16 @@ impl<D: TestDisk, S: TestScorer> TestLog for Log<D, S> {
         opened(alloc, left(disk, crash))
     }
 
+    fn with(self, alloc: Global, writes: &[Write<'_>]) -> Option<Self> {
+        let mut part = self.into_devices().pop()?;
+        for write in writes {
+            if !is_written(&mut part, *write) {
+                return None;
+            }
+        }
+        opened(alloc, part.into_devices())
+    }
+
     fn told(&self) -> Told {
         Told {
             front: self.front(),
@@ -131,6 +158,13 @@ impl<D: TestDisk, S: TestScorer> TestLog for Log<D, S> {
         }
         let head = self.head(arena);
         Some((head.sealed, head.clumps))
+    }
+
+    fn version(&self, arena: u32) -> Option<u16> {
+        if arena >= self.arenas() {
+            return None;
+        }
+        Some(self.head(arena).version)
     }
 
     fn add(&mut self, packed: Packed) -> Option<Option<Place>> {
@@ -166,6 +200,10 @@ impl<D: TestDisk, S: TestScorer> TestLog for Log<D, S> {
 
     fn stays(&mut self) -> bool {
         fails_back::<D, S, Brand>(self, Blank::new(1))
+    }
+
+    fn stops(&mut self) -> Option<(u64, BackBad)> {
+        stops_back::<D, S, Brand>(self, Blank::new(1))
     }
 
     fn first_clump(&mut self) -> Option<Result<[u8; 41], Failed>> {
@@ -213,6 +251,17 @@ fn is_made<D: Disk>(alloc: Global, disk: &mut D, name: &[u8]) -> bool {
         }
         Err(_) => false,
     }
+}
+
+/// Whether these bytes are written into an arena of a partition.
+fn is_written<D: Disk>(part: &mut Part<D>, write: Write<'_>) -> bool {
+    let Write { arena, at, bytes } = write;
+    if arena >= part.count() {
+        return false;
+    }
+    let place = part.region(arena).start.saturating_add(at);
+    let len = part.disk.len();
+    place <= len && bytes.len() as u64 <= len - place && part.disk.write_at(place, bytes) == Ok(())
 }
 
 /// A disk that is made a partition of this name, whose arenas have no blocks.
@@ -309,4 +358,35 @@ fn fails_back<D: Disk, S: Scorer, L: Ledger>(log: &mut Log<D, S>, blank: Blank) 
     let mut steps = Steps::<L>::new(blank);
     let mut tail = log.tail();
     log.back(&mut tail, &mut steps) == Err(BackBad::Fault) && tail.left() == log.front()
+}
+
+/// How many blocks a walk gives before a step fails, and why that does. None says that none fails.
+fn stops_back<D: Disk, S: Scorer, L: Ledger>(
+    log: &mut Log<D, S>,
+    blank: Blank,
+) -> Option<(u64, BackBad)>
+    requires name { blank.name ≡ L.name }
+    requires parts { blank.parts ≡ L.parts }
+    requires some { 0 < L.parts }
+{
+    let mut steps = Steps::<L>::new(blank);
+    let mut tail = log.tail();
+    for given in 0..tail.left() {
+        if let Some(bad) = step_fails(log, &mut tail, &mut steps) {
+            return Some((given, bad));
+        }
+    }
+    None
+}
+
+/// Why a step of a walk fails, if it does.
+fn step_fails<D: Disk, S: Scorer, L: Ledger>(
+    log: &mut Log<D, S>,
+    tail: &mut Tail,
+    steps: &mut Steps<L>,
+) -> Option<BackBad>
+    requires { IsTailOf log.old tail.old }
+    ensures { IsTailOf log.new tail.new }
+{
+    log.back(tail, steps).err()
 }

@@ -23,7 +23,7 @@ use Rattle.vt_recover.proofs.OpenWork.{opened_faults, opened_held}
 use Rattle.vt_disk.specs.Members.{DiskOf}
 use Rattle.vt_isect.specs.Section.{SectionState}
 use Rattle.vt_log.specs.Answers.{HoldTheSame}
-use Rattle.vt_log.specs.Faults.{AreFields, OneHasRisen, RefusesLogMount, is_log_fault}
+use Rattle.vt_log.specs.Faults.{AreReadAt, OneHasRisen, RefusesLogMount, is_log_fault}
 use Rattle.vt_log.specs.Log.{LogState, disks_of}
 use Rattle.vt_log.specs.Logs.{IsLog}
 use Rattle.vt_log.specs.declared.error.LogBad.{LogBad}
@@ -141,7 +141,7 @@ module _ {D : Type 0} (disk : DiskOf D) where
   pub refused_log : (score : List ℕ → List ℕ) (devices : Devices D) (why : LogBad) (bad : MountBad) (back : Devices D)
       → devices_in back ≡ with_log (disks_of back.parts.items) devices.sections.items devices.filter → tables_in back ≡ tables_in devices
       → bad ≡ of_log (layout_of (tables_in devices)) why
-      → (fields : List (List ℕ)) → (IsTrue disk.tells → AreFields (layout_of (tables_in devices)) (map disk.bytes (disks_of devices.parts.items)) fields)
+      → (fields : List (List ℕ)) → (IsTrue disk.tells → AreReadAt (layout_of (tables_in devices)) (map disk.bytes (disks_of devices.parts.items)) fields)
       → RefusesLogMount (map (λ t. t.name) (tables_in devices)) (layout_of (tables_in devices)) fields why
       → HoldTheSame disk (disks_of devices.parts.items) (disks_of back.parts.items)
       → MatchBool (is_log_fault why) (OneHasRisen (map disk.faults (disks_of devices.parts.items)) (map disk.faults (disks_of back.parts.items)))

@@ -22,9 +22,9 @@ use Rattle.vt_disk.specs.Calls.{IsSynced}
 use Rattle.vt_disk.specs.Members.{DiskOf}
 use Rattle.vt_isect.specs.Section.{SectionState}
 use Rattle.vt_log.specs.Answers.{HoldTheSame, OnlyReadsLog}
-use Rattle.vt_log.specs.Faults.{AreFields, CountsFaults, IsMountedBy, OneHasRisen}
+use Rattle.vt_log.specs.Faults.{AreReadAt, CountsFaults, IsMountedBy, OneHasRisen}
 use Rattle.vt_log.specs.Log.{LogState, disks_of, front, queued}
-use Rattle.vt_log.specs.Logs.{arena_count}
+use Rattle.vt_log.specs.Mounting.{reads_to_find_all}
 use Rattle.vt_log.specs.Queue.{QueueState}
 use Rattle.vt_log.proofs.AreFound.{hold_then, settled_held}
 use Rattle.vt_model.specs.History.{History}
@@ -195,9 +195,9 @@ module _ {D : Type 0} (score : List ℕ → List ℕ) (disk : DiskOf D) (devices
         fields = found.read.fields;
         mounted = subst (λ (l : List ArenaRegion). IsMountedBy (map (λ t. t.name) log.tables) l
             found.read.fields log) layout found.read.mounted;
-        fields_are = subst (λ (l : List ArenaRegion). AreFields l (map disk.bytes log.disks)
+        fields_are = subst (λ (l : List ArenaRegion). AreReadAt l (map disk.bytes log.disks)
             found.read.fields) layout
-            (subst (λ (files : List (List ℕ)). AreFields (layout_of log.tables) files
+            (subst (λ (files : List (List ℕ)). AreReadAt (layout_of log.tables) files
             found.read.fields) (sym found.held.bytes_are) (found.read.read tells));
       }
 
@@ -220,21 +220,19 @@ module _ {D : Type 0} (score : List ℕ → List ℕ) (disk : DiskOf D) (devices
 
     few_calls : IsTrue disk.tells → sum_by disk.calls (disks_of back.parts.items)
         ≤ sum_by disk.calls before + length devices.parts.items
-        + 2 * arena_count (tables_in devices) + 2 * log.durable
+        + reads_to_find_all (layout_of log.tables) opened.log_is.found.read.fields
+        + 2 * log.durable
     few_calls tells =
         let back_are : sum_by disk.calls (disks_of back.parts.items) ≡ sum_by disk.calls log'.disks =
         ap (sum_by disk.calls) checked_parts in
         let many : length before ≡ length devices.parts.items =
         length-map devices.parts.items (λ part. disk_of part) in
-        let arenas : arena_count log.tables ≡ arena_count (tables_in devices) =
-        ap arena_count opened.log_is.tables in
         omega (
           arith,
           back_are,
           reads.calls tells,
-          found.calls tells,
+          opened.log_is.found.calls tells,
           many,
-          arenas,
           found.mounted.durable,
         )
 

@@ -18,6 +18,7 @@ use Rattle.vt_recover.specs.Opening.{IsFoundSection}
 use Rattle.vt_core.specs.Stands.{ArePartitions, FilterStandsFor, StandsFor}
 use Rattle.vt_recover.specs.Sections.{SectionStandsFor, section_buckets}
 use Rattle.vt_core.proofs.Beside.{all_from}
+use Rattle.vt_core.proofs.LogVersions.{versions_read}
 use Rattle.vt_recover.proofs.Lists.{at_map, index_map, same_lists}
 use Rattle.vt_recover.proofs.Zips.{zip_beside, zip_length}
 use Rattle.vt_disk.specs.Calls.{IsSynced}
@@ -27,7 +28,7 @@ use Rattle.vt_isect.specs.declared.head.Head.{Head}
 use Rattle.vt_isect.specs.Layout.{IsSection, buckets_in}
 use Rattle.vt_isect.specs.Section.{SectionState}
 use Rattle.vt_log.specs.Log.{LogState, disks_of, filled_as}
-use Rattle.vt_log.specs.Logs.{IsLog, arena_count, versions_of}
+use Rattle.vt_log.specs.Logs.{AreArenas, IsLog, arena_count, versions_of}
 use Rattle.vt_log.specs.Sound.{AreImagesOf, IsSoundLog}
 use Rattle.vt_log.specs.declared.filling.Filling.{Filling}
 use Rattle.vt_log.proofs.Lists.{at_slice, slice_get_other}
@@ -93,6 +94,7 @@ module _ {D : Type 0} (disk : DiskOf D) (score : List ℕ → List ℕ) (tells :
     (g : History) (base : ℕ)
     (log_is : IsLog score (layout_of (tables_in devices))
     (map disk.bytes (disks_of devices.parts.items)) g base)
+    (versions_are : c.versions ≡ versions_of log_is.contents)
     (are : ArePartitions (tables_in devices) (map disk.bytes (disks_of devices.parts.items)))
     (sections : List ℕ) (legal : IsLegal score (record c { base = base; sections = sections }) g)
     (filter_is : All (λ d. (file : List ℕ) → disk.images d file → FilterStandsFor score g file)
@@ -120,6 +122,21 @@ module _ {D : Type 0} (disk : DiskOf D) (score : List ℕ → List ℕ) (tells :
   found = done.opened.log_is.found.found g base tells
       (subst (λ (t : List Table). IsLog score (layout_of t)
       (map disk.bytes (disks_of devices.parts.items)) g base) (sym same_tables_) log_is)
+
+  -- the log has the arenas' versions
+  versions_here : log.versions ≡ versions_of log_is.contents
+  versions_here =
+      let files = map disk.bytes (disks_of devices.parts.items) in
+      let own : IsLog score (layout_of log.tables) files g base = record {
+        contents = log_is.contents;
+        arenas = subst (λ (t : List Table). AreArenas score (layout_of t) files log_is.contents)
+            (sym same_tables_) log_is.arenas;
+        order = log_is.order;
+        history = log_is.history;
+        base_is = log_is.base_is;
+      } in
+      versions_read score disk (disks_of devices.parts.items) log devices.sections.items
+      devices.filter done.opened.log_is.found tells read g base own
 
   history : HasHistory score disk log g
   history = record { tells = tells; sound = found.0; keys = legal.keys }
@@ -168,14 +185,13 @@ module _ {D : Type 0} (disk : DiskOf D) (score : List ℕ → List ℕ) (tells :
       done.opened.log_is.found.layout ∙ ap layout_of same_tables_ in
       let arenas : c.arenas ≡ map (λ r. r.region.len) log.layout =
       setup.arenas ∙ ap (map (λ (r : ArenaRegion). r.region.len)) (sym layout) in
-      let versions : c.versions ≡ versions_of log.layout =
-      setup.versions ∙ ap (λ (rs : List ArenaRegion). versions_of rs) (sym layout) in
+      let versions : c.versions ≡ log.versions = versions_are ∙ sym versions_here in
       let first : base ≡ log.base = sym found.1 in
       let counts : c.sections ≡ counts_of olds = sym counts_are in
       let put : List ℕ → List ℕ → ℕ → List ℕ → Setup =
       λ a v b s. record { arenas = a; versions = v; base = b; sections = s } in
       let e : put c.arenas c.versions base c.sections
-      ≡ put (map (λ r. r.region.len) log.layout) (versions_of log.layout) log.base
+      ≡ put (map (λ r. r.region.len) log.layout) log.versions log.base
       (counts_of olds) = cc in
       e
 
@@ -276,9 +292,15 @@ module _ {D : Type 0} (disk : DiskOf D) (score : List ℕ → List ℕ) (tells :
         partitions = subst (ArePartitions tables) (sym parts) are;
         log = record {
           base = base;
-          log = subst (λ (l : List (List ℕ)). IsLog score (layout_of tables) l (take (length g) g) base)
-              (sym parts) (subst (λ (h : History). IsLog score (layout_of tables)
-              (map disk.bytes (disks_of devices.parts.items)) h base) (sym whole) log_is);
+          log = record {
+            contents = log_is.contents;
+            arenas = subst (λ (l : List (List ℕ)). AreArenas score (layout_of tables) l
+                log_is.contents) (sym parts) log_is.arenas;
+            order = log_is.order;
+            history = whole ∙ log_is.history;
+            base_is = log_is.base_is;
+          };
+          versions = versions_here;
           least = omega (arith, current);
           most = omega (arith, current_is);
         };
@@ -305,11 +327,7 @@ module _ {D : Type 0} (disk : DiskOf D) (score : List ℕ → List ℕ) (tells :
   pub stands_for_all : IsLogOf score disk tables (devices_in back) (record c { base = base }) g g base
   stands_for_all = record {
     legal = legal_now;
-    setup = record {
-      arenas = setup.arenas;
-      versions = setup.versions;
-      sections = setup.sections;
-    };
+    setup = record { arenas = setup.arenas; sections = setup.sections };
     each = subst (λ (m : Setup). EachStands score disk m tables 0 (devices_in back) g) (sym setup_is)
         (λ files images. record {
           n = length g;
@@ -404,6 +422,7 @@ module _ {D : Type 0} (disk : DiskOf D) (score : List ℕ → List ℕ) (told : 
       (are : ArePartitions tables (map disk.bytes devices.partitions))
       (log_is : IsLog score (layout_of tables) (map disk.bytes devices.partitions) g base)
       (setup : IsSetupOf disk tables back c)
+      (versions_are : c.versions ≡ versions_of log_is.contents)
       (legal : IsLegal score (record c { base = base; sections = sections }) g)
       (filter_is : All (λ d. (file : List ℕ) → disk.images d file → FilterStandsFor score g file)
       devices.filter) where
@@ -419,11 +438,17 @@ module _ {D : Type 0} (disk : DiskOf D) (score : List ℕ → List ℕ) (told : 
     setup_here = subst (λ (p : PerDevice D). IsSetupOf disk (tables_in on.devices) p c) back_is
         (subst (λ (t : List Table). IsSetupOf disk t back c) tables_are_ setup)
 
-    log_here : IsLog score (layout_of (tables_in on.devices))
+    abbrev log_here : IsLog score (layout_of (tables_in on.devices))
         (map disk.bytes (disks_of on.devices.parts.items)) g base
-    log_here = subst (λ (l : List (List ℕ)). IsLog score (layout_of (tables_in on.devices)) l g base)
-        (sym parts_hold) (subst (λ (t : List Table). IsLog score (layout_of t)
-        (map disk.bytes devices.partitions) g base) tables_are_ log_is)
+    log_here = record {
+      contents = log_is.contents;
+      arenas = subst (λ (l : List (List ℕ)). AreArenas score (layout_of (tables_in on.devices)) l
+          log_is.contents) (sym parts_hold) (subst (λ (t : List Table). AreArenas score (layout_of t)
+          (map disk.bytes devices.partitions) log_is.contents) tables_are_ log_is.arenas);
+      order = log_is.order;
+      history = log_is.history;
+      base_is = log_is.base_is;
+    }
 
     are_here : ArePartitions (tables_in on.devices)
         (map disk.bytes (disks_of on.devices.parts.items))
@@ -442,11 +467,11 @@ module _ {D : Type 0} (disk : DiskOf D) (score : List ℕ → List ℕ) (told : 
         × KeepsLimits tables c
     can_be_opened =
         let of = stands_for_all disk score tells read fit blocks on.devices on.back some_section
-        on.does c setup_here g base log_here are_here sections legal filter_here in
+        on.does c setup_here g base log_here versions_are are_here sections legal filter_here in
         let limits = limits_kept disk score tells read fit blocks on.devices on.back some_section
-        on.does c setup_here g base log_here are_here sections legal filter_here in (
+        on.does c setup_here g base log_here versions_are are_here sections legal filter_here in (
           blocks_are disk score tells read fit blocks on.devices on.back some_section
-              on.does c setup_here g base log_here are_here sections legal filter_here,
+              on.does c setup_here g base log_here versions_are are_here sections legal filter_here,
           subst (λ (p : PerDevice D). IsLogOf score disk tables p C g g base) (sym back_is)
               (subst (λ (t : List Table). IsLogOf score disk t (devices_in on.back) C g g base)
               (sym tables_are_) of),

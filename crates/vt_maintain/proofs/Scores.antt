@@ -6,16 +6,17 @@ use Rattle.std.specs.List.{AllByRecursion}
 use Rattle.std.proofs.lemmas.Bool.{cases_lt}
 use Rattle.std.proofs.lemmas.Bool.Decides.{eqb_tells}
 use Rattle.std.proofs.lemmas.List.{get_or-append-add, get_or-drop, get_or_append_left, get_or_past}
-use Rattle.std.proofs.lemmas.List.Concat.{flat_map-cons}
 use Rattle.std.proofs.lemmas.List.Elements.{recursion_from_All}
 use Rattle.std.proofs.lemmas.List.Sums.{sum_by-cons}
-use Rattle.vt_arena.specs.Layout.{Content, clumps_of}
+use Rattle.vt_arena.specs.Layout.{ClumpsStandAt, Content}
+use Rattle.vt_arena.specs.Places.{block_room}
 use Rattle.vt_arena.proofs.Clumps.{taken_bytes}
 use Rattle.vt_base.specs.Bytes.{AreBytes}
 use Rattle.vt_clump.specs.Spelling.{IsStoredBlock, Stored, clump_header, sizes, clump_bytes}
 use Rattle.vt_log.specs.Logs.{IsLog, accepted_in, blocks_from}
 use Rattle.vt_log.proofs.Lists.{slice_get_other}
 use Rattle.vt_model.specs.History.{Accepted, History}
+use Rattle.vt_model.specs.declared.TheConstants.{ARENA_HEAD_LEN}
 use Rattle.vt_model.specs.Places.{bucket_of, crowd}
 use Rattle.vt_model.proofs.Buckets.{bucket_of-lt}
 use Rattle.vt_part.specs.declared.layout.ArenaRegion.{ArenaRegion}
@@ -51,15 +52,18 @@ score_in s are =
 abbrev HasScoreBytes : (List ℕ → List ℕ) → Accepted → Type 0
 HasScoreBytes score e = AreBytes (score e.block.bytes)
 
-stored_scores : (score : List ℕ → List ℕ) (arena : ℕ) (stored : List Stored)
-    → AreBytes (clumps_of stored) → AllByRecursion (IsStoredBlock score) stored
+stored_scores : (score : List ℕ → List ℕ) (arena version place : ℕ) (stored : List Stored)
+    (file : List ℕ) → AreBytes file → ClumpsStandAt version place stored file
+    → AllByRecursion (IsStoredBlock score) stored
     → AllByRecursion (HasScoreBytes score) (map (accepted_in arena) stored)
-stored_scores score arena [] are each = tt
-stored_scores score arena (s ∷ stored) are each =
-    let both : AreBytes (clump_bytes s ++ clumps_of stored) =
-    subst AreBytes (flat_map-cons clump_bytes s stored) are in (
-      subst AreBytes each.0.scored (score_in s (left_bytes (clump_bytes s) (clumps_of stored) both)),
-      stored_scores score arena stored (right_bytes (clump_bytes s) (clumps_of stored) both) each.1,
+stored_scores score arena version place [] file are stand each = tt
+stored_scores score arena version place (s ∷ stored) file are stand each =
+    let clump : AreBytes (clump_bytes s) =
+    subst AreBytes stand.0 (taken_bytes (length (clump_bytes s)) (drop place file)
+    (dropped_bytes place file are)) in (
+      subst AreBytes each.0.scored (score_in s clump),
+      stored_scores score arena version (place + block_room version (length s.block)) stored file are
+          stand.1 each.1,
     )
 
 append_each : {X : Type 0} (P : X → Type 0) (xs ys : List X) → AllByRecursion P xs
@@ -67,18 +71,18 @@ append_each : {X : Type 0} (P : X → Type 0) (xs ys : List X) → AllByRecursio
 append_each P [] ys front behind = behind
 append_each P (x ∷ xs) ys front behind = (front.0, append_each P xs ys front.1 behind)
 
--- each arena's blocks stand in bytes with their scores
-abbrev AreStored : (List ℕ → List ℕ) → Content → Type 0
-AreStored score a = AreBytes (clumps_of a.stored) × AllByRecursion (IsStoredBlock score) a.stored
+-- the scores of an arena's blocks are bytes, whatever its number
+abbrev HaveScores : (List ℕ → List ℕ) → Content → Type 0
+HaveScores score a =
+    (arena : ℕ) → AllByRecursion (HasScoreBytes score) (map (accepted_in arena) a.stored)
 
 blocks_scores : (score : List ℕ → List ℕ) (arena : ℕ) (contents : List Content)
-    → ((i : ℕ) (a : Content) → slice_get contents i ≡ Some a → AreStored score a)
+    → ((i : ℕ) (a : Content) → slice_get contents i ≡ Some a → HaveScores score a)
     → AllByRecursion (HasScoreBytes score) (blocks_from arena contents)
 blocks_scores score arena [] each = tt
 blocks_scores score arena (a ∷ rest) each =
-    let here = each 0 a refl in
     append_each (HasScoreBytes score) (map (accepted_in arena) a.stored) (blocks_from (arena + 1) rest)
-    (stored_scores score arena a.stored here.0 here.1)
+    (each 0 a refl arena)
     (blocks_scores score (arena + 1) rest (λ i. each (suc i)))
 
 pub log_scores : (score : List ℕ → List ℕ) (layout : List ArenaRegion) (files : List (List ℕ))
@@ -88,15 +92,12 @@ pub log_scores : (score : List ℕ → List ℕ) (layout : List ArenaRegion) (fi
 log_scores score layout files h base log bytes =
     let contents = log.contents in
     subst (AllByRecursion (HasScoreBytes score)) (sym log.history)
-    (blocks_scores score 0 contents (λ i a at.
+    (blocks_scores score 0 contents (λ i a at arena.
     let r = slice_get_other layout contents i a log.arenas.many at in
     let it = log.arenas.each i r.0 a r.1 at in
-    let place = r.0.region.start + 24576 in
-    let front = taken_bytes (length (clumps_of a.stored)) (drop place it.0)
-    (dropped_bytes place it.0 (bytes r.0.part it.0 it.1)) in (
-      subst AreBytes it.2.blocks.clumps front,
-      recursion_from_All (IsStoredBlock score) a.stored it.2.content.stored,
-    )))
+    stored_scores score arena a.version (r.0.region.start + ARENA_HEAD_LEN) a.stored it.0
+    (bytes r.0.part it.0 it.1) it.2.blocks.clumps
+    (recursion_from_All (IsStoredBlock score) a.stored it.2.content.stored)))
 
 -- ---- buckets
 

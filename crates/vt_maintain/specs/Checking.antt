@@ -9,9 +9,10 @@ use Rattle.vt_core.specs.Opening.{AreHeld}
 use Rattle.vt_disk.specs.Members.{DiskOf}
 use Rattle.vt_isect.specs.Section.{SectionState}
 use Rattle.vt_log.specs.Log.{LogState, disks_of}
-use Rattle.vt_log.specs.Logs.{arena_count}
+use Rattle.vt_log.specs.Mounting.{reads_to_find_all}
 use Rattle.vt_maintain.specs.Devices.{CountsOneFault, device_faults}
 use Rattle.vt_maintain.specs.Opened.{AreInUse, AreOpened}
+use Rattle.vt_part.specs.Layout.{layout_of}
 
 -- a fault is told
 abbrev pub check_fault_in : Result Report CheckErr → Bool
@@ -20,7 +21,8 @@ check_fault_in (Err bad) = is_check_fault bad
 
 -- The log and the sections were found, whose heads say that they are in use. There is a report of
 -- each arena, and each tells of what its disk reads as. Nothing was written: of the partitions of
--- arenas a sync of each was made, two reads of each arena's head, and at most two of each block.
+-- arenas a sync of each was made, the reads that find each arena, by what is read of it, and at most
+-- two of each block.
 pub record ChecksOn {D : Type 0} (score : List ℕ → List ℕ) (disk : DiskOf D)
     (result : Result Report CheckErr) (devices back : Devices D) : Type 0 where
   pub log : LogState D
@@ -35,6 +37,6 @@ pub record ChecksOn {D : Type 0} (score : List ℕ → List ℕ) (disk : DiskOf 
   pub filter : back.filter ≡ devices.filter
   pub calls : IsTrue disk.tells → sum_by disk.calls (disks_of back.parts.items)
       ≤ sum_by disk.calls (disks_of devices.parts.items) + length devices.parts.items
-      + 2 * arena_count (tables_in devices) + 2 * log.durable
+      + reads_to_find_all (layout_of log.tables) opened.log_is.found.read.fields + 2 * log.durable
   pub counts : CountsOneFault (check_fault_in result) (device_faults disk devices)
       (device_faults disk back)

@@ -8,7 +8,7 @@ ghost use Rattle.vt_recover.specs.declared.devices.Devices.{Devices};
 ghost use Rattle.vt_core.specs.Files.{PerDevice};
 ghost use Rattle.vt_core.specs.Mounting.{IsLogOf, IsSetupOf, KeepsLimits};
 ghost use Rattle.vt_core.specs.Stands.{ArePartitions, FilterStandsFor};
-ghost use Rattle.vt_log.specs.Logs.{IsLog};
+ghost use Rattle.vt_log.specs.Logs.{IsLog, versions_of};
 ghost use Rattle.vt_model.specs.History.{History};
 ghost use Rattle.vt_model.specs.Legal.{IsLegal};
 ghost use Rattle.vt_model.specs.Places.{Setup};
@@ -35,9 +35,10 @@ pub fn refusals_name_two<D: Disk>()
     vt_core::refusals_name_two::<D>();
 }
 
-/// Where the index of a store was rebuilt whose arenas read as a legal history, and whose filter is
-/// true of it in each image, every combination of images stands for all of that history, whatever
-/// the sections held before. So the store can be opened, with just these blocks.
+/// Where the index of a store was rebuilt whose arenas read as a legal history, in the setup's
+/// versions, and whose filter is true of it in each image, every combination of images stands for all
+/// of that history, whatever the sections held before. So the store can be opened, with just these
+/// blocks.
 pub fn rebuilt_stores_can_be_opened<D: Disk>()
     ensures { (score : List ℕ → List ℕ) (tells : Bool) (conf : Conf)
         (old new : List ℕ → Standing D) (faults faults' blocks : ℕ) (tables : List Table)
@@ -48,8 +49,8 @@ pub fn rebuilt_stores_can_be_opened<D: Disk>()
         → 0 < length conf.sections.items
         → AreUnder old conf devices → AreUnder new conf back
         → ArePartitions tables (map D.bytes devices.partitions)
-        → IsLog score (layout_of tables) (map D.bytes devices.partitions) g base
-        → IsSetupOf D.Disk tables back c
+        → (log : IsLog score (layout_of tables) (map D.bytes devices.partitions) g base)
+        → IsSetupOf D.Disk tables back c → c.versions ≡ versions_of log.contents
         → IsLegal score (record c { base = base; sections = sections }) g
         → All (λ filter. (file : List ℕ) → D.images filter file → FilterStandsFor score g file)
         devices.filter

@@ -14,7 +14,7 @@ use Rattle.std.proofs.lemmas.Option.{slice_get-get_or}
 use Rattle.vt_base.specs.Protocol.{Operation}
 use Rattle.vt_model.specs.declared.TheConstants.{BUCKET_ROOM}
 use Rattle.vt_model.specs.History.{History, Accepted, IsBlock, has_key}
-use Rattle.vt_model.specs.Places.{Setup, fits, lengths_in, last_arena, takes, current_arena, next_arena, crowd, bucket_of, bucket_count}
+use Rattle.vt_model.specs.Places.{Setup, fits, lengths_in, last_arena, closes, takes, current_arena, next_arena, crowd, bucket_of, bucket_count}
 use Rattle.vt_model.specs.Answer.{answer, with_added}
 use Rattle.vt_model.specs.Legal.{IsLegal, HasOtherKey, NoCollision}
 use Rattle.vt_model.proofs.Lists.{test_false, and_true, both_true, right_false, both_false, All-from_list_any, list_any-from_find}
@@ -80,11 +80,13 @@ next_or_current : (c : Setup) (h : History) (n arena : ℕ) → next_arena c h n
     ⊎ ((arena ≡ current_arena c h + 1) × IsTrue (fits c arena (n ∷ [])))
 next_or_current c h n arena is =
     let a = current_arena c h in
-    elim (chosen (takes c a (lengths_in a h ++ n ∷ [])) (fits c (a + 1) (n ∷ [])) a arena is) [
+    elim (chosen (takes c a (lengths_in a h ++ n ∷ [])) (closes c a && fits c (a + 1) (n ∷ [])) a arena is) [
       | inl here ↦
           let room = both_true _ _ here.1 in
           inl (here.0, subst (λ x. IsTrue (fits c x (lengths_in x h ++ n ∷ []))) (sym here.0) room.1)
-      | inr after ↦ inr (after.0, subst (λ x. IsTrue (fits c x (n ∷ []))) (sym after.0) after.1)
+      | inr after ↦
+          let room = both_true _ _ after.1 in
+          inr (after.0, subst (λ x. IsTrue (fits c x (n ∷ []))) (sym after.0) room.1)
     ]
 
 -- the block's arena has room for it too

@@ -1,6 +1,6 @@
 -- What the plain store's blocks take of an arena.
 use Rattle.std.proofs.Common.{◌≡◌, ◌≢◌, ℕ, ◌+◌, ◌-◌, ◌<◌, ◌≤◌, ◌==◌, ◌&&◌, List, [], ◌∷◌, length, get_or, take, Option, Some, None, Bool, true, false, nat_le, cond, ◌++◌, refl, sym, ◌∙◌, ap, arith, length-append, inl, inr}
-use Rattle.std.specs.Prelude.{IsTrue, sum_by, slice_get, slice_index}
+use Rattle.std.specs.Prelude.{IsTrue, not, sum_by, slice_get, slice_index}
 use Rattle.std.specs.Option.{option_map}
 use Rattle.std.proofs.lemmas.Option.{slice_get-map}
 use Rattle.std.proofs.lemmas.Bool.Decides.{nat_tests, Decides-eqb}
@@ -11,7 +11,7 @@ use Rattle.vt_model.specs.declared.TheConstants.{WRITTEN_VERSION}
 use Rattle.vt_model.specs.declared.stored.Stored.{Stored}
 use Rattle.vt_model.specs.declared.layout.Left.{Left}
 use Rattle.vt_model.specs.History.{History}
-use Rattle.vt_model.specs.Places.{Setup, room_of, clump_len, directory_len_in, fits, takes, lengths_in, last_arena, current_arena, next_arena, version_of}
+use Rattle.vt_model.specs.Places.{Setup, room_of, clump_len, directory_len_in, closes, fits, takes, lengths_in, last_arena, current_arena, next_arena, version_of}
 use Rattle.vt_model.specs.Stored.{accepted, history_of}
 use Rattle.vt_model.proofs.Adding.{last_arena_is}
 use Rattle.vt_model.proofs.Lists.{test_false}
@@ -195,12 +195,34 @@ nothing_fits c a = le-leb _ _ (none_taken (version_of c a) (room_of c a))
       | false ↦ omega arith
     ]
 
+-- where the current arena doesn't take the block, it goes to the next one, or nowhere
+chosen_after : (c : Setup) (h : History) (n : ℕ) (there : Bool) → let a = current_arena c h in
+    false ≡ takes c a (lengths_in a h ++ n ∷ [])
+    → there ≡ (closes c a && fits c (a + 1) (n ∷ []))
+    → cond there (Some (a + 1)) None ≡ next_arena c h n
+chosen_after c h n there full next_is =
+    let a = current_arena c h in
+    let next : Bool → Bool
+    → Option ℕ = λ here there. cond here (Some a) (cond there (Some (a + 1)) None) in
+    ap (λ t. next t there) full ∙ ap (next (takes c a (lengths_in a h ++ n ∷ []))) next_is
+
 pub next_arena_none : (c : Setup) (h : History) (n : ℕ) → let a = current_arena c h in
     false ≡ takes c a (lengths_in a h ++ n ∷ []) → ¬ (a + 1 < length c.arenas)
     → None ≡ next_arena c h n
 next_arena_none c h n full last =
     let a = current_arena c h in
     let no : false ≡ fits c (a + 1) (n ∷ []) = fits_past c (a + 1) [] n (omega (arith, last)) in
-    let next : Bool → Bool
-    → Option ℕ = λ here there. cond here (Some a) (cond there (Some (a + 1)) None) in
-    ap (λ t. next t false) full ∙ ap (next (takes c a (lengths_in a h ++ n ∷ []))) no
+    chosen_after c h n false full (by (closes c a) (fits c (a + 1) (n ∷ [])) no)
+  where
+    by : (b d : Bool) → false ≡ d → false ≡ (b && d)
+    by true d full = full
+    by false d full = refl
+
+-- behind an arena of version 2 nothing goes
+pub next_arena_two : (c : Setup) (h : History) (n : ℕ) → let a = current_arena c h in
+    version_of c a ≡ 2 → None ≡ next_arena c h n
+next_arena_two c h n two =
+    let a = current_arena c h in
+    chosen_after c h n false
+    (ap (λ (v : ℕ). (v == WRITTEN_VERSION) && fits c a (lengths_in a h ++ n ∷ [])) (sym two))
+    (ap (λ (v : ℕ). not (v == 2) && fits c (a + 1) (n ∷ [])) (sym two))

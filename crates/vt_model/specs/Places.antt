@@ -1,6 +1,6 @@
 -- Where blocks go. The log is kept in arenas, which are filled one after another, and the index in
 -- buckets, of which a score's first 32 bits name one (Quinlan and Dorward 2002, venti(8)).
-use Rattle.std.specs.Prelude.{ℕ, ◌≡◌, ◌<◌, ◌≤◌, ◌+◌, ◌-◌, ◌*◌, ◌/◌, ◌^◌, ◌==◌, ◌&&◌, max, nat_le, nat_lt, Bool, if◌then◌else◌, Option, Some, None, List, [], ◌∷◌, ◌++◌, length, take, map, filter, sum, sum_by, count_by, slice_get, slice_index}
+use Rattle.std.specs.Prelude.{ℕ, ◌≡◌, ◌<◌, ◌≤◌, ◌+◌, ◌-◌, ◌*◌, ◌/◌, ◌^◌, ◌==◌, ◌&&◌, max, nat_le, nat_lt, not, Bool, if◌then◌else◌, Option, Some, None, List, [], ◌∷◌, ◌++◌, length, take, map, filter, sum, sum_by, count_by, slice_get, slice_index}
 use Rattle.std.specs.Option.{option_map}
 use Rattle.std.specs.Int.{w32, from_be_bytes}
 use Rattle.vt_model.specs.declared.TheConstants.{ARENA_HEAD_LEN, CLUMP_HEADER_LEN, CLUMP_UNIT, DIRECTORY_ENTRY_LEN, WRITTEN_VERSION}
@@ -74,14 +74,18 @@ current_arena c h = max c.base (last_arena 0 h)
 abbrev pub takes : Setup → ℕ → List ℕ → Bool
 takes c arena lengths = version_of c arena == WRITTEN_VERSION && fits c arena lengths
 
+-- An arena can be sealed, so that blocks go to the next one, unless it is of version 2.
+abbrev pub closes : Setup → ℕ → Bool
+closes c arena = not (version_of c arena == 2)
+
 -- Where a further block of n bytes goes: the current arena if it is of the version that is written
--- and the block fits there, else the next one if there is one and the block fits it empty, else
--- nowhere.
+-- and the block fits there, else the next one if the current one can be sealed, there is a next one
+-- and the block fits it empty, else nowhere.
 abbrev pub next_arena : Setup → History → ℕ → Option ℕ
 next_arena c h n =
     let a = current_arena c h in
     if takes c a (lengths_in a h ++ n ∷ []) then Some a
-    else if fits c (a + 1) (n ∷ []) then Some (a + 1)
+    else if closes c a && fits c (a + 1) (n ∷ []) then Some (a + 1)
     else None
 
 -- where a block stands: its arena, and the offset of its clump in the arena's region

@@ -4,7 +4,7 @@ ghost use Rattle.std.specs.Prelude.{◌≡◌, ◌+◌, ◌^◌, ◌<◌, ◌≤
 ghost use Rattle.std.specs.Option.{SomeIff};
 ghost use Rattle.vt_model.specs.Places.{room_of, version_of, whole_units, clump_len_in, directory_len_in, bucket_of, bucket_count};
 
-use crate::{ARENA_HEAD_LEN, CLUMP_HEADER_LEN, CLUMP_UNIT, DIRECTORY_ENTRY_LEN};
+use crate::{ARENA_HEAD_LEN, CLUMP_HEADER_LEN, CLUMP_UNIT, DIRECTORY_ENTRY_LEN, SECTOR_VERSION};
 use std::marker::Model;
 use vt_base::Score;
 
@@ -130,7 +130,7 @@ pub fn clump_len_in(version: u16, len: usize) -> u128
     ensures bound { result < 2 ^ 65 }
 {
     let clump = CLUMP_HEADER_LEN as u128 + len as u128;
-    if version == 2 {
+    if version == SECTOR_VERSION {
         whole_units(clump)
     } else {
         clump
@@ -144,7 +144,7 @@ fn directory_len_in(version: u16, blocks: u128) -> u128
     ensures bound { result < 2 ^ 70 }
 {
     let entries = DIRECTORY_ENTRY_LEN as u128 * blocks;
-    if version == 2 {
+    if version == SECTOR_VERSION {
         whole_units(entries)
     } else {
         entries

@@ -29,5 +29,8 @@ pub const CLUMP_UNIT: usize = 512;
 /// The version of the arenas that blocks are put into. One of another version takes no more.
 pub const WRITTEN_VERSION: u16 = 1;
 
+/// The version in which an arena's clumps take whole sectors, and its directory does.
+pub const SECTOR_VERSION: u16 = 2;
+
 /// How many blocks a bucket of the index has room for.
 pub const BUCKET_ROOM: usize = 263;

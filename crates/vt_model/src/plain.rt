@@ -11,7 +11,7 @@ ghost use Rattle.vt_model.specs.Verdict.{verdict_outcome};
 
 use crate::layout::{Layout, Left, bucket_of, has_room};
 use crate::stored::{Stored, crowd, find_key, has_other_bytes, last_arena, room_left};
-use crate::{BUCKET_ROOM, WRITTEN_VERSION};
+use crate::{BUCKET_ROOM, SECTOR_VERSION, WRITTEN_VERSION};
 use std::alloc::{AllocError, Global};
 use std::marker::Model;
 use vt_base::{Bytes, Key, Kind, MAX_BLOCK, Score, Scorer, Why};
@@ -193,6 +193,9 @@ impl<S: Scorer> PlainStore<S> {
         let current = self.layout.base().max(last_arena(&self.blocks));
         if self.layout.version_of(current) == WRITTEN_VERSION && self.fits(current, len) {
             return Some(current);
+        }
+        if self.layout.version_of(current) == SECTOR_VERSION {
+            return None;
         }
         let next = self.layout.next(current)?;
         self.fits_empty(next, len).then_some(next)

@@ -6,7 +6,7 @@ use Rattle.vt_base.specs.Damage.{Differ}
 use Rattle.vt_base.specs.declared.mount.MountBad.{MountBad}
 use Rattle.vt_base.specs.declared.mount.MountBad.TheVariants.{Fault, NotFormatted, TooSmall, DuplicateName, Disagree, Damaged, NoMemory}
 use Rattle.vt_base.specs.declared.mount.MountField.{MountField}
-use Rattle.vt_base.specs.declared.mount.MountField.TheVariants.{Version, Number, Sealed, Used, Clumps, ArenaSize, Count, M, K}
+use Rattle.vt_base.specs.declared.mount.MountField.TheVariants.{Version, Number, Sealed, Used, Last, Clumps, ArenaSize, Count, M, K}
 use Rattle.vt_base.specs.declared.why.Site.TheVariants.{Bucket}
 use Rattle.vt_part.specs.declared.error.Field.{Field as PartField}
 use Rattle.vt_part.specs.declared.error.Field.TheVariants as part_field
@@ -49,6 +49,7 @@ field_of_arena arena_field.Version = Version
 field_of_arena arena_field.Number = Number
 field_of_arena arena_field.Sealed = Sealed
 field_of_arena arena_field.Used = Used
+field_of_arena arena_field.Last = Last
 
 -- the refusal of an arena in the partition with this number, as one of a store
 abbrev pub of_arena : (part : ℕ) → ArenaBad → MountBad

@@ -107,6 +107,7 @@ fn field_of_arena(field: ArenaField) -> MountField
         ArenaField::Number => MountField::Number,
         ArenaField::Sealed => MountField::Sealed,
         ArenaField::Used => MountField::Used,
+        ArenaField::Last => MountField::Last,
     }
 }
 

@@ -104,7 +104,6 @@ module _ {D : Type 0} (disk : DiskOf D) where
     pub setup_read : (tables : List Table) (c : Setup) → IsSetupOf disk tables handed c → IsSetupOf disk tables mounted c
     setup_read tables c setup = record {
       arenas = setup.arenas;
-      versions = setup.versions;
       sections = setup.sections ∙ ap (λ (l : List D). map (λ d. buckets_in (disk.size d)) l) (sym read.sections);
     }
 

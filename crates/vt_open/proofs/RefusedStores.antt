@@ -1,5 +1,5 @@
 -- What holds where a store wasn't opened.
-use Rattle.std.proofs.Common.{◌≡◌, ⊎_elim, ◌+◌, ℕ, List, length, map, refl, sym, subst}
+use Rattle.std.proofs.Common.{◌≡◌, ⊎_elim, ◌+◌, ℕ, List, [], length, map, refl, sym, subst}
 use Rattle.std.specs.Prelude.{IsTrue}
 use Rattle.vt_base.specs.Bytes.{AreBytes}
 use Rattle.vt_base.specs.declared.mount.MountBad.{MountBad}
@@ -10,7 +10,6 @@ use Rattle.vt_core.specs.Mounting.{IsLogOf, KeepsLimits, LeavesStanding}
 use Rattle.vt_core.specs.Refusals.{IsRefusedMount}
 use Rattle.vt_disk.specs.Members.{DiskOf}
 use Rattle.vt_isect.specs.Layout.{buckets_in}
-use Rattle.vt_log.specs.Logs.{versions_of}
 use Rattle.vt_model.specs.History.{History}
 use Rattle.vt_model.specs.Places.{Setup}
 use Rattle.vt_part.specs.Faults.{NamesPartCause}
@@ -53,11 +52,11 @@ module _ {D : Type 0} (disk : DiskOf D) (score : List ℕ → List ℕ) (told : 
       let none = finds.3 in
       let c : Setup = record {
         arenas = map (λ r. r.region.len) (layout_of none.tables);
-        versions = versions_of (layout_of none.tables);
+        versions = [];
         base = 0;
         sections = map (λ device. buckets_in (disk.size device)) none.mounted.sections;
       } in
-      subst NamesCause (sym finds.1) (store score none.tables none.mounted c finds.0 (none.cause c (record { arenas = refl; versions = refl; sections = refl }))))
+      subst NamesCause (sym finds.1) (store score none.tables none.mounted c finds.0 (none.cause c (record { arenas = refl; sections = refl }))))
       it
 
   -- ---- on partitions that stand for prefixes

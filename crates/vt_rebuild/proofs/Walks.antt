@@ -1,9 +1,8 @@
 -- A log that is walked from its end to its beginning.
-use Rattle.std.proofs.Common.{◌≡◌, ℕ, ◌-◌, ◌≤◌, List, length, map, take, Some, get_or, refl, sym, ◌∙◌, ap, subst, arith}
-use Rattle.std.specs.Prelude.{slice_get, min, sum_by, IsTrue, MatchBool, All, Ok, Err}
+use Rattle.std.proofs.Common.{◌≡◌, ℕ, List, length, map, Some, get_or, refl, sym, ◌∙◌, ap, subst, arith}
+use Rattle.std.specs.Prelude.{slice_get, IsTrue, MatchBool, Ok, Err}
 use Rattle.std.proofs.lemmas.List.{length-map}
 use Rattle.std.proofs.lemmas.Option.{same_Some, slice_get-get_or, slice_get_within}
-use Rattle.vt_arena.specs.Places.{block_room}
 use Rattle.vt_base.specs.declared.place.Info.{Info}
 use Rattle.vt_disk.specs.Members.{DiskOf}
 use Rattle.vt_log.specs.Answers.{HoldTheSame, OnlyReadsLog}
@@ -12,20 +11,21 @@ use Rattle.vt_log.specs.Faults.{OneHasRisen}
 use Rattle.vt_log.specs.Log.{LogState, front, setup_of_log}
 use Rattle.vt_log.specs.Sound.{IsSoundLog}
 use Rattle.vt_model.specs.History.{History}
-use Rattle.vt_model.specs.Places.{Setup, lengths_in}
+use Rattle.vt_model.specs.Places.{Setup}
 use Rattle.vt_rebuild.specs.declared.error.RebuildBad.{RebuildBad}
 use Rattle.vt_rebuild.specs.Walking.{GivesNext, KeepsLog, is_rebuild_fault}
 
 -- reading leaves where a walk stands
-pub behind_stays : {D : Type 0} (l new : LogState D) (h : History) (n : ℕ) (t : TailState) → new.durable ≡ l.durable → IsTailBehind l h n t → IsTailBehind new h n t
-behind_stays {D} l new h n t same it = record {
+pub behind_stays : {D : Type 0} (l new : LogState D) (h : History) (n : ℕ) (t : TailState) → new ≡ record l { disks = new.disks } → IsTailBehind l h n t → IsTailBehind new h n t
+behind_stays {D} l new h n t same it = subst (λ (m : LogState D). IsTailBehind m h n t) (sym same) (record {
   left = it.left;
   most = it.most;
-  queue = subst (λ (d : ℕ). t.queued ≡ n - d) (sym same) it.queue;
-  index = subst (λ (d : ℕ). t.at.index ≡ length (lengths_in t.arena (take (min n d) h))) (sym same) it.index;
-  end = subst (λ (d : ℕ). t.at.end ≡ sum_by block_room (lengths_in t.arena (take (min n d) h))) (sym same) it.end;
-  arenas = subst (λ (d : ℕ). All (λ e. e.arena ≤ t.arena) (take (min n d) h)) (sym same) it.arenas;
-}
+  queue = it.queue;
+  index = it.index;
+  end = it.end;
+  sectors = it.sectors;
+  arenas = it.arenas;
+})
 
 -- disks that are only read from
 hold_none : {D : Type 0} (disk : DiskOf D) (a : List D) → HoldTheSame disk a a
@@ -89,7 +89,7 @@ walk_on {D} score disk old now new t after info was next = record {
   keeps = keeps_then score disk old now new was.keeps (keeps_read score disk 1 now new next.reads);
   tail = next.tail;
   faults = next.faults ∙ was.faults;
-  behind = λ h tells sound. behind_stays now new h after.left after (ap (λ (m : LogState D). m.durable) next.reads.same)
+  behind = λ h tells sound. behind_stays now new h after.left after next.reads.same
       (next.blocks h tells (was.keeps.sound h sound) (was.behind h tells sound)).1;
 }
 

@@ -30,7 +30,7 @@ use Rattle.vt_recover.specs.TakingBack.{HasEntries, HasNoRoomFor, IsUnwrittenSha
 use Rattle.vt_recover.proofs.Below.{HaveRanges}
 use Rattle.vt_recover.proofs.Lists.{at_map}
 use Rattle.vt_recover.proofs.PuttingBack.{any_default}
-use Rattle.vt_log.proofs.Places.{slice_get_there}
+use Rattle.vt_log.proofs.Lists.{slice_get_there}
 
 -- a frame is that of one head
 abbrev pub OneHead : Type 0

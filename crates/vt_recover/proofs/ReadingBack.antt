@@ -1,14 +1,14 @@
 -- A log that is read back, block by block.
-use Rattle.std.proofs.Common.{◌≡◌, ◌≢◌, ◌⊎◌, ⊎_elim, inl, inr, ℕ, ◌+◌, ◌-◌, ◌^◌, ◌<◌, ◌≤◌, List, [], ◌++◌, length, map, take, Some, None, refl, sym, ◌∙◌, ap, subst, arith}
-use Rattle.std.specs.Prelude.{slice_get, min, sum_by, IsTrue, OnOk, ⊤, Result, Ok, Err}
-use Rattle.std.specs.List.{All, AllPairs, Contains}
+use Rattle.std.proofs.Common.{◌≡◌, ◌≢◌, ◌⊎◌, ⊎_elim, inl, inr, ℕ, ◌+◌, ◌-◌, ◌^◌, ◌<◌, ◌≤◌, List, [], ◌++◌, length, map, Some, None, refl, sym, ◌∙◌, ap, subst, arith}
+use Rattle.std.specs.Prelude.{slice_get, sum_by, IsTrue, OnOk, ⊤, Result, Ok, Err}
+use Rattle.std.specs.List.{AllPairs, Contains}
 use Rattle.std.proofs.lemmas.List.{length-map, map-append}
 use Rattle.std.proofs.lemmas.Option.{same_Some}
 use Rattle.vt_base.specs.declared.mount.MountBad.{MountBad}
 use Rattle.vt_base.specs.declared.mount.MountBad.TheVariants.{Fault, NotFormatted, TooSmall, DuplicateName, Disagree, Damaged, NoMemory}
 use Rattle.vt_base.specs.declared.place.Entry.{Entry}
 use Rattle.vt_base.specs.declared.place.Info.{Info}
-use Rattle.vt_arena.specs.Directory.{last_entry}
+use Rattle.vt_arena.specs.Directory.{IsReached, what_is_walked}
 use Rattle.vt_base.specs.declared.why.FieldValue.{FieldValue}
 use Rattle.vt_base.specs.declared.why.Site.TheVariants.{Bucket, Clump}
 use Rattle.vt_bloom.specs.Bits.{Filter, HasBitsOf, MarksScore}
@@ -30,15 +30,14 @@ use Rattle.vt_log.specs.Sound.{IsSoundLog}
 use Rattle.vt_log.specs.Whole.{IsOnDisk, IsWholeLog}
 use Rattle.vt_log.proofs.Lists.{at_slice, slice_get_other}
 use Rattle.vt_model.specs.History.{Accepted, History}
-use Rattle.vt_arena.specs.Places.{block_room}
-use Rattle.vt_model.specs.Places.{Setup, lengths_in, place_of}
+use Rattle.vt_model.specs.Places.{Setup, place_of}
 use Rattle.vt_shard.specs.Shard.{ShardState}
 use Rattle.vt_shard.specs.Sound.{IsSoundFrom}
 use Rattle.vt_recover.specs.Marks.{LacksMany}
 use Rattle.vt_recover.specs.Recalling.{AreReadBack, HasVersionsOf, IsDamagedIn, IsUnused, KeepsSectionBytes, KeepsSection, Opened, ReadsBack, ReadsLogBack, RecallsFrom, devices_called, opened}
 use Rattle.vt_recover.specs.Refusals.{CountsRefusal}
 use Rattle.vt_recover.specs.Sections.{IsLive, SectionStandsFor, section_buckets}
-use Rattle.vt_recover.specs.TakingBack.{GivesNext, HasEntries, IsSoundAt, IsUnwrittenShard, StandsOnDisks, TakesAllBack, TellsOfLog}
+use Rattle.vt_recover.specs.TakingBack.{GivesNext, HasCome, HasEntries, IsSoundAt, IsUnwrittenShard, StandsOnDisks, TakesAllBack, TellsOfLog}
 use Rattle.vt_recover.proofs.Below.{AreMarked, HaveRanges, MarkedStay}
 use Rattle.vt_recover.proofs.Places.{map_then, within_get, one_or_other}
 use Rattle.vt_recover.proofs.Counts.{risen_front}
@@ -50,15 +49,36 @@ use Rattle.vt_recover.proofs.Held.{counts_less, held_twice}
 
 -- ---- the log
 
-behind_stays : {D : Type 0} (l new : LogState D) (h : History) (n : ℕ) (t : TailState) → new.durable ≡ l.durable → IsTailBehind l h n t → IsTailBehind new h n t
-behind_stays {D} l new h n t same it = record {
+-- what a disk holds it held
+held_there : {D : Type 0} (disk : DiskOf D) (before after : List D) → HoldTheSame disk before after → (i : ℕ) (device : D) → slice_get after i ≡ Some device
+    → (d : D) × (slice_get before i ≡ Some d) × (disk.bytes device ≡ disk.bytes d)
+held_there disk before after hold i device there =
+    let many : length after ≡ length before = sym (length-map after disk.bytes) ∙ ap length hold.bytes_are ∙ length-map before disk.bytes in
+    let d = slice_get_other before after i device many there in (
+      d.0,
+      d.1,
+      same_Some (disk.bytes device) (disk.bytes d.0)
+          (sym (at_map disk.bytes after i device there) ∙ ap (λ (fs : List (List ℕ)). slice_get fs i) hold.bytes_are ∙ at_map disk.bytes before i d.0 d.1),
+    )
+
+behind_stays : {D : Type 0} (l new : LogState D) (h : History) (n : ℕ) (t : TailState) → new ≡ record l { disks = new.disks } → IsTailBehind l h n t → IsTailBehind new h n t
+behind_stays {D} l new h n t same it = subst (λ (m : LogState D). IsTailBehind m h n t) (sym same) (record {
   left = it.left;
   most = it.most;
-  queue = subst (λ (d : ℕ). t.queued ≡ n - d) (sym same) it.queue;
-  index = subst (λ (d : ℕ). t.at.index ≡ length (lengths_in t.arena (take (min n d) h))) (sym same) it.index;
-  end = subst (λ (d : ℕ). t.at.end ≡ sum_by block_room (lengths_in t.arena (take (min n d) h))) (sym same) it.end;
-  arenas = subst (λ (d : ℕ). All (λ e. e.arena ≤ t.arena) (take (min n d) h)) (sym same) it.arenas;
-}
+  queue = it.queue;
+  index = it.index;
+  end = it.end;
+  sectors = it.sectors;
+  arenas = it.arenas;
+})
+
+-- where a walk stands in its arena it has come to, whatever disks hold the same
+come_stays : {D : Type 0} (disk : DiskOf D) (l new : LogState D) (t : TailState) → new ≡ record l { disks = new.disks } → HoldTheSame disk l.disks new.disks → HasCome disk l t → HasCome disk new t
+come_stays {D} disk l new t same hold come found r device has there =
+    let d = held_there disk l.disks new.disks hold r.part device there.disk_is in
+    subst (λ (file : List ℕ). IsReached disk.tells found.head r.region file t.at) (sym d.2)
+    (come found r d.0 (sym (ap (λ (m : LogState D). slice_get m.heads t.arena) same) ∙ has)
+    (record { arena = sym (ap (λ (m : LogState D). slice_get m.layout t.arena) same) ∙ there.arena; disk_is = d.1 }))
 
 -- the disks and the heads of a whole log
 pub stands_whole : {D : Type 0} (disk : DiskOf D) (l : LogState D) → IsWholeLog disk l → StandsOnDisks l
@@ -109,6 +129,7 @@ pub record IsReading {D : Type 0} (score : List ℕ → List ℕ) (disk : DiskOf
   pub stands : StandsOnDisks now.log
   pub queue : queued now.log ≡ 0
   pub tail : IsTailOf now.log t
+  pub come : HasCome disk now.log t
   pub left : t.left ≤ old.log.durable
   pub rest : AreReadBack now.bits old.log.durable now.shards
   pub log_faults : map disk.faults now.log.disks ≡ map disk.faults old.log.disks
@@ -152,9 +173,9 @@ none_in : {X : Type 0} (x : X) → Contains [] x → ⊥
 none_in x has = omega (arith, has.1)
 
 pub begin_reading : {D : Type 0} (score : List ℕ → List ℕ) (disk : DiskOf D) (old : Opened D) (t : TailState) → IsMountedLog old.log → StandsOnDisks old.log
-    → ((i : ℕ) (s : ShardState D) → slice_get old.shards i ≡ Some s → IsUnused s) → IsTailOf old.log t → t.left ≡ front old.log
+    → ((i : ℕ) (s : ShardState D) → slice_get old.shards i ≡ Some s → IsUnused s) → IsTailOf old.log t → t.left ≡ front old.log → t.arena ≡ length old.log.heads
     → ((h : History) → IsSoundLog score disk old.log h → IsTailBehind old.log h (length h) t) → IsReading score disk old old t
-begin_reading {D} score disk old t mounted stands unused tail all behind = record {
+begin_reading {D} score disk old t mounted stands unused tail all past behind = record {
   reads = record {
     log = refl;
     disks = record { bytes_are = refl; sizes_are = refl; images_are = λ i x y at there file image. subst (λ (d : D). disk.images d file) (same_Some y x (sym there ∙ at)) image };
@@ -167,6 +188,7 @@ begin_reading {D} score disk old t mounted stands unused tail all behind = recor
   stands = stands;
   queue = no_queued old.log mounted;
   tail = tail;
+  come = λ found r device has there. absurd (omega (arith, within_get old.log.heads t.arena found has, past));
   left = omega (arith, all, no_queued old.log mounted);
   rest = λ i s at. let it = unused i s at in record {
     quiet = it.quiet;
@@ -236,9 +258,6 @@ module _ {D : Type 0} (score : List ℕ → List ℕ) (disk : DiskOf D) (old now
   -- the log
   log_is : l ≡ record old.log { disks = l.disks }
   log_is = next.reads.same ∙ ap (λ (m : LogState D). record m { disks = l.disks }) was.reads.log
-
-  same_durable : l.durable ≡ now.log.durable
-  same_durable = ap (λ (m : LogState D). m.durable) next.reads.same
 
   hold : HoldTheSame disk old.log.disks l.disks
   hold = held_twice disk old.log.disks now.log.disks l.disks was.reads.disks next.reads.disks
@@ -335,11 +354,12 @@ reads_on {D} score disk old now t after was l info next done part shards bits ta
   stands = stands_stays disk now.log l next.reads.same next.reads.disks was.stands;
   queue = ap (λ (m : LogState D). queued m) next.reads.same ∙ was.queue;
   tail = next.tail;
+  come = come_stays disk now.log l after next.reads.same next.reads.disks next.comes;
   left = omega (arith, next.number.0, next.number.1, was.left);
   rest = step_rest score disk old now t after was l info next (Ok done) part shards bits takes marks stay set;
   log_faults = next.counts ∙ was.log_faults;
   shard_faults = takes.counts ∙ was.shard_faults;
-  behind = λ h tells sound. behind_stays now.log l h after.left after (same_durable score disk old now t after was l info next)
+  behind = λ h tells sound. behind_stays now.log l h after.left after next.reads.same
       (subst (λ (n : ℕ). IsTailBehind now.log h n after) next.number.0 (given score disk old now t after was l info next h tells sound).2);
   recalls = λ h tells sound. subst (λ (n : ℕ). RecallsFrom score disk h n old (opened l shards bits)) next.number.0 (record {
     bits = step_bits score disk old now t after was l info next (Ok done) part shards bits takes marks stay set h tells sound;
@@ -413,11 +433,7 @@ module _ {D : Type 0} (score : List ℕ → List ℕ) (disk : DiskOf D) (old now
   -- damage in the log that is read is damage in the log that there was
   damaged_before : (arena : ℕ) (want found : FieldValue) → IsDamagedIn disk now.log arena want found → IsDamagedIn disk old.log arena want found
   damaged_before arena want found it =
-      let many : length now.log.disks ≡ length old.log.disks = sym (length-map now.log.disks disk.bytes) ∙ ap length was.reads.disks.bytes_are ∙ length-map old.log.disks disk.bytes in
-      let d = slice_get_other old.log.disks now.log.disks it.r.part it.device many it.stands.disk_is in
-      let same : disk.bytes it.device ≡ disk.bytes d.0 = same_Some (disk.bytes it.device) (disk.bytes d.0)
-      (sym (at_map disk.bytes now.log.disks it.r.part it.device it.stands.disk_is) ∙ ap (λ (fs : List (List ℕ)). slice_get fs it.r.part) was.reads.disks.bytes_are
-      ∙ at_map disk.bytes old.log.disks it.r.part d.0 d.1) in
+      let d = held_there disk old.log.disks now.log.disks was.reads.disks it.r.part it.device it.stands.disk_is in
       record {
         r = it.r;
         device = d.0;
@@ -425,10 +441,10 @@ module _ {D : Type 0} (score : List ℕ → List ℕ) (disk : DiskOf D) (old now
         head = it.head;
         head_is = sym (ap (λ (m : LogState D). slice_get m.heads arena) was.reads.log) ∙ it.head_is;
         at = it.at;
-        index = it.index;
-        end = it.end;
-        entry = it.entry;
-        entry_is = λ tells. it.entry_is tells ∙ ap (λ (f : List ℕ). last_entry it.r.region it.at.index f) same;
+        some = it.some;
+        reached = subst (λ (file : List ℕ). IsReached disk.tells it.head.head it.r.region file it.at) d.2 it.reached;
+        bytes = it.bytes;
+        bytes_are = λ tells. it.bytes_are tells ∙ ap (λ (file : List ℕ). what_is_walked it.head.head it.r.region it.at file) d.2;
         bad = it.bad;
       }
 

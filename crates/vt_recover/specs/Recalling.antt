@@ -18,7 +18,7 @@ use Rattle.vt_part.specs.declared.layout.ArenaRegion.{ArenaRegion}
 use Rattle.vt_arena.specs.declared.error.BackBad.TheVariants as back_bad
 use Rattle.vt_arena.specs.declared.directory.At.{At}
 use Rattle.vt_arena.specs.declared.head.Found.{Found}
-use Rattle.vt_arena.specs.Directory.{last_entry, first_bad_entry}
+use Rattle.vt_arena.specs.Directory.{IsReached, first_bad_walked, what_is_walked}
 use Rattle.vt_bloom.specs.Bits.{Filter, HasBitsOf}
 use Rattle.vt_isect.specs.declared.error.ShardErr.TheVariants as shard_err
 use Rattle.vt_isect.specs.Merging.{IsDamage}
@@ -112,8 +112,9 @@ CountsMount (Err bad) old new = CountsRefusal bad old new
 
 -- ---- why it ends early
 
--- an entry of an arena's directory differs from what was wanted, as the arena's device has it where
--- that tells
+-- What a walk of an arena reads, an entry of its directory or a header that stands for one, differs
+-- from what was wanted, as the arena's device has it where that tells. The walk came there from the
+-- arena's head, by what it read behind.
 pub record IsDamagedIn {D : Type 0} (disk : DiskOf D) (l : LogState D) (arena : ℕ)
     (want found : FieldValue) : Type 0 where
   pub r : ArenaRegion
@@ -122,11 +123,12 @@ pub record IsDamagedIn {D : Type 0} (disk : DiskOf D) (l : LogState D) (arena : 
   pub head : Found
   pub head_is : slice_get l.heads arena ≡ Some head
   pub at : At
-  pub index : at.index ≤ head.head.clumps
-  pub end : at.end ≤ head.head.used
-  pub entry : List ℕ
-  pub entry_is : IsTrue disk.tells → entry ≡ last_entry r.region at.index (disk.bytes device)
-  pub bad : first_bad_entry head.head.used at entry ≡ Some (back_bad.Damaged want found)
+  pub some : 0 < at.index
+  pub reached : IsReached disk.tells head.head r.region (disk.bytes device) at
+  pub bytes : List ℕ
+  pub bytes_are : IsTrue disk.tells
+      → bytes ≡ what_is_walked head.head r.region at (disk.bytes device)
+  pub bad : first_bad_walked head.head at bytes ≡ Some (back_bad.Damaged want found)
 
 -- Section i got more blocks of a bucket than a bucket has room for. Where it is sound for the log's
 -- history, these are the history's own.

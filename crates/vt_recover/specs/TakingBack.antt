@@ -12,6 +12,8 @@ use Rattle.vt_base.specs.declared.place.Info.{Info}
 use Rattle.vt_base.specs.declared.why.FieldValue.{FieldValue}
 use Rattle.vt_base.specs.declared.place.Place.{Place}
 use Rattle.vt_base.specs.declared.why.Site.TheVariants.{Bucket, Clump}
+use Rattle.vt_arena.specs.Directory.{IsReached}
+use Rattle.vt_arena.specs.declared.head.Found.{Found}
 use Rattle.vt_bloom.specs.Bits.{Filter, HasBitsOf}
 use Rattle.vt_bucket.specs.Frame.{IsBucketFrame}
 use Rattle.vt_disk.specs.Calls.{OnlyReads}
@@ -35,7 +37,7 @@ use Rattle.vt_twin.specs.Frames.{current_frame}
 use Rattle.vt_log.specs.Answers.{OnlyReadsLog}
 use Rattle.vt_log.specs.Back.{IsTailBehind, IsInfoInLog, IsTailOf, TailState}
 use Rattle.vt_log.specs.Log.{LogState}
-use Rattle.vt_log.specs.Sound.{IsSoundLog}
+use Rattle.vt_log.specs.Sound.{IsArenaAt, IsSoundLog}
 use Rattle.vt_recover.specs.Recalling.{AreReadBack, CountsMount, FitsBuckets, IsDamagedBucket, IsDamagedIn, IsAtRestUnstopped, IsReadBack, KeepsSection}
 
 -- a fault is told exactly where the device's count rose
@@ -234,7 +236,13 @@ pub record StandsOnDisks {D : Type 0} (l : LogState D) : Type 0 where
   pub disks : (i : ℕ) (r : ArenaRegion) → slice_get l.layout i ≡ Some r
       → r.part < length l.disks
 
--- a fault, or damage in an arena's directory
+-- a walk of the log came by what it read to where it stands in its arena
+abbrev pub HasCome : {D : Type 0} → DiskOf D → LogState D → TailState → Type 0
+HasCome {D} disk l t = (found : Found) (r : ArenaRegion) (device : D)
+    → slice_get l.heads t.arena ≡ Some found → IsArenaAt l t.arena r device
+    → IsReached disk.tells found.head r.region (disk.bytes device) t.at
+
+-- a fault, or damage in an arena's directory or in a header that stands for an entry
 abbrev pub TellsOfLog : {D : Type 0} → DiskOf D → LogState D → MountBad → Type 0
 TellsOfLog disk l bad = (bad ≡ Fault) ⊎ ((place : Place) × (want : FieldValue)
     × (found : FieldValue) × (bad ≡ Damaged (Clump place) want found) × Differ want found
@@ -251,6 +259,7 @@ pub record GivesNext {D : Type 0} (score : List ℕ → List ℕ) (disk : DiskOf
   pub number : MatchResult result (λ info. (info.number ≡ after.left)
       × (info.number + 1 ≡ before.left)) (λ _. ⊤)
   pub tail : IsTailOf new after
+  pub comes : MatchResult result (λ _. HasCome disk old after) (λ _. ⊤)
   pub reads : OnlyReadsLog score disk 1 old new
   pub counts : CountsMount result (map disk.faults old.disks) (map disk.faults new.disks)
   pub ends_early : IfErr result (TellsOfLog disk old)

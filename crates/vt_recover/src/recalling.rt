@@ -8,7 +8,7 @@ ghost use Rattle.vt_log.specs.Log.{IsMountedLog, queued};
 ghost use Rattle.vt_shard.specs.Shard.{ShardState, HasScore};
 ghost use Rattle.vt_shard.specs.declared.TheConstants.{ROOM};
 ghost use Rattle.vt_recover.specs.Recalling.{IsAtRestUnstopped, IsUnused, ReadsLogBack, opened};
-ghost use Rattle.vt_recover.specs.TakingBack.{GivesNext, LooksForEntry, PutsBack, StandsOnDisks, TakesAllBack, TakesBack, WritesAllBack};
+ghost use Rattle.vt_recover.specs.TakingBack.{GivesNext, HasCome, LooksForEntry, PutsBack, StandsOnDisks, TakesAllBack, TakesBack, WritesAllBack};
 ghost use Rattle.vt_recover.specs.Marks.{AreCovered};
 
 use std::marker::Brand;
@@ -104,6 +104,7 @@ fn next_back<D: Disk, S: Scorer, L: Ledger>(
     requires some { 0 < tail.old.left }
     requires rest { queued log.old ≡ 0 }
     requires stands { StandsOnDisks log.old }
+    requires come { HasCome D.Disk log.old tail.old }
     ensures { GivesNext S.score_of D.Disk result log.old log.new tail.old tail.new }
 {
     match log.back(tail, steps) {

@@ -186,7 +186,7 @@ module _ {D : Type 0} (disk : DiskOf D) (Leaves : CrashMode → D → List ℕ �
     -- and has the buckets that there were
     pub left_setup : (c : Setup) (tables : List Table) → IsSetupOf disk tables old c → IsSetupOf disk tables new c
     left_setup c tables setup =
-        record { arenas = setup.arenas; versions = setup.versions; sections = setup.sections ∙ twice old.sections ∙ ap (λ (ns : List ℕ). map buckets_in ns) (sym (left_sizes old.sections new.sections all.sections)) ∙ sym (twice new.sections) }
+        record { arenas = setup.arenas; sections = setup.sections ∙ twice old.sections ∙ ap (λ (ns : List ℕ). map buckets_in ns) (sym (left_sizes old.sections new.sections all.sections)) ∙ sym (twice new.sections) }
       where
         twice : (ds : List D) → map (λ d. buckets_in (disk.size d)) ds ≡ map buckets_in (map disk.size ds)
         twice [] = refl

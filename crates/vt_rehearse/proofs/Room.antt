@@ -1,5 +1,5 @@
 -- There is room for each word, whatever crashes leave.
-use Rattle.std.proofs.Common.{◌≡◌, ◌≢◌, ⊎_elim, ◌+◌, ◌-◌, ◌*◌, ◌<◌, ◌≤◌, ◌==◌, ℕ, length-append, zero, suc, Bool, true, false, cond, List, [], ◌∷◌, ◌++◌, length, map, take, drop, Some, None, refl, sym, ◌∙◌, ap, subst, arith, append-nil, take-append-drop, get_or, inl, inr, ◌⊎◌, replicate}
+use Rattle.std.proofs.Common.{◌≡◌, ◌≢◌, ⊎_elim, ◌+◌, ◌-◌, ◌*◌, ◌<◌, ◌≤◌, ◌==◌, ◌&&◌, ℕ, length-append, zero, suc, Bool, true, false, cond, List, [], ◌∷◌, ◌++◌, length, map, take, drop, Some, None, refl, sym, ◌∙◌, ap, subst, arith, append-nil, take-append-drop, get_or, inl, inr, ◌⊎◌, replicate}
 use Rattle.std.proofs.lemmas.Bool.{eqb-true, leb-false, le-leb, lt-leb}
 use Rattle.std.proofs.lemmas.Bool.Decides.{eqb_tells}
 use Rattle.std.proofs.lemmas.List.Elements.{All-cons, All-filter, All-head, All-nil, All-tail, filter_passes}
@@ -11,7 +11,7 @@ use Rattle.std.specs.Prelude.{not, slice_index}
 use Rattle.std.specs.List.{All, AllPairs, filter, sum_by}
 use Rattle.vt_model.specs.History.{Accepted, Block, History}
 use Rattle.vt_model.specs.declared.TheConstants.{CLUMP_HEADER_LEN, DIRECTORY_ENTRY_LEN, WRITTEN_VERSION}
-use Rattle.vt_model.specs.Places.{Setup, clump_len, clump_len_in, current_arena, directory_len, directory_len_in, fits, last_arena, lengths_in, needed, next_arena, room_of, takes, version_of, whole_units}
+use Rattle.vt_model.specs.Places.{Setup, clump_len, clump_len_in, closes, current_arena, directory_len, directory_len_in, fits, last_arena, lengths_in, needed, next_arena, room_of, takes, version_of, whole_units}
 use Rattle.vt_model.proofs.Prefixes.{lengths_in-append}
 use Rattle.vt_model.proofs.Room.{takes_is}
 use Rattle.vt_model.proofs.Spots.{if_in, sum_by-lengths_in}
@@ -121,7 +121,8 @@ module _ (c : Setup) (h : History) (filled : IsFilled c h) (e : Accepted) where
     arenas = filled.arenas;
     versions = filled.versions;
     full = λ arena less. by (fits c (current_arena c h) (lengths_in (current_arena c h) h ++ length e.block.bytes ∷ [])) refl
-        (fits c (current_arena c h + 1) (length e.block.bytes ∷ [])) (ap (λ (b : Bool). cond b (Some (current_arena c h)) (cond (fits c (current_arena c h + 1) (length e.block.bytes ∷ [])) (Some (current_arena c h + 1)) None))
+        (closes c (current_arena c h) && fits c (current_arena c h + 1) (length e.block.bytes ∷ []))
+        (ap (λ (b : Bool). cond b (Some (current_arena c h)) (cond (closes c (current_arena c h) && fits c (current_arena c h + 1) (length e.block.bytes ∷ [])) (Some (current_arena c h + 1)) None))
         (sym (takes_filled c h filled (current_arena c h) (lengths_in (current_arena c h) h) (length e.block.bytes))) ∙ next_is) arena less;
   }
     where
@@ -243,6 +244,10 @@ module _ (c : Setup) (h : History) (listed : List ℕ) (filled : IsFilled c h) (
       let many : length c.arenas ≡ 3 = ap (λ (ns : List ℕ). length ns) filled.arenas in
       written c h filled arena (omega (arith, less, many))
 
+  -- it can be sealed
+  closes_there : (arena : ℕ) → arena < 3 → closes c arena ≡ true
+  closes_there arena less = ap (λ (v : ℕ). not (v == 2)) (version_there arena less)
+
   -- a word fits an arena without blocks
   fits_empty : (arena : ℕ) → arena < 3 → fits c arena (length (word_of w) ∷ []) ≡ true
   fits_empty arena less =
@@ -263,16 +268,16 @@ module _ (c : Setup) (h : History) (listed : List ℕ) (filled : IsFilled c h) (
       omega (arith, past, needs, more, same, room)
 
   pub has_room : next_arena c h (length (word_of w)) ≢ None
-  has_room = subst (λ (b : Bool). cond b (Some (current_arena c h)) (cond (fits c (current_arena c h + 1) (length (word_of w) ∷ [])) (Some (current_arena c h + 1)) None) ≢ None)
+  has_room = subst (λ (b : Bool). cond b (Some (current_arena c h)) (cond (closes c (current_arena c h) && fits c (current_arena c h + 1) (length (word_of w) ∷ [])) (Some (current_arena c h + 1)) None) ≢ None)
       (sym (takes_filled c h filled (current_arena c h) (lengths_in (current_arena c h) h) (length (word_of w))))
-      (by (fits c (current_arena c h) (lengths_in (current_arena c h) h ++ length (word_of w) ∷ [])) (fits c (current_arena c h + 1) (length (word_of w) ∷ [])) refl)
+      (by (fits c (current_arena c h) (lengths_in (current_arena c h) h ++ length (word_of w) ∷ [])) (closes c (current_arena c h) && fits c (current_arena c h + 1) (length (word_of w) ∷ [])) refl)
     where
       early_or_late : (n : ℕ) → (n < 2) ⊎ (2 ≤ n)
       early_or_late zero = inl (omega arith)
       early_or_late (suc zero) = inl (omega arith)
       early_or_late (suc (suc n)) = inr (omega arith)
 
-      by : (here next : Bool) → fits c (current_arena c h + 1) (length (word_of w) ∷ []) ≡ next
+      by : (here next : Bool) → (closes c (current_arena c h) && fits c (current_arena c h + 1) (length (word_of w) ∷ [])) ≡ next
           → cond here (Some (current_arena c h)) (cond next (Some (current_arena c h + 1)) None) ≢ None
       by true next is none = absurd (cc)
       by false true is none = absurd (cc)
@@ -281,7 +286,11 @@ module _ (c : Setup) (h : History) (listed : List ℕ) (filled : IsFilled c h) (
           let words = words_taken needed_for h listed has.blocks in
           let two = two_arenas needed_for h in
           let past : 2 ≤ current_arena c h = ⊎_elim
-          (λ early. let no : true ≡ false = sym (fits_empty (current_arena c h + 1) (omega (arith, early))) ∙ is in absurd (cc))
+          (λ early.
+          let closed = closes_there (current_arena c h) (omega (arith, early)) in
+          let room = fits_empty (current_arena c h + 1) (omega (arith, early)) in
+          let both : (closes c (current_arena c h) && fits c (current_arena c h + 1) (length (word_of w) ∷ [])) ≡ true = (λ i. closed i && room i) in
+          let no : true ≡ false = sym both ∙ is in absurd (cc))
           (λ late. late)
           (early_or_late (current_arena c h)) in
           let first = full_has 0 (omega arith) (omega (arith, past)) in

@@ -30,25 +30,25 @@ use Rattle.vt_log.proofs.StandForPrefix.{number_is, region_long, there}
 -- ---- blocks that wait
 
 -- none goes to an arena before the one that is filled first
-waits_from : (layout : List ArenaRegion) (heads : List Found) (from to : Filling) (ws : List Waiting) → Fill layout heads from ws to → All (λ e. from.arena ≤ e.arena) (map waiting_block ws)
-waits_from layout heads from to [] fill = All-nil (λ (e : Accepted). from.arena ≤ e.arena)
-waits_from layout heads from to (w ∷ ws) fill =
+waits_from : (layout : List ArenaRegion) (versions : List ℕ) (heads : List Found) (from to : Filling) (ws : List Waiting) → Fill layout versions heads from ws to → All (λ e. from.arena ≤ e.arena) (map waiting_block ws)
+waits_from layout versions heads from to [] fill = All-nil (λ (e : Accepted). from.arena ≤ e.arena)
+waits_from layout versions heads from to (w ∷ ws) fill =
     let f : Filling = turned_to heads w.arena from in
     let is : f.arena ≡ w.arena = turned_arena heads w.arena from in
     let least : from.arena ≤ w.arena = fill.0 in
     All-cons (λ (e : Accepted). from.arena ≤ e.arena) (waiting_block w) (map waiting_block ws) least
     (All-weaker (λ (e : Accepted). f.arena ≤ e.arena) (λ (e : Accepted). from.arena ≤ e.arena) (λ e later. omega (arith, later, is, least)) (map waiting_block ws)
-    (waits_from layout heads (with_room_taken w.packed.len f) to ws fill.3))
+    (waits_from layout versions heads (with_room_taken w.packed.len f) to ws fill.4))
 
 -- nor before the one for which the first waits
-waits_behind : (layout : List ArenaRegion) (heads : List Found) (from to : Filling) (ws : List Waiting) (arena : ℕ) → Fill layout heads from ws to → WaitsFor arena ws → All (λ e. arena ≤ e.arena) (map waiting_block ws)
-waits_behind layout heads from to [] arena fill waits = absurd waits
-waits_behind layout heads from to (w ∷ ws) arena fill waits =
+waits_behind : (layout : List ArenaRegion) (versions : List ℕ) (heads : List Found) (from to : Filling) (ws : List Waiting) (arena : ℕ) → Fill layout versions heads from ws to → WaitsFor arena ws → All (λ e. arena ≤ e.arena) (map waiting_block ws)
+waits_behind layout versions heads from to [] arena fill waits = absurd waits
+waits_behind layout versions heads from to (w ∷ ws) arena fill waits =
     let f : Filling = turned_to heads w.arena from in
     let is : f.arena ≡ w.arena = turned_arena heads w.arena from in
     All-cons (λ (e : Accepted). arena ≤ e.arena) (waiting_block w) (map waiting_block ws) (omega (arith, waits))
     (All-weaker (λ (e : Accepted). f.arena ≤ e.arena) (λ (e : Accepted). arena ≤ e.arena) (λ e later. omega (arith, later, is, waits)) (map waiting_block ws)
-    (waits_from layout heads (with_room_taken w.packed.len f) to ws fill.3))
+    (waits_from layout versions heads (with_room_taken w.packed.len f) to ws fill.4))
 
 -- ---- what is left
 
@@ -131,7 +131,7 @@ module _ {D : Type 0} (score : List ℕ → List ℕ) (disk : DiskOf D) (l : Log
   queued = sound.queued
 
   none_before : All (λ e. l.committing ≤ e.arena) waiting
-  none_before = waits_from l.layout l.heads _ l.filling l.queue.waiting sound.whole.queue
+  none_before = waits_from l.layout l.versions l.heads _ l.filling l.queue.waiting sound.whole.queue
 
   -- where the commit isn't there yet
   before : ((a : Content) → slice_get sound.contents l.committing ≡ Some a → Holds l.committing a) → LeavesLog score l files h
@@ -194,7 +194,7 @@ module _ {D : Type 0} (score : List ℕ → List ℕ) (disk : DiskOf D) (l : Log
         let same = long in
         conclude n (l.committing + 1) cs (omega arith) within history (split_sealed l.committing sound.contents next there_is sound.split sealed) (omega (arith, same, there_is)) (long ∙ sound.many) holds
         (subst (All (λ e. l.committing + 1 ≤ e.arena)) (sym rest)
-        (waits_behind l.layout l.heads _ l.filling l.queue.waiting (l.committing + 1) sound.whole.queue (sound.whole.way sealed)))
+        (waits_behind l.layout l.versions l.heads _ l.filling l.queue.waiting (l.committing + 1) sound.whole.queue (sound.whole.way sealed)))
 
   pub keeps_sealed : LeavesLog score l files h
   keeps_sealed = ⊎_elim

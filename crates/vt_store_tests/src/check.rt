@@ -1,4 +1,5 @@
-//! Logs of three arenas on disks in memory, of which some bytes are other ones, and what is told.
+//! Logs of three arenas on disks in memory, of which some bytes are other ones, and what is told; also
+//! of an arena of version 2 that was spelled by hand.
 
 ghost use Rattle.std.specs.Prelude.{◌≡◌, ◌≤◌, [], ◌∷◌, IfSome};
 ghost use Rattle.vt_part.specs.Parts.{disk_of, table_of};
@@ -350,6 +351,182 @@ fn the_first_damage_is_told(rt: HostRuntime) -> Result<(), Fail> {
     for (row, case) in CASES.iter().enumerate() {
         match disk(rt.alloc()) {
             Some(disk) => see(&rt, rt.alloc(), disk, case, &mut rows, row),
+            None => rows.nth(row, "memory for the disk", false),
+        }
+    }
+    rows.passes()
+}
+
+// ---- an arena of version 2
+
+/// Bytes, and where in the first arena they stand.
+type Over = (u64, &'static [u8]);
+
+/// The clumps of `abc` and `abd`, each of which takes a sector.
+const ABC_CLUMP: [u8; 41] = *b"VCLP\x0d\x00\x03\x00\x03\
+    \xa9\x99\x3e\x36\x47\x06\x81\x6a\xba\x3e\x25\x71\x78\x50\xc2\x6c\x9c\xd0\xd8\x9d\
+    \x01\x00\x00\x00\x00\x00\x00\x00\x00abc";
+
+const ABD_CLUMP: [u8; 41] = *b"VCLP\x0d\x00\x03\x00\x03\
+    \xcb\x4c\xc2\x8d\xf0\xfd\xbe\x0e\xcf\x9d\x96\x62\xe2\x94\xb1\x18\x09\x2a\x57\x35\
+    \x01\x00\x00\x00\x01\x00\x00\x00\x00abd";
+
+/// Their entries, as they stand in the directory of a sealed arena.
+const DIRECTORY: [u8; 50] = *b"\x0d\x00\x03\x00\x03\
+    \xcb\x4c\xc2\x8d\xf0\xfd\xbe\x0e\xcf\x9d\x96\x62\xe2\x94\xb1\x18\x09\x2a\x57\x35\
+    \x0d\x00\x03\x00\x03\
+    \xa9\x99\x3e\x36\x47\x06\x81\x6a\xba\x3e\x25\x71\x78\x50\xc2\x6c\x9c\xd0\xd8\x9d";
+
+/// The head of arena 0 that has the two. It isn't sealed.
+const HEAD: [u8; 47] = *b"VARN\x00\x02\x00\x00\x00\x00\x00\x00\x00\x00\x02\
+    \x00\x00\x00\x00\x00\x00\x04\x00\
+    \xe5\xa4\x74\x09\x00\xa0\x3a\x26\x25\xaa\x16\x03\x07\xa5\x80\x90\x38\x65\xf8\x3b\
+    \x00\x00\x00\x01";
+
+/// A block of 500 bytes, whose clump takes two sectors, but for the two bytes by which what stands where
+/// its second one begins is read as the header of a clump of two sectors.
+const LONG: [u8; 500] = [b'a'; 500];
+
+/// Its clump's header.
+const LONG_HEADER: [u8; 38] = *b"VCLP\x0d\x01\xf4\x01\xf4\
+    \x13\xf6\x4e\x58\x99\x99\x9e\xda\x09\xf6\xcd\x24\x78\x4f\x7a\xed\xb5\xd3\x83\x9f\
+    \x01\x00\x00\x00\x00\x00\x00\x00\x00";
+
+/// The head that has this block and `abd`, and says that the last clump takes two sectors.
+const LONG_HEAD: [u8; 47] = *b"VARN\x00\x02\x00\x00\x00\x00\x00\x00\x00\x00\x02\
+    \x00\x00\x00\x00\x00\x00\x06\x00\
+    \xb7\xcc\x3a\x28\x11\xa9\x8b\xdf\x1e\xc6\x8d\xe1\x0c\x75\x9a\x2a\xc6\x60\xcd\x14\
+    \x00\x00\x00\x02";
+
+/// What is put into the arena, whether it is sealed then, and its damage.
+type Second = (&'static [Over], bool, First);
+
+const SECONDS: [Second; 11] = [
+    (&[], false, First::Sound),
+    // Where it isn't sealed, it has no directory.
+    (&[(32_718, &[0xa5; 50])], false, First::Sound),
+    (
+        &[(10, &[1]), (8_202, &[1]), (32_718, &DIRECTORY)],
+        true,
+        First::Sound,
+    ),
+    (&[(25_128, b"@")], false, First::Scores(*b"abd", *b"ab@")),
+    // What a clump says of the sectors of the one before it, behind each clump and before the sum.
+    (&[(25_121, &[2])], false, First::Numbers(1, 2)),
+    (&[(24_609, &[1])], false, First::Numbers(0, 1)),
+    (
+        &[(24_609, &[1]), (25_092, &[14])],
+        false,
+        First::Numbers(13, 14),
+    ),
+    (
+        &[(25_121, &[2]), (21, &[6]), (8_213, &[6])],
+        false,
+        First::Numbers(1, 2),
+    ),
+    // The sum, the sectors of the last clump, and an entry of a sealed one.
+    (
+        &[(21, &[6]), (8_213, &[6])],
+        false,
+        First::Numbers(1_536, 1_024),
+    ),
+    (
+        &[
+            (24_576, &LONG_HEADER),
+            (24_614, &LONG),
+            (25_093, b"\x01\xf4"),
+            (25_600, &ABD_CLUMP),
+            (25_633, &[2]),
+            (0, &LONG_HEAD),
+            (8_192, &LONG_HEAD),
+        ],
+        false,
+        First::Numbers(1, 2),
+    ),
+    (
+        &[
+            (10, &[1]),
+            (8_202, &[1]),
+            (32_718, &DIRECTORY),
+            (32_743, &[14]),
+        ],
+        true,
+        First::Numbers(13, 14),
+    ),
+];
+
+/// Puts bytes into the first arena.
+fn are_over<D: Disk>(disk: &mut D, overs: &[Over]) -> bool {
+    for (at, bytes) in overs {
+        let place = BEGIN.saturating_add(*at);
+        let len = disk.len();
+        let inside = place <= len && bytes.len() as u64 <= len - place;
+        if !inside || disk.write_at(place, bytes).is_err() {
+            return false;
+        }
+    }
+    true
+}
+
+/// The disk of a log whose first arena is of version 2, with these bytes in it.
+fn second<T: TestLog>(alloc: Global, disk: T::Disk, overs: &[Over]) -> Option<T::Disk> {
+    let log: T = fresh(alloc, disk)?;
+    let mut disk = log.close()?;
+    let spelled: [Over; 4] = [
+        (24_576, &ABC_CLUMP),
+        (25_088, &ABD_CLUMP),
+        (0, &HEAD),
+        (8_192, &HEAD),
+    ];
+    if are_over(&mut disk, &spelled) && are_over(&mut disk, overs) {
+        Some(disk)
+    } else {
+        None
+    }
+}
+
+/// What is told of the arenas of such a log is right.
+fn see_second<D: Disk + Drop>(
+    rt: &(impl Threads + Sync),
+    alloc: Global,
+    disk: D,
+    case: &Second,
+    rows: &mut Rows,
+    row: usize,
+) {
+    let (overs, sealed, first) = *case;
+    let Some(disk) = second::<DiskLog<D>>(alloc, disk, overs) else {
+        rows.nth(row, "a log that is written", false);
+        return;
+    };
+    let Some(report) = report(rt, alloc, disk) else {
+        rows.nth(row, "a log that is checked", false);
+        return;
+    };
+    let arenas = report.arenas.as_slice();
+    rows.nth(row, "how many arenas there are", arenas.len() == 3);
+    for (number, arena) in arenas.iter().enumerate() {
+        let (clumps, damage) = if number == 0 {
+            (2, damage_of(first))
+        } else {
+            (0, None)
+        };
+        rows.nth(row, "the clumps of an arena", arena.clumps == clumps);
+        rows.nth(
+            row,
+            "an arena is sealed",
+            arena.sealed == (number == 0 && sealed),
+        );
+        rows.nth(row, "the damage of an arena", arena.damage == damage);
+    }
+}
+
+#[test]
+fn the_first_damage_of_version_2_is_told(rt: HostRuntime) -> Result<(), Fail> {
+    let mut rows = Rows::new();
+    for (row, case) in SECONDS.iter().enumerate() {
+        match disk(rt.alloc()) {
+            Some(disk) => see_second(&rt, rt.alloc(), disk, case, &mut rows, row),
             None => rows.nth(row, "memory for the disk", false),
         }
     }

@@ -12,7 +12,8 @@ returns-clause-empty g c score_of told =
     (λ current settled image left.
     subst (λ (l : List ℕ). IsArena score_of c.args.region c.args.number empty l) (sym (settled told image left))
     (empty_arena score_of c.args.region c.args.number (g.D.Disk.bytes c.format.new.disk) c.encode.new.frame c.requires.len.0
-    (current_there c.args.region (length c.encode.new.frame) len (g.D.Disk.bytes c.format.new.disk) ∙ current told) c.encode.ensures.fields))
+    (current_there c.args.region (length c.encode.new.frame) len (g.D.Disk.bytes c.format.new.disk) ∙ current told)
+    (written_frame (arena_head score_of c.args.number empty) c.encode.new.frame c.encode.ensures.fields c.encode.ensures.behind)))
     c.format.ensures.current c.format.ensures.settled
 
 pub returns-clause-frame : goal.returns-clause-frame

@@ -3,8 +3,8 @@ use Rattle.std.specs.Prelude.{slice_get, sum_by}
 use Rattle.std.proofs.lemmas.Option.{same_Some}
 use Rattle.vt_arena.specs.declared.head.ArenaHead.{ArenaHead}
 use Rattle.vt_arena.specs.declared.head.Found.{Found}
-use Rattle.vt_arena.specs.Heads.{fields_of}
-use Rattle.vt_arena.specs.Layout.{fields_at}
+use Rattle.vt_arena.specs.Faults.{read_at}
+use Rattle.vt_arena.specs.Heads.{fields_of, own_fields}
 use Rattle.vt_log.specs.Answers.{OnlyReadsLog}
 use Rattle.vt_log.specs.Log.{LogState}
 use Rattle.vt_check.specs.declared.checking.ArenaReport.{ArenaReport}
@@ -71,4 +71,4 @@ loop-number-preserved g c =
     let head = head_there disk old its number r found file at there read in
     subst (λ (f : List ℕ). TellsOf score r found.head f c.in_ok-damage.damage) d.2
     (c.in_ok-damage.ensures.told r d.0 found tells (record { arena = ap (λ (l : LogState g.row.D.Denot). slice_get l.layout number) it.reads.same ∙ at; disk_is = d.1 }) here
-    (subst (λ (f : List ℕ). fields_at r.region f ≡ fields_of found.head) (sym d.2) head.0) head.1)))
+    (subst (λ (f : List ℕ). own_fields (read_at r.region r.number f) ≡ fields_of found.head) (sym d.2) head))))

@@ -7,19 +7,24 @@ use Rattle.vt_arena.specs.declared.head.ArenaHead.{ArenaHead}
 use Rattle.vt_arena.specs.declared.head.Found.{Found}
 use Rattle.vt_arena.specs.Heads.{fields_of}
 use Rattle.vt_arena.specs.Layout.{fields_at}
-use Rattle.vt_arena.specs.Places.{arena_room, directory_room}
+use Rattle.vt_arena.specs.Places.{IsArenaLen}
+use Rattle.vt_arena.specs.Directory.{walks_headers}
+use Rattle.vt_arena.proofs.Layouts.{entries_least}
 use Rattle.vt_disk.specs.Members.{DiskOf}
 use Rattle.vt_log.specs.Answers.{OnlyReadsLog}
 use Rattle.vt_log.specs.Log.{LogState}
+use Rattle.vt_log.specs.Whole.{IsHeadFor}
 use Rattle.vt_part.specs.declared.layout.ArenaRegion.{ArenaRegion}
 use Rattle.vt_check.specs.declared.checking.Damage.{Damage}
 use Rattle.vt_check.specs.declared.clumps.Cut.{Cut}
 use Rattle.vt_check.specs.declared.clumps.Tested.{Tested}
 use Rattle.vt_check.specs.Checking.{TellsOf, bad_clump, first_damage}
-use Rattle.vt_check.specs.Following.{HasFollowed, IsReadableHead, IsWithinWindow, TestsAs, cut_bytes, bytes_of_cuts}
+use Rattle.vt_check.specs.Following.{HasFollowed, HasOwnEntry, IsWithinWindow, TestsAs, cut_bytes, taken_by_cuts}
 use Rattle.vt_check.specs.Reading.{AreNextCuts}
 use Rattle.vt_check.proofs.Checks.{begin_check, check_ends, check_more, check_stops, reads_then}
 use Rattle.vt_check.proofs.Differs.{bad_clump_differs, differs_at}
+use Rattle.vt_check.proofs.Following.{taken_few}
+use Rattle.vt_check.proofs.Heads.{own_read}
 use Rattle.vt_check.proofs.Lists.{zip_many}
 use Rattle.vt_check.proofs.Steps.{counted, end_differs, tells_damage, tells_end}
 use Rattle.vt_check.proofs.checking.check_arena.Goals as goal
@@ -27,9 +32,13 @@ use Rattle.vt_check.proofs.checking.check_arena.Goals as goal
 pub loop-followed-init : goal.loop-followed-init
 loop-followed-init g c =
     begin_check g.S.Scorer.score_of g.D.Disk c.args.log.now c.args.arena c.head-head.result c.nothing-followed.result
-    (c.nothing-followed.ensures g.S.Scorer.score_of)
-    (λ r at. let same : c.arena_len-len.ensures.len.0 ≡ r = same_Some c.arena_len-len.ensures.len.0 r (sym c.arena_len-len.ensures.len.1 ∙ at) in
-    omega (arith, ap (λ (q : ArenaRegion). q.region.len) same, c.arena_len-len.ensures.len.2, c.arena_len-len.ensures.bounds.0))
+    (c.nothing-followed.ensures g.S.Scorer.score_of c.head-head.result.version)
+
+pub fill-requires-clause-small : goal.fill-requires-clause-small
+fill-requires-clause-small g c =
+    let len = c.arena_len-len.ensures in
+    let head : ArenaHead = c.head-head.result in
+    omega (arith, c.loop-followed.invariant.wide, c.loop-followed.invariant.few, c.head-head.ensures.fit len.len.0 len.len.1, entries_least head.version head.clumps, len.len.2, len.bounds.1)
 
 pub follow-requires-clause-many : goal.follow-requires-clause-many
 follow-requires-clause-many g c =
@@ -43,7 +52,23 @@ follow-requires-clause-many g c =
 
 pub follow-requires-clause-small : goal.follow-requires-clause-small
 follow-requires-clause-small g c =
-    omega (arith, ap (λ (l : List Cut). bytes_of_cuts l) c.deref-in-loop-followed-2.ensures.value, c.in_ok-fill.ensures.room, c.arena_len-len.ensures.bounds.1)
+    let len = c.arena_len-len.ensures in
+    let head : ArenaHead = c.head-head.result in
+    let cuts : List Cut = c.deref-in-loop-followed-2.result.now in
+    let many : length cuts ≡ length c.fill.new.self.cuts.items = ap (λ (l : List Cut). length l) c.deref-in-loop-followed-2.ensures.value in
+    let window : List ℕ = c.fill.new.self.clumps.items in
+    let within : All (IsWithinWindow window) cuts = subst (λ (l : List Cut). All (IsWithinWindow window) l) (sym c.deref-in-loop-followed-2.ensures.value) c.in_ok-fill.ensures.cuts in
+    omega (
+      arith,
+      taken_few head.version window cuts within,
+      many,
+      c.in_ok-fill.ensures.few,
+      c.loop-followed.invariant.wide,
+      c.head-head.ensures.fit len.len.0 len.len.1,
+      entries_least head.version head.clumps,
+      len.len.2,
+      len.bounds.1,
+    )
 
 -- the arena's region, and that its head is the one that was read
 same_head : {D : Type 0} (l : LogState D) (arena : ℕ) (head : ArenaHead) → ((found : Found) × (slice_get l.heads arena ≡ Some found) × (head ≡ found.head))
@@ -102,14 +127,14 @@ returns-in-Some-clause-differs g c =
     subst (λ (l : List Tested). AllZip (Tests window) cuts l) (sym c.deref-in-loop-followed-3.ensures.value)
     (subst (λ (l : List Cut). AllZip (Tests window) l c.in_ok-tested.tested.items) (c.deref-in-loop-followed.ensures.value ∙ sym c.deref-in-loop-followed-2.ensures.value)
     (subst (λ (w : List ℕ). AllZip (Tests w) c.deref-in-loop-followed.result.now c.in_ok-tested.tested.items) c.deref.ensures.value c.in_ok-tested.ensures.tested)) in
-    let Goes : Type 0 = HasFollowed score (it.clumps ++ map (cut_bytes window) cuts) (it.entries ++ map (λ (cut : Cut). cut.entry) cuts) c.follow.new.self in
+    let Goes : Type 0 = HasFollowed score c.head-head.result.version (it.clumps ++ map (cut_bytes window) cuts) (it.entries ++ map (λ (cut : Cut). cut.entry) cuts) c.follow.new.self in
     let Stops : Damage → Type 0 = λ d. (behind : List (List ℕ)) → bad_clump score (it.clumps ++ map (cut_bytes window) cuts ++ behind) ≡ Some d in
     let stops : Stops c.in-Some.damage = subst (λ (o : Option Damage). MatchOption o Goes Stops) c.in-Some.is
     (c.in_ok-damage.ensures.followed window it.clumps it.entries it.followed within tests) in
     differs_at (bad_clump score (it.clumps ++ map (cut_bytes window) cuts ++ [])) c.in-Some.damage (bad_clump_differs score (it.clumps ++ map (cut_bytes window) cuts ++ [])) (stops [])
 
 pub returns-in-Some-clause-told : goal.returns-in-Some-clause-told
-returns-in-Some-clause-told g c = λ r disk found tells at head_at fields its.
+returns-in-Some-clause-told g c = λ r disk found tells at head_at read.
     let score = g.S.Scorer.score_of in
     let file : List ℕ = g.D.Disk.bytes disk in
     let it = c.loop-followed.invariant in
@@ -123,30 +148,35 @@ returns-in-Some-clause-told g c = λ r disk found tells at head_at fields its.
     subst (λ (l : List Tested). AllZip (Tests window) cuts l) (sym c.deref-in-loop-followed-3.ensures.value)
     (subst (λ (l : List Cut). AllZip (Tests window) l c.in_ok-tested.tested.items) (c.deref-in-loop-followed.ensures.value ∙ sym c.deref-in-loop-followed-2.ensures.value)
     (subst (λ (w : List ℕ). AllZip (Tests w) c.deref-in-loop-followed.result.now c.in_ok-tested.tested.items) c.deref.ensures.value c.in_ok-tested.ensures.tested)) in
-    let Goes : Type 0 = HasFollowed score (it.clumps ++ map (cut_bytes window) cuts) (it.entries ++ map (λ (cut : Cut). cut.entry) cuts) c.follow.new.self in
+    let Goes : Type 0 = HasFollowed score c.head-head.result.version (it.clumps ++ map (cut_bytes window) cuts) (it.entries ++ map (λ (cut : Cut). cut.entry) cuts) c.follow.new.self in
     let Stops : Damage → Type 0 = λ d. (behind : List (List ℕ)) → bad_clump score (it.clumps ++ map (cut_bytes window) cuts ++ behind) ≡ Some d in
     let stops : Stops c.in-Some.damage = subst (λ (o : Option Damage). MatchOption o Goes Stops) c.in-Some.is
     (c.in_ok-damage.ensures.followed window it.clumps it.entries it.followed within tests) in
     let first : first_damage score r.region head file ≡ Some c.in-Some.damage =
-    check_stops score g.D.Disk c.args.log.now c.loop-followed.log c.fill.new.log c.args.arena head f it window cuts c.fill.ensures.reads
-    (λ q d t a. subst (λ (l : List Cut). AreNextCuts q.region (g.D.Disk.bytes d) head.clumps f.clumps f.used window l) (sym c.deref-in-loop-followed-2.ensures.value) (c.in_ok-fill.ensures.next q d t a))
+    check_stops score g.D.Disk c.args.log.now c.loop-followed.log c.fill.new.log c.args.arena head f it window cuts c.fill.ensures.reads within
+    (λ on. subst (λ (l : List Cut). All (HasOwnEntry window) l) (sym c.deref-in-loop-followed-2.ensures.value) (c.in_ok-fill.ensures.own on))
+    (λ q d t a. subst (λ (l : List Cut). AreNextCuts q.region head (g.D.Disk.bytes d) f.clumps f.used window l) (sym c.deref-in-loop-followed-2.ensures.value) (c.in_ok-fill.ensures.next q d t a))
     c.in-Some.damage stops r disk tells at in
     let same : head ≡ found.head = same_head c.args.log.now c.args.arena head c.head-head.ensures.head found head_at in
     let region : c.arena_len-len.ensures.len.0 ≡ r = same_Some c.arena_len-len.ensures.len.0 r (sym c.arena_len-len.ensures.len.1 ∙ at.arena) in
     let long = ap (λ (q : ArenaRegion). q.region.len) region in
+    let size : length file ≡ g.D.Disk.size disk = (g.met.D.Disk.images_fit _ _ (g.met.D.Disk.read_is_image disk tells)).0 in
+    let lens : IsArenaLen r.region.len = subst (λ (n : ℕ). IsArenaLen n) (c.arena_len-len.ensures.len.2 ∙ long) c.arena_len-len.ensures.bounds in
+    let fields : fields_at r.region file ≡ fields_of found.head =
+    sym (own_read r.region r.number file lens (omega (arith, size, c.head-head.ensures.within r disk at))) ∙ read in
     tells_damage score r found.head file (omega (arith, long, c.arena_len-len.ensures.len.2, c.arena_len-len.ensures.bounds.0))
     (omega (arith, long, c.arena_len-len.ensures.len.2, c.arena_len-len.ensures.bounds.1)) fields
-    (subst (λ (h : ArenaHead). h.used + directory_room h.clumps ≤ arena_room r.region.len) same (c.head-head.ensures.fit r at.arena))
+    (subst (λ (h : ArenaHead). IsHeadFor r h) same (c.head-head.ensures.stands r at.arena))
     c.in-Some.damage (subst (λ (h : ArenaHead). first_damage score r.region h file ≡ Some c.in-Some.damage) same first)
 
 pub returns-clause-differs : goal.returns-clause-differs
 returns-clause-differs g c =
     let it = c.loop-followed.invariant in
-    end_differs g.S.Scorer.score_of c.head-head.result.used it.clumps it.entries c.head-head.result.chain.0 c.end_of.result
+    end_differs g.S.Scorer.score_of c.head-head.result it.clumps it.entries c.end_of.result
     (c.end_of.ensures g.S.Scorer.score_of it.clumps it.entries it.followed)
 
 pub returns-clause-told : goal.returns-clause-told
-returns-clause-told g c = λ r disk found tells at head_at fields its.
+returns-clause-told g c = λ r disk found tells at head_at read.
     let score = g.S.Scorer.score_of in
     let file : List ℕ = g.D.Disk.bytes disk in
     let it = c.loop-followed.invariant in
@@ -154,13 +184,16 @@ returns-clause-told g c = λ r disk found tells at head_at fields its.
     let same : head ≡ found.head = same_head c.args.log.now c.args.arena head c.head-head.ensures.head found head_at in
     let region : c.arena_len-len.ensures.len.0 ≡ r = same_Some c.arena_len-len.ensures.len.0 r (sym c.arena_len-len.ensures.len.1 ∙ at.arena) in
     let long = ap (λ (q : ArenaRegion). q.region.len) region in
+    let size : length file ≡ g.D.Disk.size disk = (g.met.D.Disk.images_fit _ _ (g.met.D.Disk.read_is_image disk tells)).0 in
+    let lens : IsArenaLen r.region.len = subst (λ (n : ℕ). IsArenaLen n) (c.arena_len-len.ensures.len.2 ∙ long) c.arena_len-len.ensures.bounds in
+    let fields : fields_at r.region file ≡ fields_of found.head =
+    sym (own_read r.region r.number file lens (omega (arith, size, c.head-head.ensures.within r disk at))) ∙ read in
     let ends = check_ends score g.D.Disk c.args.log.now c.loop-followed.log c.args.arena head c.loop-followed.followed it (omega arith) r disk tells at in
     let told : TellsOf score r head file c.end_of.result =
     tells_end score r head file (omega (arith, long, c.arena_len-len.ensures.len.2, c.arena_len-len.ensures.bounds.0))
     (omega (arith, long, c.arena_len-len.ensures.len.2, c.arena_len-len.ensures.bounds.1))
-    (subst (λ (h : ArenaHead). fields_at r.region file ≡ fields_of h) (sym same) fields) (c.head-head.ensures.fit r at.arena)
-    it.clumps it.entries c.loop-followed.followed it.followed (subst (λ (h : ArenaHead). IsReadableHead r.number h) (sym same) its)
-    ends.0 ends.1 c.end_of.result (c.end_of.ensures score it.clumps it.entries it.followed) in
+    (subst (λ (h : ArenaHead). fields_at r.region file ≡ fields_of h) (sym same) fields) (c.head-head.ensures.stands r at.arena)
+    it.clumps it.entries c.loop-followed.followed it.followed ends.0 ends.1 c.end_of.result (c.end_of.ensures score it.clumps it.entries it.followed) in
     subst (λ (h : ArenaHead). TellsOf score r h file c.end_of.result) same told
 
 -- nothing stopped it
@@ -180,11 +213,11 @@ loop-followed-smaller g c =
     subst (λ (l : List Tested). AllZip (Tests window) cuts l) (sym c.deref-in-loop-followed-3.ensures.value)
     (subst (λ (l : List Cut). AllZip (Tests window) l c.in_ok-tested.tested.items) (c.deref-in-loop-followed.ensures.value ∙ sym c.deref-in-loop-followed-2.ensures.value)
     (subst (λ (w : List ℕ). AllZip (Tests w) c.deref-in-loop-followed.result.now c.in_ok-tested.tested.items) c.deref.ensures.value c.in_ok-tested.ensures.tested)) in
-    let Goes : Type 0 = HasFollowed score (it.clumps ++ map (cut_bytes window) cuts) (it.entries ++ map (λ (cut : Cut). cut.entry) cuts) c.follow.new.self in
+    let Goes : Type 0 = HasFollowed score c.head-head.result.version (it.clumps ++ map (cut_bytes window) cuts) (it.entries ++ map (λ (cut : Cut). cut.entry) cuts) c.follow.new.self in
     let Stops : Damage → Type 0 = λ d. (behind : List (List ℕ)) → bad_clump score (it.clumps ++ map (cut_bytes window) cuts ++ behind) ≡ Some d in
     let goes : Goes = match_none c.in_ok-damage.field-0 Goes Stops c.in_default.not-Some
     (c.in_ok-damage.ensures.followed window it.clumps it.entries it.followed within tests) in
-    let count = counted score window it.clumps it.entries (it.entries ++ map (λ (cut : Cut). cut.entry) cuts) cuts c.loop-followed.followed c.follow.new.self it.followed goes within in
+    let count = counted score c.head-head.result.version window it.clumps it.entries (it.entries ++ map (λ (cut : Cut). cut.entry) cuts) cuts c.loop-followed.followed c.follow.new.self it.followed goes within in
     let many : length cuts ≡ length c.fill.new.self.cuts.items = ap (λ (l : List Cut). length l) c.deref-in-loop-followed-2.ensures.value in
     omega (arith, count.0, many, c.in_ok-fill.ensures.some, c.loop-followed-test.true)
 
@@ -200,19 +233,16 @@ loop-followed-preserved g c =
     subst (λ (l : List Tested). AllZip (Tests window) cuts l) (sym c.deref-in-loop-followed-3.ensures.value)
     (subst (λ (l : List Cut). AllZip (Tests window) l c.in_ok-tested.tested.items) (c.deref-in-loop-followed.ensures.value ∙ sym c.deref-in-loop-followed-2.ensures.value)
     (subst (λ (w : List ℕ). AllZip (Tests w) c.deref-in-loop-followed.result.now c.in_ok-tested.tested.items) c.deref.ensures.value c.in_ok-tested.ensures.tested)) in
-    let Goes : Type 0 = HasFollowed score (it.clumps ++ map (cut_bytes window) cuts) (it.entries ++ map (λ (cut : Cut). cut.entry) cuts) c.follow.new.self in
+    let Goes : Type 0 = HasFollowed score c.head-head.result.version (it.clumps ++ map (cut_bytes window) cuts) (it.entries ++ map (λ (cut : Cut). cut.entry) cuts) c.follow.new.self in
     let Stops : Damage → Type 0 = λ d. (behind : List (List ℕ)) → bad_clump score (it.clumps ++ map (cut_bytes window) cuts ++ behind) ≡ Some d in
     let goes : Goes = match_none c.in_ok-damage.field-0 Goes Stops c.in_default.not-Some
     (c.in_ok-damage.ensures.followed window it.clumps it.entries it.followed within tests) in
-    let count = counted score window it.clumps it.entries (it.entries ++ map (λ (cut : Cut). cut.entry) cuts) cuts c.loop-followed.followed c.follow.new.self it.followed goes within in
+    let count = counted score c.head-head.result.version window it.clumps it.entries (it.entries ++ map (λ (cut : Cut). cut.entry) cuts) cuts c.loop-followed.followed c.follow.new.self it.followed goes within in
     let many : length cuts ≡ length c.fill.new.self.cuts.items = ap (λ (l : List Cut). length l) c.deref-in-loop-followed-2.ensures.value in
     let f = c.loop-followed.followed in
     let head : ArenaHead = c.head-head.result in
-    let sum : bytes_of_cuts cuts ≡ bytes_of_cuts c.fill.new.self.cuts.items = ap (λ (l : List Cut). bytes_of_cuts l) c.deref-in-loop-followed-2.ensures.value in
-    check_more score g.D.Disk c.args.log.now c.loop-followed.log c.fill.new.log c.args.arena head f it window cuts c.fill.ensures.reads
-    (λ q d t a. subst (λ (l : List Cut). AreNextCuts q.region (g.D.Disk.bytes d) head.clumps f.clumps f.used window l) (sym c.deref-in-loop-followed-2.ensures.value) (c.in_ok-fill.ensures.next q d t a))
+    check_more score g.D.Disk c.args.log.now c.loop-followed.log c.fill.new.log c.args.arena head f it window cuts c.fill.ensures.reads within
+    (λ on. subst (λ (l : List Cut). All (HasOwnEntry window) l) (sym c.deref-in-loop-followed-2.ensures.value) (c.in_ok-fill.ensures.own on))
+    (λ q d t a. subst (λ (l : List Cut). AreNextCuts q.region head (g.D.Disk.bytes d) f.clumps f.used window l) (sym c.deref-in-loop-followed-2.ensures.value) (c.in_ok-fill.ensures.next q d t a))
     c.follow.new.self goes count.0 count.1 (omega (arith, many, c.in_ok-fill.ensures.some)) (omega (arith, many, c.in_ok-fill.ensures.few))
-    (λ r at.
-    let region : c.arena_len-len.ensures.len.0 ≡ r = same_Some c.arena_len-len.ensures.len.0 r (sym c.arena_len-len.ensures.len.1 ∙ at) in
-    omega (arith, sum, c.in_ok-fill.ensures.room, ap (λ (q : ArenaRegion). q.region.len) region, c.arena_len-len.ensures.len.2))
     c.in_ok-fill.ensures.faults

@@ -159,7 +159,7 @@ returns g c = λ before given.
     let is = is_state c.read_back.new.log b.bloom c.read_back.new.bits shards c.in-Ok-open_memory.opened.2.items (replicate c.args.sessions None) c.durable-2.result c.read_back.new.log.durable after waits c.durable-2.ensures in
     let found = mounts score disk c.args.sections.items b.sections.items o.items c.args.sizes opens.sections made.0 c.args.log c.read_back.new.log b.bits c.read_back.new.bits shards c.least_mark-least.result
     c.args.filter b.bloom opens.filter_is c.args.part tests before given (short_regions disk c.args.log given.whole) marks c.least_mark-least.ensures.filter greatest all c.args.sessions (omega (arith, c.ranges.sessions.fits)) c.requires.some_arena c.requires.some_section (omega (arith, c.requires.many))
-    c.what_is_read_is_a_prefix.ensures c.no_block_lacks.ensures.none c.base_is_free-2.ensures c.first_blocks_are_legal.ensures.legal c.base_is_free.ensures.legal c.saved_filters_are_told_apart.ensures.one_saved in
+    (λ d tells. g.met.D.Disk.read_is_image d tells) c.what_is_read_is_a_prefix.ensures c.no_block_lacks.ensures.none c.base_is_free-2.ensures c.first_blocks_are_legal.ensures.legal c.base_is_free.ensures.legal c.saved_filters_are_told_apart.ensures.one_saved in
     let k = state c.read_back.new.log shards b.bloom c.read_back.new.bits (replicate c.args.sessions None) c.read_back.new.log.durable in
     let whole_mount = found_mount score disk before c.args.log c.args.sections.items c.args.filter given b.sections.items b.bloom b.bits opens.sections opens.filter_is
     o.items c.args.sizes.lumps c.args.sizes.clean made.0 c.read_back.new.log c.read_back.new.bits shards all.reads

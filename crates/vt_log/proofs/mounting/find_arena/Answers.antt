@@ -2,12 +2,12 @@
 use Rattle.std.proofs.Common.{◌<◌, length, get_or, set, sym, subst, rules, Ok, Err, false}
 use Rattle.std.proofs.lemmas.Option.{slice_get-get_or}
 use Rattle.vt_arena.specs.declared.head.Found.{Found}
-use Rattle.vt_arena.specs.Faults.{is_arena_fault}
+use Rattle.vt_arena.specs.Faults.{is_arena_fault, reads_to_find}
 use Rattle.vt_log.specs.declared.error.LogBad.{LogBad}
 use Rattle.vt_log.specs.Faults.{CountsFaults, is_log_fault}
 use Rattle.vt_log.specs.Log.{disks_of}
 use Rattle.vt_log.specs.Mounting.{FindsNext}
-use Rattle.vt_log.proofs.AreFound.{read_set, counts_set, part_of_region, fields_for, found_for, finds_ok, finds_err, counts_refused}
+use Rattle.vt_log.proofs.AreFound.{read_set, reads_made, counts_set, part_of_region, fields_for, found_for, finds_ok, finds_err, counts_refused}
 use Rattle.vt_log.proofs.mounting.find_arena.Goals as goal
 
 pub offset_bounds-parts-r : goal.offset_bounds-parts-r
@@ -33,6 +33,8 @@ returns-in-Ok-clause-answer g c =
       answer.0,
       λ told. fields_for g.D.Disk c.args.parts.now c.args.r p answer.0 at (answer.1 told),
       finds_ok c.args.arena c.args.r answer.0 c.in-Ok.found answer.2,
+      read_set g.D.Disk (reads_to_find c.args.r.number c.args.r.region.len answer.0) c.args.r.part c.args.parts.now p c.find.new.disk at
+          (reads_made g.D.Disk (reads_to_find c.args.r.number c.args.r.region.len answer.0) p.disk c.find.new.disk c.find.ensures.reads (λ is. cc) answer.3),
     )
 
 pub returns-in-Ok-clause-found : goal.returns-in-Ok-clause-found
@@ -51,7 +53,7 @@ returns-in-Ok-clause-read g c =
     let p = get_or c.args.parts.now c.args.r.part c.index-parts-r.result in
     let it = part_of_region g.D.Disk c.args.parts.now c.args.r c.requires in
     let at = slice_get-get_or c.args.parts.now c.args.r.part c.index-parts-r.result it.below in
-    read_set g.D.Disk 2 c.args.r.part c.args.parts.now p c.find.new.disk at c.find.ensures.reads
+    read_set g.D.Disk 3 c.args.r.part c.args.parts.now p c.find.new.disk at c.find.ensures.reads
 
 pub returns-in-Ok-clause-cause : goal.returns-in-Ok-clause-cause
 returns-in-Ok-clause-cause g c =
@@ -69,6 +71,7 @@ returns-in-Err-clause-answer g c =
       answer.0,
       λ told. fields_for g.D.Disk c.args.parts.now c.args.r p answer.0 at (answer.1 told),
       subst (λ (bad : LogBad). FindsNext false c.args.arena c.args.r answer.0 (Err bad)) (sym c.refused.ensures) (finds_err c.args.arena c.args.r answer.0 c.in-Err.bad answer.2),
+      tt,
     )
 
 pub returns-in-Err-clause-read : goal.returns-in-Err-clause-read
@@ -76,7 +79,7 @@ returns-in-Err-clause-read g c =
     let p = get_or c.args.parts.now c.args.r.part c.index-parts-r.result in
     let it = part_of_region g.D.Disk c.args.parts.now c.args.r c.requires in
     let at = slice_get-get_or c.args.parts.now c.args.r.part c.index-parts-r.result it.below in
-    read_set g.D.Disk 2 c.args.r.part c.args.parts.now p c.find.new.disk at c.find.ensures.reads
+    read_set g.D.Disk 3 c.args.r.part c.args.parts.now p c.find.new.disk at c.find.ensures.reads
 
 pub returns-in-Err-clause-cause : goal.returns-in-Err-clause-cause
 returns-in-Err-clause-cause g c =

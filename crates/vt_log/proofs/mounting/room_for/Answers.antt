@@ -11,7 +11,7 @@ use Rattle.vt_log.proofs.Lists.{no_region}
 use Rattle.vt_log.proofs.mounting.room_for.Goals as goal
 
 abbrev no_found : Found
-no_found = record { head = record { version = 0; number = 0; sealed = false; clumps = 0; used = 0; chain = record { 0 = [] } }; selector = 0 }
+no_found = record { head = record { version = 0; number = 0; sealed = false; clumps = 0; used = 0; chain = record { 0 = [] }; last = 0 }; selector = 0 }
 
 pub resume-requires-2-clause-len : goal.resume-requires-2-clause-len
 resume-requires-2-clause-len c =

@@ -1,15 +1,28 @@
-use Rattle.std.proofs.Common.{◌≡◌, ◌+◌, ◌-◌, ◌^◌, ℕ, List, length, length-set, drop, get_or, set, sym, ap, ◌∙◌, subst, arith}
+use Rattle.std.proofs.Common.{◌≡◌, ◌+◌, ◌-◌, ◌^◌, ◌≤◌, ℕ, List, length, length-set, drop, get_or, set, refl, sym, ap, ◌∙◌, subst, arith}
 use Rattle.std.specs.Prelude.{min}
 use Rattle.vt_model.specs.Places.{bucket_of}
 use Rattle.vt_rebuild.specs.Walking.{AreCounted}
-use Rattle.vt_rebuild.proofs.Counting.{counted_more}
-use Rattle.vt_rebuild.proofs.Walks.{gives_info, walk_fails, walk_on}
+use Rattle.vt_rebuild.proofs.Counting.{counted_more, none_counted}
+use Rattle.vt_rebuild.proofs.Walks.{begin_walk, gives_info, walk_fails, walk_on}
 use Rattle.vt_rebuild.proofs.walking.count_blocks.Goals as goal
 
 pub returns-in_err-info-clause-keeps : goal.returns-in_err-info-clause-keeps
 returns-in_err-info-clause-keeps g c =
     (walk_fails g.S.Scorer.score_of g.D.Disk c.args.log.now c.loop-tail.log c.next_back.new.log c.loop-tail.tail c.next_back.new.tail _
     c.loop-tail.invariant.0 c.in_err-info.ensures).0
+
+pub loop-tail-init : goal.loop-tail-init
+loop-tail-init g c =
+    let score = g.S.Scorer.score_of in
+    let total : ℕ = length c.args.counts.now in
+    let left : ℕ = c.tail-tail.result.left in
+    let began = c.tail-tail.ensures in (
+      begin_walk score g.D.Disk c.args.log.now c.tail-tail.result began.tail began.all began.behind,
+      refl,
+      λ h tells sound.
+          let past : length h ≤ left = omega (arith, began.all, sound.front) in
+          subst (λ (counts : List ℕ). AreCounted score total (drop left h) counts) (sym c.requires.zeros) (none_counted score total h left past),
+    )
 
 pub loop-tail-preserved : goal.loop-tail-preserved
 loop-tail-preserved g c =

@@ -28,7 +28,7 @@ returns-in-Ok-Some g c =
       cause = e.cause;
     } in
     let is : c.back.result ≡ Ok (Some c.in-Ok-Some.info) = c.in-Ok-Some.is ∙ ap (λ (o : Option Info). Ok o) c.in-Ok-Some.field-0-is in
-    gives_block score g.D.Disk l new t after c.in-Ok-Some.info (has_next_back l t c.requires.stands c.requires.tail none c.requires.some) none
+    gives_block score g.D.Disk l new t after c.in-Ok-Some.info (has_next_back g.D.Disk l t c.requires.stands c.requires.tail none c.requires.some c.requires.come) none
     (subst (λ (r : Result (Option Info) BackBad). BackAnswers score g.D.Disk l new t after r) is it)
 
 pub returns-in-Err-Damaged : goal.returns-in-Err-Damaged
@@ -50,5 +50,5 @@ returns-in-Err-Damaged g c =
       cause = e.cause;
     } in
     let is : c.back.result ≡ Err (Damaged c.in-Err-Damaged.want c.in-Err-Damaged.found) = c.in-Err-Damaged.is ∙ ap (λ (b : BackBad). Err b) c.in-Err-Damaged.field-0-is in
-    gives_damage score g.D.Disk l new t after c.in-Err-Damaged.want c.in-Err-Damaged.found c.tail_place.result (has_next_back l t c.requires.stands c.requires.tail none c.requires.some) none
+    gives_damage score g.D.Disk l new t after c.in-Err-Damaged.want c.in-Err-Damaged.found c.tail_place.result (has_next_back g.D.Disk l t c.requires.stands c.requires.tail none c.requires.some c.requires.come) none
     (subst (λ (r : Result (Option Info) BackBad). BackAnswers score g.D.Disk l new t after r) is it) (ap (λ (p : Place). p.arena) c.tail_place.ensures)

@@ -17,7 +17,7 @@ pub loop-tail-init : goal.loop-tail-init
 loop-tail-init g c =
     let old : Opened g.row.D.Denot = opened c.args.log.now c.args.shards.now c.args.bits.now in
     let e = c.tail-tail.ensures in (
-      begin_reading g.S.Scorer.score_of g.D.Disk old c.tail-tail.result c.requires.mounted (stands_whole g.D.Disk c.args.log.now e.whole) c.requires.unused e.tail e.all e.behind,
+      begin_reading g.S.Scorer.score_of g.D.Disk old c.tail-tail.result c.requires.mounted (stands_whole g.D.Disk c.args.log.now e.whole) c.requires.unused e.tail e.all e.past e.behind,
       begin_once g.D.Disk c.args.least old c.tail-tail.result c.requires.mounted e.all,
     )
 
@@ -32,6 +32,9 @@ next_back-requires-clause-rest g c = c.loop-tail.invariant.0.queue
 
 pub next_back-requires-clause-stands : goal.next_back-requires-clause-stands
 next_back-requires-clause-stands g c = c.loop-tail.invariant.0.stands
+
+pub next_back-requires-clause-come : goal.next_back-requires-clause-come
+next_back-requires-clause-come g c = c.loop-tail.invariant.0.come
 
 pub returns-in_err-info : goal.returns-in_err-info
 returns-in_err-info g c =

@@ -3,7 +3,7 @@ use Rattle.vt_base.specs.declared.why.Why.{Why}
 use Rattle.vt_requests.specs.Working.{DoesWork, NeedsRoom}
 use Rattle.vt_requests.proofs.Told.{room_is_own}
 use Rattle.vt_requests.proofs.WorkDone.{did, handed_on, no_work, work_then}
-use Rattle.vt_log.proofs.Places.{slice_get_there}
+use Rattle.vt_log.proofs.Lists.{slice_get_there}
 use Rattle.vt_requests.proofs.working.make_spare.Goals as goal
 
 pub loop-alloc-init : goal.loop-alloc-init

@@ -21,5 +21,5 @@ invariant_of-self g c =
     (rw (← place_is, ← buf) c.put-2.ensures.written)
     (rw (← place_is, ← buf) c.put-2.ensures.behind) in
     staged_whole a p c.push.new.self _ _ c.score-self-inside.result c.self.invariant (rw (← c.self.view_is) at c.requires.rest) (rw (← c.self.view_is) at c.requires.fits)
-    few (search rules) (search rules) c.block_room.ensures
+    few (search rules) (search rules) c.block_room.ensures.room
     (subst (HasDirectory (a.staged.items ++ p ∷ [])) (sym (take_at c.put-2.new.buf _ a.directory.len (search rules))) has)

@@ -14,6 +14,7 @@ returns-in-Ok-clause-spelling c =
       clumps = c.u32_at-2.result;
       used = c.u64_at.result;
       chain = record { 0 = c.copy_from_slice.new.self };
+      last = c.last_in.result;
     })
     (record {
       version = c.u16_at.ensures;
@@ -22,4 +23,6 @@ returns-in-Ok-clause-spelling c =
       clumps = c.u32_at-2.ensures;
       used = c.u64_at.ensures;
       chain = search rules;
+      last = c.last_in.ensures;
     })
+    (omega arith)

@@ -35,14 +35,14 @@ returns-in-BadClump-clause-followed g c = λ window clumps entries it within tes
     let test = subst (λ (t : Tested). TestsAs score (cut_bytes window here.0) here.0.entry t) is here.4 in
     ap (λ (l : List (List ℕ)). bad_clump score l)
     (append_assoc clumps (map (cut_bytes window) cuts) behind ∙ behind_is window clumps behind cuts i here.0 here.2)
-    ∙ followed_to score _ _ c.loop-i.self c.loop-i.self now (cut_bytes window here.0) here.0.entry c.in-BadClump.damage test
+    ∙ followed_to score c.args.version _ _ c.loop-i.self c.loop-i.self now (cut_bytes window here.0) here.0.entry c.in-BadClump.damage test
     (map (cut_bytes window) (drop (suc i) cuts) ++ behind)
 
 pub returns-clause-followed : goal.returns-clause-followed
 returns-clause-followed g c = λ window clumps entries it within tests.
     let cuts : List Cut = c.args.cuts.now in
     let whole : take c.loop-i.i cuts ≡ cuts = take_all c.loop-i.i cuts c.loop-i-test.false in
-    subst (λ (l : List Cut). HasFollowed g.S.Scorer.score_of (clumps ++ map (cut_bytes window) l) (entries ++ map (λ (cut : Cut). cut.entry) l) c.loop-i.self) whole
+    subst (λ (l : List Cut). HasFollowed g.S.Scorer.score_of c.args.version (clumps ++ map (cut_bytes window) l) (entries ++ map (λ (cut : Cut). cut.entry) l) c.loop-i.self) whole
     (c.loop-i.invariant.2 window clumps entries it within tests)
 
 pub loop-i-preserved : goal.loop-i-preserved
@@ -58,20 +58,20 @@ loop-i-preserved g c =
         omega (
           arith,
           ap (λ (f : Followed). f.used) w.self-is,
-          used_on _ _ cut.0 _ w.step.ensures.used (get_or_from_slice_get cuts i cut.0 _ cut.1),
+          used_on c.args.version _ _ cut.0 _ w.step.ensures.used (get_or_from_slice_get cuts i cut.0 _ cut.1),
           c.loop-i.invariant.1,
-          sum_grows cuts i cut.0 cut.1,
+          sum_grows c.args.version cuts i cut.0 cut.1,
         ),
         λ window clumps entries it within tests.
             let here = zip_at (Tests window) cuts c.args.tested.now i tests c.loop-i-test.true in
             let now = c.loop-i.invariant.2 window clumps entries it within tests in
             let is = sym (get_or_from_slice_get c.args.tested.now i here.1 _ here.3) ∙ w.in-Sound.is in
             let test = subst (λ (t : Tested). Tests window here.0 t) is here.4 in
-            subst (λ (f : Followed). HasFollowed score (clumps ++ map (cut_bytes window) (take (i + 1) cuts)) (entries ++ map (λ (t : Cut). t.entry) (take (i + 1) cuts)) f) (sym w.self-is)
-            (subst (λ (es : List (List ℕ)). HasFollowed score (clumps ++ map (cut_bytes window) (take (i + 1) cuts)) es w.step.new.self) (grows (λ (t : Cut). t.entry) entries cuts i here.0 here.2)
-            (subst (λ (cs : List (List ℕ)). HasFollowed score cs ((entries ++ map (λ (t : Cut). t.entry) (take i cuts)) ++ here.0.entry ∷ []) w.step.new.self)
+            subst (λ (f : Followed). HasFollowed score c.args.version (clumps ++ map (cut_bytes window) (take (i + 1) cuts)) (entries ++ map (λ (t : Cut). t.entry) (take (i + 1) cuts)) f) (sym w.self-is)
+            (subst (λ (es : List (List ℕ)). HasFollowed score c.args.version (clumps ++ map (cut_bytes window) (take (i + 1) cuts)) es w.step.new.self) (grows (λ (t : Cut). t.entry) entries cuts i here.0 here.2)
+            (subst (λ (cs : List (List ℕ)). HasFollowed score c.args.version cs ((entries ++ map (λ (t : Cut). t.entry) (take i cuts)) ++ here.0.entry ∷ []) w.step.new.self)
             (grows (cut_bytes window) clumps cuts i here.0 here.2)
-            (step_on score window _ _ c.loop-i.self w.step.new.self here.0 _ _ w.step.ensures.followed (get_or_from_slice_get cuts i here.0 _ here.2) now
+            (step_on score c.args.version window _ _ c.loop-i.self w.step.new.self here.0 _ _ w.step.ensures.followed (get_or_from_slice_get cuts i here.0 _ here.2) now
             (at_all (IsWithinWindow window) cuts i here.0 within here.2) test.0 test.1))),
       )
       | in-BadEntry w ↦ (
@@ -79,20 +79,20 @@ loop-i-preserved g c =
         omega (
           arith,
           ap (λ (f : Followed). f.used) w.self-is,
-          used_on _ _ cut.0 _ w.step-in-BadEntry.ensures.used (get_or_from_slice_get cuts i cut.0 _ cut.1),
+          used_on c.args.version _ _ cut.0 _ w.step-in-BadEntry.ensures.used (get_or_from_slice_get cuts i cut.0 _ cut.1),
           c.loop-i.invariant.1,
-          sum_grows cuts i cut.0 cut.1,
+          sum_grows c.args.version cuts i cut.0 cut.1,
         ),
         λ window clumps entries it within tests.
             let here = zip_at (Tests window) cuts c.args.tested.now i tests c.loop-i-test.true in
             let now = c.loop-i.invariant.2 window clumps entries it within tests in
             let is = sym (get_or_from_slice_get c.args.tested.now i here.1 _ here.3) ∙ w.in-BadEntry.is in
             let test = subst (λ (t : Tested). Tests window here.0 t) is here.4 in
-            subst (λ (f : Followed). HasFollowed score (clumps ++ map (cut_bytes window) (take (i + 1) cuts)) (entries ++ map (λ (t : Cut). t.entry) (take (i + 1) cuts)) f) (sym w.self-is)
-            (subst (λ (es : List (List ℕ)). HasFollowed score (clumps ++ map (cut_bytes window) (take (i + 1) cuts)) es w.step-in-BadEntry.new.self) (grows (λ (t : Cut). t.entry) entries cuts i here.0 here.2)
-            (subst (λ (cs : List (List ℕ)). HasFollowed score cs ((entries ++ map (λ (t : Cut). t.entry) (take i cuts)) ++ here.0.entry ∷ []) w.step-in-BadEntry.new.self)
+            subst (λ (f : Followed). HasFollowed score c.args.version (clumps ++ map (cut_bytes window) (take (i + 1) cuts)) (entries ++ map (λ (t : Cut). t.entry) (take (i + 1) cuts)) f) (sym w.self-is)
+            (subst (λ (es : List (List ℕ)). HasFollowed score c.args.version (clumps ++ map (cut_bytes window) (take (i + 1) cuts)) es w.step-in-BadEntry.new.self) (grows (λ (t : Cut). t.entry) entries cuts i here.0 here.2)
+            (subst (λ (cs : List (List ℕ)). HasFollowed score c.args.version cs ((entries ++ map (λ (t : Cut). t.entry) (take i cuts)) ++ here.0.entry ∷ []) w.step-in-BadEntry.new.self)
             (grows (cut_bytes window) clumps cuts i here.0 here.2)
-            (step_on score window _ _ c.loop-i.self w.step-in-BadEntry.new.self here.0 _ _ w.step-in-BadEntry.ensures.followed (get_or_from_slice_get cuts i here.0 _ here.2) now
+            (step_on score c.args.version window _ _ c.loop-i.self w.step-in-BadEntry.new.self here.0 _ _ w.step-in-BadEntry.ensures.followed (get_or_from_slice_get cuts i here.0 _ here.2) now
             (at_all (IsWithinWindow window) cuts i here.0 within here.2) test.0 test.1))),
       )
     ]

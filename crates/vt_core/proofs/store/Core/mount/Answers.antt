@@ -119,7 +119,7 @@ returns-in-Ok-clause-mounts g c =
     let d = c.args.devices in
     let e = c.in-Ok.ensures in
     let given = log_given g.S.Scorer.score_of g.D.Disk d.parts.items d.sections.items d.filter c.in-Ok.log e.whole e.mounted e.layout.0 e.layout.1 few
-    e.answer.0 e.answer.1 e.answer.2 (λ h base tells distinct is. e.found h base tells distinct is) e.disks e.settled e.cause e.most_calls in
+    e.answer.0 e.answer.1 e.answer.2 (λ h base tells distinct is. e.found h base tells distinct is) e.disks e.settled e.cause e.answer.3 in
     let it : IsMountOf g.S.Scorer.score_of g.D.Disk (tables_in d) (devices_in d) c.args.sizes c.args.sessions c.open.result =
     subst (λ (t : List Table). IsMountOf g.S.Scorer.score_of g.D.Disk t (devices_in d) c.args.sizes c.args.sessions c.open.result) e.layout.1 (c.open.ensures (disks_of d.parts.items) given) in
     it.mounts
@@ -131,7 +131,7 @@ returns-in-Ok-clause-found g c =
     let d = c.args.devices in
     let e = c.in-Ok.ensures in
     let given = log_given g.S.Scorer.score_of g.D.Disk d.parts.items d.sections.items d.filter c.in-Ok.log e.whole e.mounted e.layout.0 e.layout.1 few
-    e.answer.0 e.answer.1 e.answer.2 (λ h base tells distinct is. e.found h base tells distinct is) e.disks e.settled e.cause e.most_calls in
+    e.answer.0 e.answer.1 e.answer.2 (λ h base tells distinct is. e.found h base tells distinct is) e.disks e.settled e.cause e.answer.3 in
     let it : IsMountOf g.S.Scorer.score_of g.D.Disk (tables_in d) (devices_in d) c.args.sizes c.args.sessions c.open.result =
     subst (λ (t : List Table). IsMountOf g.S.Scorer.score_of g.D.Disk t (devices_in d) c.args.sizes c.args.sessions c.open.result) e.layout.1 (c.open.ensures (disks_of d.parts.items) given) in
     it.found
@@ -143,7 +143,7 @@ returns-in-Ok-clause-standing g c =
     let d = c.args.devices in
     let e = c.in-Ok.ensures in
     let given = log_given g.S.Scorer.score_of g.D.Disk d.parts.items d.sections.items d.filter c.in-Ok.log e.whole e.mounted e.layout.0 e.layout.1 few
-    e.answer.0 e.answer.1 e.answer.2 (λ h base tells distinct is. e.found h base tells distinct is) e.disks e.settled e.cause e.most_calls in
+    e.answer.0 e.answer.1 e.answer.2 (λ h base tells distinct is. e.found h base tells distinct is) e.disks e.settled e.cause e.answer.3 in
     let it : IsMountOf g.S.Scorer.score_of g.D.Disk (tables_in d) (devices_in d) c.args.sizes c.args.sessions c.open.result =
     subst (λ (t : List Table). IsMountOf g.S.Scorer.score_of g.D.Disk t (devices_in d) c.args.sizes c.args.sessions c.open.result) e.layout.1 (c.open.ensures (disks_of d.parts.items) given) in
     it.standing
@@ -155,7 +155,7 @@ returns-in-Ok-clause-refused g c =
     let d = c.args.devices in
     let e = c.in-Ok.ensures in
     let given = log_given g.S.Scorer.score_of g.D.Disk d.parts.items d.sections.items d.filter c.in-Ok.log e.whole e.mounted e.layout.0 e.layout.1 few
-    e.answer.0 e.answer.1 e.answer.2 (λ h base tells distinct is. e.found h base tells distinct is) e.disks e.settled e.cause e.most_calls in
+    e.answer.0 e.answer.1 e.answer.2 (λ h base tells distinct is. e.found h base tells distinct is) e.disks e.settled e.cause e.answer.3 in
     let it : IsMountOf g.S.Scorer.score_of g.D.Disk (tables_in d) (devices_in d) c.args.sizes c.args.sessions c.open.result =
     subst (λ (t : List Table). IsMountOf g.S.Scorer.score_of g.D.Disk t (devices_in d) c.args.sizes c.args.sessions c.open.result) e.layout.1 (c.open.ensures (disks_of d.parts.items) given) in
     it.refused

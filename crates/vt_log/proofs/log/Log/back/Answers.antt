@@ -2,11 +2,11 @@
 use Rattle.std.proofs.Common.{◌≡◌, ℕ, List, IsTrue, sym, ◌∙◌, ap, subst, Some}
 use Rattle.std.specs.Prelude.{slice_get}
 use Rattle.vt_arena.specs.declared.directory.At.{At}
-use Rattle.vt_arena.specs.Directory.{last_entry}
+use Rattle.vt_arena.specs.Directory.{what_is_walked}
 use Rattle.vt_log.specs.Back.{TailState, GivesEntry, MovesBack}
 use Rattle.vt_log.specs.Log.{LogState}
 use Rattle.vt_log.specs.Sound.{IsArenaAt}
-use Rattle.vt_log.proofs.Places.{slice_get_there}
+use Rattle.vt_log.proofs.Lists.{slice_get_there}
 use Rattle.vt_log.proofs.StepsBack.{tail_inside, next_once, no_next}
 use Rattle.vt_log.proofs.log.Log.back.Goals as goal
 
@@ -24,12 +24,9 @@ returns-clause-entry g c arena at found r disk queue next has there =
     let one = next_once l.heads t arena new.arena at new.at found other.0 has other.1 next c.skip_empty.ensures.next in
     let left : new.left ≡ t.left = c.skip_empty.ensures.same.0 in
     let read = c.back_in_arena.ensures.entry found r disk (subst (λ (a : ℕ). slice_get l.heads a ≡ Some found) one.0 has) (subst (λ (a : ℕ). IsArenaAt l a r disk) one.0 there) in
-    let here = subst (λ (a : At). (entry : List ℕ) × (IsTrue g.D.Disk.tells → entry ≡ last_entry r.region a.index (g.D.Disk.bytes disk)) × GivesEntry arena t.left found.head.used a entry c.back_in_arena.result) (sym one.1)
-    (subst (λ (a : ℕ). (entry : List ℕ) × (IsTrue g.D.Disk.tells → entry ≡ last_entry r.region new.at.index (g.D.Disk.bytes disk)) × GivesEntry a t.left found.head.used new.at entry c.back_in_arena.result) (sym one.0)
-    (subst (λ (n : ℕ). (entry : List ℕ) × (IsTrue g.D.Disk.tells → entry ≡ last_entry r.region new.at.index (g.D.Disk.bytes disk)) × GivesEntry new.arena n found.head.used new.at entry c.back_in_arena.result) left read)) in
-    let moved = subst (λ (a : At). MovesBack arena a c.back_in_arena.new.tail c.back_in_arena.result) (sym one.1)
-    (subst (λ (a : ℕ). MovesBack a new.at c.back_in_arena.new.tail c.back_in_arena.result) (sym one.0) c.back_in_arena.ensures.moved) in
-    (here.0, here.1, here.2, moved)
+    subst (λ (a : At). (bytes : List ℕ) × (IsTrue g.D.Disk.tells → bytes ≡ what_is_walked found.head r.region a (g.D.Disk.bytes disk)) × GivesEntry arena t.left found.head a bytes c.back_in_arena.result × MovesBack arena found.head a bytes c.back_in_arena.new.tail c.back_in_arena.result) (sym one.1)
+    (subst (λ (a : ℕ). (bytes : List ℕ) × (IsTrue g.D.Disk.tells → bytes ≡ what_is_walked found.head r.region new.at (g.D.Disk.bytes disk)) × GivesEntry a t.left found.head new.at bytes c.back_in_arena.result × MovesBack a found.head new.at bytes c.back_in_arena.new.tail c.back_in_arena.result) (sym one.0)
+    (subst (λ (n : ℕ). (bytes : List ℕ) × (IsTrue g.D.Disk.tells → bytes ≡ what_is_walked found.head r.region new.at (g.D.Disk.bytes disk)) × GivesEntry new.arena n found.head new.at bytes c.back_in_arena.result × MovesBack new.arena found.head new.at bytes c.back_in_arena.new.tail c.back_in_arena.result) left read))
 
 pub returns-clause-spares : goal.returns-clause-spares
 returns-clause-spares g c arena at found r next has there =

@@ -80,8 +80,8 @@ returns g c =
           let back : q ≡ r = sym (it.r_one q at.arena) in
           c.read.ensures.committed a before behind s tells
           (subst (λ (x : ArenaRegion). IsArenaContent g.S.Scorer.score_of x.region.len a) back content)
-          (subst (λ (x : ArenaRegion). HasBlocks x.region a.stored (g.D.Disk.bytes c.index_mut.result.now.disk)) back
-          (subst (λ (d : _). HasBlocks q.region a.stored (g.D.Disk.bytes d)) (sym (it.disk_one q disk at)) blocks))
+          (subst (λ (x : ArenaRegion). HasBlocks x.region a (g.D.Disk.bytes c.index_mut.result.now.disk)) back
+          (subst (λ (d : _). HasBlocks q.region a (g.D.Disk.bytes d)) (sym (it.disk_one q disk at)) blocks))
           split (offset ∙ is);
       whole = read_whole g.S.Scorer.score_of c.read.result c.read.ensures.whole;
       cost = λ q at has.

@@ -1,10 +1,12 @@
 -- Each turn passes an arena that has no block left.
-use Rattle.std.proofs.Common.{◌≡◌, ◌-◌, ◌<◌, refl, ◌∙◌, ap, arith, length, get_or, Some}
+use Rattle.std.proofs.Common.{◌≡◌, ◌-◌, ◌<◌, refl, ◌∙◌, ap, subst, arith, length, get_or, Some}
 use Rattle.std.specs.Prelude.{slice_get}
 use Rattle.std.proofs.lemmas.Option.{slice_get_read}
 use Rattle.vt_arena.specs.declared.head.Found.{Found}
 use Rattle.vt_log.specs.Back.{TailState}
 use Rattle.vt_log.specs.Log.{LogState}
+use Rattle.vt_log.specs.Whole.{IsWholeLog}
+use Rattle.vt_log.proofs.Versions.{head_on}
 use Rattle.vt_log.proofs.StepsBack.{skip_some, skip_more, skip_behind}
 use Rattle.vt_log.proofs.log.Log.skip_empty.Goals as goal
 
@@ -24,6 +26,7 @@ loop-tail-preserved g c =
     let is : found ≡ get_or l.heads new.arena found = c.index.ensures ∙ ap (λ (m : LogState _). get_or m.heads new.arena found) c.self.view_is in
     let at : slice_get l.heads new.arena ≡ Some found = slice_get_read l.heads (length l.heads) new.arena found refl below is in
     skip_more l c.args.tail.now t new found c.loop-tail.invariant c.requires.left c.loop-tail-test.true (omega (arith, some)) at refl refl c.start-tail-inside.ensures
+    (head_on g.D.Disk l (subst (IsWholeLog g.D.Disk) c.self.view_is c.self.invariant) new.arena found at)
 
 pub returns-clause-behind : goal.returns-clause-behind
 returns-clause-behind g c h n sound behind =

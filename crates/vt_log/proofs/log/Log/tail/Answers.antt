@@ -14,3 +14,8 @@ returns-clause-behind g c h sound =
 
 pub returns-clause-whole : goal.returns-clause-whole
 returns-clause-whole g c = subst (λ (l : LogState _). IsWholeLog g.D.Disk l) c.self.view_is c.self.invariant
+
+pub returns-clause-past : goal.returns-clause-past
+returns-clause-past g c =
+    let items : c.len-2.result ≡ length c.self.inside.heads.items = search rules in
+    items ∙ ap (λ (l : LogState _). length l.heads) c.self.view_is

@@ -79,7 +79,7 @@ returns-in-Ok-clause-opened g c =
     let d = c.args.devices in
     let e = c.in-Ok.ensures in
     let given = log_given g.S.Scorer.score_of g.D.Disk d.parts.items d.sections.items d.filter c.in-Ok.log e.whole e.mounted e.layout.0 e.layout.1 few
-    e.answer.0 e.answer.1 e.answer.2 (λ h base tells distinct is. e.found h base tells distinct is) e.disks e.settled e.cause e.most_calls in
+    e.answer.0 e.answer.1 e.answer.2 (λ h base tells distinct is. e.found h base tells distinct is) e.disks e.settled e.cause e.answer.3 in
     c.open_beside.ensures.opened d (record { tables = e.layout.1; found = given }) refl
 
 pub returns-in-Ok-clause-refused : goal.returns-in-Ok-clause-refused
@@ -89,6 +89,6 @@ returns-in-Ok-clause-refused g c =
     let d = c.args.devices in
     let e = c.in-Ok.ensures in
     let given = log_given g.S.Scorer.score_of g.D.Disk d.parts.items d.sections.items d.filter c.in-Ok.log e.whole e.mounted e.layout.0 e.layout.1 few
-    e.answer.0 e.answer.1 e.answer.2 (λ h base tells distinct is. e.found h base tells distinct is) e.disks e.settled e.cause e.most_calls in
+    e.answer.0 e.answer.1 e.answer.2 (λ h base tells distinct is. e.found h base tells distinct is) e.disks e.settled e.cause e.answer.3 in
     c.open_beside.ensures.refused d (record { tables = e.layout.1; found = given }) refl refl
     (omega (arith, c.len-part.ensures, d.parts.ok.0))
