@@ -10,10 +10,11 @@ use vt_base::Sha1Scorer;
 use vt_conf::{cached_blocks, entry_room};
 use vt_empty::{Shape, fresh_store};
 use vt_handler::{Client, Streams};
-use vt_host::{ErrorLines, StdClock, StdSink, StdSource, System, ToldAs};
+use vt_host::{StdClock, StdSink, StdSource, System};
 use vt_out::Clock;
 use vt_session::Ended;
 use vt_shard::Sizes;
+use vt_told::{ErrorLines, ToldAs};
 use vt_use::serve_store;
 
 /// The shape of the store.

@@ -5,15 +5,14 @@
 //! system below them tell: which were made, in which order and with which answers, and what is held;
 //! folders and partitions say it in clauses of their own, and what a terminal is shown in none. The
 //! system's own calls, in `system.rt` and `paths.rt`, are trusted and tell nothing. Between them and
-//! the adapters may stand what tells a `Teller` of each call that fails: `told.rt`.
+//! the adapters may stand what tells of each call that fails (`vt_told`).
 // Tests: crates/vt_host_tests/src/streams.rt (source, sink), named.rt (files, parts), disk.rt,
-// folder.rt and owners.rt (folders), dialer.rt (links), clock.rt, told.rt (what is told), terminal.rt.
+// folder.rt and owners.rt (folders), dialer.rt (links), clock.rt, terminal.rt.
 #![tactic(auto)]
 
 mod clock;
 mod dialer;
 mod disk;
-mod error_lines;
 mod faults;
 mod files;
 mod folder;
@@ -22,24 +21,14 @@ mod link;
 mod owners;
 mod parts;
 mod paths;
-mod reasons;
 mod sink;
 mod source;
 mod system;
-mod teller;
 mod terminal;
-mod told;
-mod told_clock;
-mod told_files;
-mod told_folders;
-pub mod told_laws;
-mod told_net;
-mod told_streams;
 
 pub use clock::StdClock;
 pub use dialer::StdDialer;
 pub use disk::FileDisk;
-pub use error_lines::ErrorLines;
 pub use files::StdFiles;
 pub use folder::StdFolder;
 pub use folders::StdFolders;
@@ -49,7 +38,4 @@ pub use paths::{FolderCalls, Look, PieceCalls};
 pub use sink::StdSink;
 pub use source::StdSource;
 pub use system::{ClockCalls, Connector, FileCalls, Opener, ReadCalls, System, WriteCalls};
-pub use teller::{Call, Teller};
 pub use terminal::{Erasing, Terminal};
-pub use told::{Told, ToldAs};
-pub use told_net::ToldNet;

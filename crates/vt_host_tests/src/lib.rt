@@ -19,5 +19,3 @@ mod owners;
 mod streams;
 #[cfg(test)]
 mod terminal;
-#[cfg(test)]
-mod told;

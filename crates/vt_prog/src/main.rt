@@ -12,9 +12,10 @@ use std::rt::Env;
 use vt_commands::{end, run};
 use vt_handler::Streams;
 use vt_host::{
-    Erasing, ErrorLines, FileParts, StdClock, StdDialer, StdFiles, StdFolders, StdSink, StdSource,
-    System, Terminal, Told, ToldAs, ToldNet,
+    Erasing, FileParts, StdClock, StdDialer, StdFiles, StdFolders, StdSink, StdSource, System,
+    Terminal,
 };
+use vt_told::{ErrorLines, Told, ToldAs, ToldNet};
 
 /// Hands the system's streams, files, folders, connections and clock to `run` of `vt_commands`, and
 /// ends by the status that it tells. Each call of theirs that fails is told on standard error, but

@@ -1,10 +1,10 @@
 //! Files, of which each call that fails is told.
 
-use crate::system::{FileCalls, Opener};
 use crate::teller::{Call, Teller};
 use crate::told::{Told, ToldAs};
 use std::fs::OpenOptions;
 use std::io;
+use vt_host::{FileCalls, Opener};
 
 impl<O: Opener, T: Teller + Copy> Opener for Told<O, T> {
     type File = ToldAs<O::File, T>;

@@ -1,9 +1,9 @@
 -- What makes the calls that are told where they fail.
 use Rattle.vt_dial.specs.Dialled.{Dialled, nobody, out, back, more}
-use Rattle.vt_host.specs.declared.told.Label.{Label}
-use Rattle.vt_host.specs.declared.told.ToldAs.{ToldAs}
-use Rattle.vt_host.specs.declared.told.Told.{Told}
-use Rattle.vt_host.specs.declared.told_net.ToldNet.{ToldNet}
+use Rattle.vt_told.specs.declared.told.Label.{Label}
+use Rattle.vt_told.specs.declared.told.ToldAs.{ToldAs}
+use Rattle.vt_told.specs.declared.told.Told.{Told}
+use Rattle.vt_told.specs.declared.told_net.ToldNet.{ToldNet}
 
 -- What makes the calls of a told system.
 abbrev pub told_calls : {S T : Type 0} → Told S T → S

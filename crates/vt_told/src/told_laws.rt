@@ -3,16 +3,17 @@
 //! So a call of it is just one call of that, with its answer.
 
 ghost use Rattle.std.specs.Prelude.{◌≡◌, ℕ, List};
-ghost use Rattle.vt_host.specs.Telling.{told_as_calls, told_calls, told_connector, unlabelled};
-ghost use Rattle.vt_host.specs.declared.told.Told.{Told};
-ghost use Rattle.vt_host.specs.declared.told.ToldAs.{ToldAs};
-ghost use Rattle.vt_host.specs.declared.told_net.ToldNet.{ToldNet};
+ghost use Rattle.vt_told.specs.Telling.{told_as_calls, told_calls, told_connector, unlabelled};
+ghost use Rattle.vt_told.specs.declared.told.Told.{Told};
+ghost use Rattle.vt_told.specs.declared.told.ToldAs.{ToldAs};
+ghost use Rattle.vt_told.specs.declared.told_net.ToldNet.{ToldNet};
 
-use crate::paths::{FolderCalls, PieceCalls};
-use crate::system::{ClockCalls, Connector, FileCalls, Opener, ReadCalls, WriteCalls};
 use crate::teller::Teller;
 use crate::told::{Told, ToldAs};
 use crate::told_net::ToldNet;
+use vt_host::{
+    ClockCalls, Connector, FileCalls, FolderCalls, Opener, PieceCalls, ReadCalls, WriteCalls,
+};
 
 /// A told opener has opened what is opened by what it wraps, and its names name the same.
 pub fn told_openers_open<O: Opener, T: Teller + Copy>()

@@ -1,10 +1,10 @@
 //! Lines on standard error, one for each call of the system that failed.
 
 use crate::reasons::reason;
-use crate::system::WriteCalls;
 use crate::teller::{Call, Teller};
 use std::alloc::{AllocError, Global};
 use std::io;
+use vt_host::WriteCalls;
 
 /// What is said where there is no memory for a line.
 const SHORT: &[u8] = b"venti: a call failed: no memory to tell which\n";

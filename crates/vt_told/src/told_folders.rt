@@ -1,11 +1,11 @@
 //! Folders, of which each call that fails is told.
 
-use crate::paths::{FolderCalls, Look, PieceCalls};
 use crate::teller::{Call, Teller};
 use crate::told::{Told, ToldAs};
 use std::alloc::Global;
 use std::io;
 use std::io::ErrorKind;
+use vt_host::{FolderCalls, Look, PieceCalls};
 
 impl<C: FolderCalls, T: Teller + Copy> FolderCalls for Told<C, T> {
     type File = ToldAs<C::File, T>;

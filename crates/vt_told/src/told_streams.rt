@@ -1,10 +1,10 @@
 //! Streams, of which each call that fails is told.
 
-use crate::system::{ReadCalls, WriteCalls};
 use crate::teller::{Call, Teller};
 use crate::told::ToldAs;
 use std::io;
 use std::io::ErrorKind;
+use vt_host::{ReadCalls, WriteCalls};
 
 impl<R: ReadCalls, T: Teller + Copy> ReadCalls for ToldAs<R, T> {
     ghost tells = { R.tells };

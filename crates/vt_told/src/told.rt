@@ -21,7 +21,7 @@ pub struct Told<S, T> {
 
 impl<S, T: Teller + Copy> Told<S, T> {
     ghost use Rattle.std.specs.Prelude.{◌≡◌};
-    ghost use Rattle.vt_host.specs.Telling.{told_calls};
+    ghost use Rattle.vt_told.specs.Telling.{told_calls};
 
     /// What makes these calls, and tells of those that fail.
     pub fn new(calls: S, alloc: Global, teller: T) -> Self
@@ -52,7 +52,7 @@ pub struct ToldAs<S, T> {
 
 impl<S, T: Teller + Copy> ToldAs<S, T> {
     ghost use Rattle.std.specs.Prelude.{◌≡◌};
-    ghost use Rattle.vt_host.specs.Telling.{told_as_calls};
+    ghost use Rattle.vt_told.specs.Telling.{told_as_calls};
 
     /// What makes these calls, under this name.
     pub fn new(calls: S, alloc: Global, name: &str, teller: T) -> Self

@@ -1,10 +1,10 @@
 //! A clock that tells where it can't be asked.
 
-use crate::system::ClockCalls;
 use crate::teller::{Call, Teller};
 use crate::told::ToldAs;
 use std::io;
 use std::time::Duration;
+use vt_host::ClockCalls;
 
 impl<C: ClockCalls, T: Teller + Copy> ClockCalls for ToldAs<C, T> {
     ghost tells = { C.tells };

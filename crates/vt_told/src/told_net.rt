@@ -1,10 +1,10 @@
 //! Connections, of which each call that fails is told.
 
-use crate::system::Connector;
 use crate::teller::{Call, Teller};
 use crate::told::{Label, ToldAs};
 use std::alloc::Global;
 use std::io;
+use vt_host::Connector;
 
 /// Makes connections, and tells of each call that fails, of a connection's streams too.
 #[derive(Drop)]
@@ -22,7 +22,7 @@ pub struct ToldNet<N, T> {
 
 impl<N: Connector, T: Teller + Copy> ToldNet<N, T> {
     ghost use Rattle.std.specs.Prelude.{◌≡◌};
-    ghost use Rattle.vt_host.specs.Telling.{told_connector};
+    ghost use Rattle.vt_told.specs.Telling.{told_connector};
 
     /// What makes these connections, and tells of calls that fail.
     pub fn new(net: N, alloc: Global, teller: T) -> Self
@@ -45,7 +45,7 @@ impl<N: Connector, T: Teller + Copy> ToldNet<N, T> {
 }
 
 impl<N: Connector, T: Teller + Copy> Connector for ToldNet<N, T> {
-    ghost use Rattle.vt_host.specs.Telling.{labelled};
+    ghost use Rattle.vt_told.specs.Telling.{labelled};
 
     type Input = ToldAs<N::Input, T>;
 
