@@ -1,7 +1,8 @@
 #!/usr/bin/env python3
-"""Times `venti vacfs` over a store on files: folders of 1,000 and 10,000 items that are listed by messages of at most
-8,192 bytes, folders of 10,000 and 100,000 small files of which each is walked to and read, and a file of 64 MiB that is
-read, beside `read_range` alone over blocks in memory, and the same blocks asked of `venti session`.
+"""Times `venti vacfs` over a store on files: folders of 1,000 to 100,000 items that are listed by messages of at most
+8,192 bytes, folders of 10,000 and 100,000 small files of which each is walked to and read, and a file of 64 MiB and one
+of 1 GiB that are read in order and at random, beside `cat` of the same file, and the same blocks asked of `venti
+session`; and `read_range` alone over blocks in memory.
 
 Run it as bench/view.py [FOLDER], at the top of the repository; the files are made in FOLDER, on whose disk the times
 depend, or else in /var/tmp. It needs Python 3, and `rt` for `read_range` alone, which is timed by a program that is
@@ -9,10 +10,13 @@ made, and proved, in a folder of its own. A run that fails, or that shows less t
 """
 import hashlib
 import os
+import random
+import struct
 import subprocess
 import sys
 import tempfile
 import time
+import zlib
 
 import session
 import store
@@ -22,7 +26,7 @@ sys.path.insert(0, os.path.join(store.TOP, "tools"))
 import unvac
 
 MIB = store.MIB
-SIZE = 64
+SIZE, SIZES = 64, (64, 1_024)
 BLOCK = 8_192
 LONGEST, SHORT = 65_536, 8_192
 
@@ -57,7 +61,7 @@ def row(work, amount, seconds, processor, each, memory):
 
 def folders(folder):
     """Listing folders of many items, each folder three times over, by a run for each."""
-    for count in (0, 1_000, 10_000):
+    for count in (0, 1_000, 10_000, 100_000):
         name = f"items{count}"
         os.mkdir(os.path.join(folder, name))
         for n in range(count):
@@ -99,37 +103,76 @@ def walked(folder):
             row(work, f"{count:,} files", f"{seconds:.2f}", processor, each, memory)
 
 
-def rate(processor):
-    return f"{SIZE / processor:,.0f} MiB a second"
+def rate(size, processor):
+    return f"{size / processor:,.0f} MiB a second"
 
 
-def file(folder):
-    """Reading a file from its start to its end."""
-    name = os.path.join(folder, "file")
-    os.mkdir(name)
-    tree.write_input(os.path.join(name, "f"), SIZE)
-    with open(os.path.join(name, "f"), "rb") as source:
-        wanted = hashlib.sha1(source.read()).digest()
-    score = archive_of(folder, "file")
+def in_order(shown):
+    """The SHA-1 of a file, read from its start to its end."""
+    found = hashlib.sha1()
+    for piece in shown.bytes_of([b"f"]):
+        found.update(piece)
+    return found.digest()
+
+
+def at_random(size):
+    """What reads a file in parts as long as a message has room for, in an order that is the same in each run, and sums
+    up each part, with its place."""
 
     def read(shown):
-        found = hashlib.sha1()
-        for piece in shown.bytes_of([b"f"]):
-            found.update(piece)
-        return found.digest()
+        shown.opened([b"f"])
+        places = list(range(0, size * MIB, shown.most))
+        random.Random(1).shuffle(places)
+        return sum(part_sum(at, shown.ask(unvac.READ, struct.pack("<IQI", unvac.HERE, at, shown.most))[4:])
+                   for at in places)
 
-    for msize in (SHORT, LONGEST):
-        found, seconds, processor, memory = view(folder, score, msize, read)
-        if found != wanted:
-            sys.exit("what is shown isn't what was archived")
-        row(f"a file is read, messages of {msize:,} bytes", f"{SIZE} MiB", f"{seconds:.2f}", processor, rate(processor), memory)
-    path = os.path.join(folder, "asked")
-    with open(os.path.join(name, "f"), "rb") as source:
-        # A block ends behind its last byte that isn't zero.
-        blocks = (block.rstrip(b"\0") for block in iter(lambda: source.read(BLOCK), b""))
-        store.put(path, [session.HELLO, *map(session.read_of, blocks), session.frame(6, b"")])
-    seconds, processor, memory = store.run([store.PROGRAM, "session", "v.conf"], folder, path)
-    row("its blocks are asked of `session`", f"{SIZE} MiB", f"{seconds:.2f}", processor, rate(processor), memory)
+    return read
+
+
+def part_sum(at, part):
+    return zlib.crc32(part, at & 0xFFFFFFFF)
+
+
+def sum_of(path, each):
+    """What `at_random` is to find in a file."""
+    with open(path, "rb") as source:
+        return sum(part_sum(n * each, part) for n, part in enumerate(iter(lambda: source.read(each), b"")))
+
+
+def file(size):
+    """What reads a file of so many MiB, beside others that do."""
+
+    def work(folder):
+        name = f"file{size}"
+        os.mkdir(os.path.join(folder, name))
+        path = os.path.join(folder, name, "f")
+        tree.write_input(path, size)
+        with open(path, "rb") as source:
+            wanted = hashlib.sha1()
+            while part := source.read(MIB):
+                wanted.update(part)
+        score = archive_of(folder, name)
+        for msize in (SHORT, LONGEST):
+            for order, read, right in (
+                ("in order", in_order, wanted.digest()),
+                ("at random", at_random(size), sum_of(path, msize - 24)),
+            ):
+                found, seconds, processor, memory = view(folder, score, msize, read)
+                if found != right:
+                    sys.exit("what is shown isn't what was archived")
+                row(f"a file is read {order}, messages of {msize:,} bytes", f"{size} MiB", f"{seconds:.2f}", processor,
+                    rate(size, processor), memory)
+        seconds, processor, memory = store.run(["cat", path], folder, os.devnull)
+        row("`cat` of the file", f"{size} MiB", f"{seconds:.2f}", processor, "", memory)
+        asked = os.path.join(folder, "asked")
+        with open(path, "rb") as source:
+            # A block ends behind its last byte that isn't zero.
+            blocks = (block.rstrip(b"\0") for block in iter(lambda: source.read(BLOCK), b""))
+            store.put(asked, [session.HELLO, *map(session.read_of, blocks), session.frame(6, b"")])
+        seconds, processor, memory = store.run([store.PROGRAM, "session", "v.conf"], folder, asked)
+        row("its blocks are asked of `session`", f"{size} MiB", f"{seconds:.2f}", processor, rate(size, processor), memory)
+
+    return work
 
 
 def alone(folder):
@@ -144,7 +187,7 @@ def alone(folder):
     read = SIZE * MIB // part * part
     both, memory = tree.timed([program, "read"], path, tree.PASSES * read)
     processor = (both - writing) / tree.PASSES
-    row("`read_range` alone, blocks in memory", f"{SIZE} MiB", "", processor, rate(processor), memory)
+    row("`read_range` alone, blocks in memory", f"{SIZE} MiB", "", processor, rate(SIZE, processor), memory)
 
 
 def main():
@@ -154,7 +197,8 @@ def main():
     print("|---|---|---|---|---|---|")
     store.in_store(where, 256, 8_192, folders)
     store.in_store(where, 256, 8_192, walked)
-    store.in_store(where, 256, 8_192, file)
+    for size in SIZES:
+        store.in_store(where, 4 * size, 8_192 * size // 64, file(size))
     with tempfile.TemporaryDirectory(dir=where) as folder:
         alone(folder)
 

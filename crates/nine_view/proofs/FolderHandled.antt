@@ -17,7 +17,7 @@ use Rattle.nine_view.specs.declared.fid.Reading.{Reading}
 use Rattle.nine_view.specs.Answers.{ViewOutcome, is_small, most_data, reads_files, reads_folder, sets_fid, stays, to_folder}
 use Rattle.nine_view.specs.Failures.{failure_words}
 use Rattle.nine_view.specs.Handling.{Handles, KeepsFiles, SettlesRequest, archive_failure}
-use Rattle.nine_view.specs.Known.{ViewState, IsRightView, fid_at, keeping, limit, with_fid}
+use Rattle.nine_view.specs.Known.{ViewState, IsRightView, along, fid_at, keeping, limit, with_fid}
 use Rattle.nine_view.specs.Replies.{IsViewReply, failed, fails}
 use Rattle.nine_view.proofs.Handled.{settled_so}
 use Rattle.nine_view.proofs.Keeping.{at_with, right_fid, right_with, with_with}
@@ -83,12 +83,12 @@ module _ {S : Type 0} (does : S → Call → S → Type 0) (holds : S → Maps �
               ));
           few = λ map once tells right some.
               absurd (some whole);
-          bytes = tt;
+          bytes = λ some. absurd (some whole);
           still = λ nothing. absurd nothing;
           whole = λ never. absurd never;
           failed_so =
               subst (λ (o : Option VacBad). IfSome o (λ bad.
-              stays new outcome.reply ≡ fails (keeping new.kept old) bad)) (sym whole) tt;
+              stays new outcome.reply ≡ fails (along new.way (keeping new.kept old)) bad)) (sym whole) tt;
         }
 
     -- they couldn't be
@@ -108,7 +108,7 @@ module _ {S : Type 0} (does : S → Call → S → Type 0) (holds : S → Maps �
               reads_as does holds score_of s s' (Err bad) (Err bad) _ _ refl keeps.1
               (λ map broken right. (right, broken));
           few = λ map once tells right some. refl;
-          bytes = tt;
+          bytes = λ some. refl;
           still = λ nothing. absurd nothing;
           whole = λ never. absurd never;
           failed_so = refl;

@@ -17,7 +17,7 @@ use Rattle.nine_view.specs.declared.request_error.RequestError.{RequestError}
 use Rattle.nine_view.specs.Answers.{Answer, ViewOutcome, refused_answer, settled, sets, walks, reads_file, reads_folder, sets_fid, stays}
 use Rattle.nine_view.specs.Failures.{failure_words}
 use Rattle.nine_view.specs.Handling.{Handles, SettlesFid, SetsFid, SettlesRequest, SettlesSo, archive_failure}
-use Rattle.nine_view.specs.Known.{ViewState, IsRightView, keeping, limit}
+use Rattle.nine_view.specs.Known.{ViewState, IsRightView, along, keeping, limit}
 use Rattle.nine_view.specs.Replies.{AsksFew, AsksForBytes, IsViewReply, NeverFails, failed, fails}
 
 module _ {S : Type 0} (does : S → Call → S → Type 0) (holds : S → Maps → Type 0)
@@ -42,12 +42,12 @@ module _ {S : Type 0} (does : S → Call → S → Type 0) (holds : S → Maps �
             (λ map right. (so.right map right, gives map));
         few = λ map once tells right some.
             absurd (some so.whole);
-        bytes = tt;
+        bytes = λ some. absurd (some so.whole);
         still = λ nothing. (refl, gives);
         whole = λ never. so.whole;
         failed_so =
             subst (λ (f : Option VacBad). IfSome f (λ bad.
-            stays new outcome.reply ≡ fails (keeping new.kept old) bad)) (sym so.whole) tt;
+            stays new outcome.reply ≡ fails (along new.way (keeping new.kept old)) bad)) (sym so.whole) tt;
       }
 
   pub settles : (old new : ViewState) (out : List ℕ) (result : Result ℕ AnswerError) (answer : Answer)
@@ -68,7 +68,8 @@ module _ {S : Type 0} (does : S → Call → S → Type 0) (holds : S → Maps �
   -- memory was short, and nothing has changed
   pub no_memory : (old : ViewState) (out : List ℕ) (answer : Answer) → (NeverFails answer → ⊥)
       → ((map : BlockMap) → AsksFew (score_of []) map old.kept old.kept answer (Some NoMemory) 0)
-      → AsksForBytes does holds score_of s s answer
+      → ((calls : List Call)
+      → AsksForBytes does holds score_of s s old.way old.way answer (Some NoMemory) calls)
       → Handles does holds score_of s s tag old old out (Err (Failed NoMemory)) answer
   no_memory old out answer may none bytes =
       let nothing : ReadsFew {X = Unit {0}} does holds score_of s s (Err NoMemory)
@@ -84,7 +85,7 @@ module _ {S : Type 0} (does : S → Call → S → Type 0) (holds : S → Maps �
         says = refl;
         reads = nothing.reads;
         few = nothing.few;
-        bytes = bytes;
+        bytes = bytes nothing.reads.calls;
         still = λ nothing. (refl, λ map some. absurd (some refl));
         whole = λ never. absurd (may never);
         failed_so = refl;
@@ -100,7 +101,7 @@ module _ {S : Type 0} (does : S → Call → S → Type 0) (holds : S → Maps �
     reads = reads_nothing does holds score_of s (Ok tt) _ refl
         (λ map right. (so.right map right, so.done));
     few = λ map once tells right some. absurd (some refl);
-    bytes = tt;
+    bytes = λ some. absurd (some refl);
     still = λ nothing. (refl, λ map. so.done);
     whole = λ never. absurd never;
     failed_so = tt;
@@ -111,7 +112,7 @@ module _ {S : Type 0} (does : S → Call → S → Type 0) (holds : S → Maps �
     reads = reads_nothing does holds score_of s (Ok tt) _ refl
         (λ map right. (so.right map right, so.done));
     few = λ map once tells right some. absurd (some refl);
-    bytes = tt;
+    bytes = λ some. absurd (some refl);
     still = λ nothing. (refl, λ map. so.done);
     whole = λ never. absurd never;
     failed_so = tt;
@@ -122,12 +123,12 @@ module _ {S : Type 0} (does : S → Call → S → Type 0) (holds : S → Maps �
     reads = reads_nothing does holds score_of s (Err bad) _ (ap refusal_of so.done.0)
         (λ map right. (so.right map right, λ some. absurd (some so.done.0)));
     few = λ map once tells right some. ap (λ (k : ViewState). k.kept) so.done.1;
-    bytes = tt;
+    bytes = λ some. ap (λ (k : ViewState). k.way) so.done.1;
     still = λ nothing. (refl, λ map some. absurd (some so.done.0));
     whole = λ never. absurd never;
     failed_so =
         ap (λ (r : RMessage). stays new r) so.says
-        ∙ ap (λ (k : ViewState). stays (keeping new.kept k)
+        ∙ ap (λ (k : ViewState). stays (along new.way (keeping new.kept k))
         (r_error (failure_words (limit old) bad))) so.done.1;
   }
 

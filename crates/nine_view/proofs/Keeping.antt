@@ -1,16 +1,18 @@
 -- What holds of all fids, when one is set or goes.
-use Rattle.std.proofs.Common.{◌≡◌, ◌==◌, ℕ, Option, Some, List, [], ◌∷◌, refl, sym, ◌∙◌, ap, subst, inl, inr, eq-eqb, eqb-true}
+use Rattle.std.proofs.Common.{◌≡◌, ◌==◌, ℕ, Some, List, [], ◌∷◌, refl, sym, ◌∙◌, ap, subst, inl, inr, eq-eqb, eqb-true}
 use Rattle.std.specs.List.{All, AllByRecursion}
 use Rattle.std.proofs.lemmas.Bool.{cases_Bool}
 use Rattle.vt_tree.specs.Maps.{BlockMap}
 use Rattle.vac_read.specs.declared.kept.KeptFolder.{KeptFolder}
+use Rattle.vac_read.specs.declared.last_way.WayBlock.{WayBlock}
 use Rattle.vac_read.specs.declared.node.Node.{Node}
 use Rattle.vac_read.specs.Kept.{IsRightKept}
+use Rattle.vac_read.specs.LastWay.{IsRightWay}
 use Rattle.vac_read.specs.Nodes.{AreNodeEntries, FitsToldItem}
 use Rattle.nine_view.specs.declared.fid.Fid.{Fid}
 use Rattle.nine_view.specs.Files.{FitsMessage}
 use Rattle.nine_view.specs.Kept.{IsKeptView, IsKeptFid}
-use Rattle.nine_view.specs.Known.{ViewState, IsRightView, IsRightFid, fid_at, keeping, with_fid, without_fid}
+use Rattle.nine_view.specs.Known.{ViewState, IsRightView, IsRightFid, along, fid_at, keeping, with_fid, without_fid}
 
 module _ (P : Fid → Type 0) (fid : ℕ) where
   pub all_with : (f : Fid) (fids : List (ℕ × Fid)) → AllByRecursion (λ e. P e.1) fids → P f
@@ -98,6 +100,7 @@ pub right_with : (map : BlockMap) (known : ViewState) (fid : ℕ) (f : Fid) → 
 right_with map known fid f right is = record {
   fids = all_with (λ (g : Fid). IsRightFid map known.top g) fid f known.fids right.fids is;
   kept = right.kept;
+  way = right.way;
 }
 
 pub right_without : (map : BlockMap) (known : ViewState) (fid : ℕ) → IsRightView map known
@@ -105,6 +108,7 @@ pub right_without : (map : BlockMap) (known : ViewState) (fid : ℕ) → IsRight
 right_without map known fid right = record {
   fids = all_without (λ (g : Fid). IsRightFid map known.top g) fid known.fids right.fids;
   kept = right.kept;
+  way = right.way;
 }
 
 pub right_fid : (map : BlockMap) (known : ViewState) (fid : ℕ) (f : Fid) → IsRightView map known
@@ -115,7 +119,12 @@ right_fid map known fid f right at =
 -- another folder is kept
 pub right_keeping : (map : BlockMap) (known : ViewState) (kept : List KeptFolder)
     → IsRightView map known → IsRightKept map kept → IsRightView map (keeping kept known)
-right_keeping map known kept right is = record { fids = right.fids; kept = is }
+right_keeping map known kept right is = record { fids = right.fids; kept = is; way = right.way }
+
+-- other blocks are kept of the way of the last read
+pub right_along : (map : BlockMap) (known : ViewState) (way : List WayBlock)
+    → IsRightView map known → IsRightWay map way → IsRightView map (along way known)
+right_along map known way right is = record { fids = right.fids; kept = right.kept; way = is }
 
 pub kept_keeping : (known : ViewState) (kept : List KeptFolder) → IsKeptView known
     → IsKeptView (keeping kept known)

@@ -1,5 +1,5 @@
 -- How many blocks were asked for on a walk, one name further.
-use Rattle.std.proofs.Common.{◌≡◌, ◌+◌, ℕ, zero, Option, Some, None, Result, Ok, Err, List, [], ◌∷◌, ◌++◌, true, false, refl, sym, ◌∙◌, ap, subst, inl, inr, arith}
+use Rattle.std.proofs.Common.{◌≡◌, ◌+◌, ℕ, Option, Some, None, Result, Ok, Err, List, [], ◌∷◌, ◌++◌, true, false, refl, sym, ◌∙◌, subst, inl, inr, arith}
 use Rattle.std.specs.Str.{bytes_eq}
 use Rattle.vt_tree.specs.Maps.{BlockMap}
 use Rattle.vac_read.specs.declared.error.VacBad.{VacBad}

@@ -1,5 +1,5 @@
 -- What a walk comes to.
-use Rattle.std.proofs.Common.{◌≡◌, ◌≢◌, ◌==◌, ℕ, true, false, Option, Some, None, Result, Ok, Err, List, [], ◌∷◌, length, refl, sym, ap, subst, arith, eqb-true}
+use Rattle.std.proofs.Common.{◌≡◌, ◌≢◌, ◌==◌, ℕ, true, false, Some, None, Result, Ok, Err, List, [], ◌∷◌, length, refl, sym, ap, subst, arith, eqb-true}
 use Rattle.std.proofs.lemmas.Bool.{eqb-false}
 use Rattle.std.specs.Prelude.{IfErr, IfOk, OnErr, OnOk}
 use Rattle.vt_tree.specs.Calls.{Call}
@@ -67,7 +67,7 @@ module _ {S W : Type 0} (does : S → Call → S → Type 0) (holds : S → Maps
           says = refl;
           reads = told.reads;
           few = told.few;
-          bytes = tt;
+          bytes = λ some. refl;
           still = λ nothing. absurd nothing;
           whole = λ never. absurd never;
           failed_so = refl;
@@ -98,7 +98,7 @@ module _ {S W : Type 0} (does : S → Call → S → Type 0) (holds : S → Maps
           says = refl;
           reads = told.reads;
           few = told.few;
-          bytes = tt;
+          bytes = λ some. refl;
           still = λ nothing. absurd nothing;
           whole = λ never. absurd never;
           failed_so = refl;
@@ -130,7 +130,7 @@ module _ {S W : Type 0} (does : S → Call → S → Type 0) (holds : S → Maps
           says = refl;
           reads = told.reads;
           few = told.few;
-          bytes = tt;
+          bytes = λ some. refl;
           still = λ nothing. absurd nothing;
           whole = λ never. absurd never;
           failed_so = tt;
@@ -164,7 +164,7 @@ module _ {S W : Type 0} (does : S → Call → S → Type 0) (holds : S → Maps
           says = says;
           reads = told.reads;
           few = told.few;
-          bytes = tt;
+          bytes = λ some. refl;
           still = λ nothing. absurd nothing;
           whole = λ never. absurd never;
           failed_so = tt;
@@ -205,7 +205,7 @@ module _ {S W : Type 0} (does : S → Call → S → Type 0) (holds : S → Maps
           says = says;
           reads = told.reads;
           few = told.few;
-          bytes = tt;
+          bytes = λ some. refl;
           still = λ nothing. absurd nothing;
           whole = λ never. absurd never;
           failed_so = tt;
@@ -287,16 +287,19 @@ module _ {S : Type 0} (does : S → Call → S → Type 0) (holds : S → Maps �
         (to_names newfid from [])) (sym same)
         (subst (λ (d : AnswerError). Handles does holds score_of s s tag known known out (Err d)
         (to_names newfid from [])) (sym err)
-        (no_memory does holds score_of s tag known out _ (λ never. never) (λ map some. refl) tt))
+        (no_memory does holds score_of s tag known out _ (λ never. never) (λ map some. refl)
+        (λ calls some. refl)))
 
     unset_so : (at : Place) (words : List (List ℕ))
         → Handles does holds score_of s s tag known known out (Err (Failed NoMemory))
         (to_names newfid at words)
     unset_so at [] =
-        no_memory does holds score_of s tag known out _ (λ never. never) (λ map some. refl) tt
+        no_memory does holds score_of s tag known out _ (λ never. never) (λ map some. refl)
+        (λ calls some. refl)
     unset_so at (name ∷ names) =
         no_memory does holds score_of s tag known out _ (λ never. never)
-        (λ map. failed_before (score_of []) map (name ∷ names) NoMemory known.kept at) tt
+        (λ map. failed_before (score_of []) map (name ∷ names) NoMemory known.kept at)
+        (λ calls some. refl)
 
     -- it may not begin
     pub walk_unbegun : (fid : ℕ) (words : List (List ℕ)) (denied : AnswerError)

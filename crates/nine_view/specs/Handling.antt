@@ -20,7 +20,7 @@ use Rattle.nine_view.specs.declared.request_error.RequestError.TheVariants.{Smal
 use Rattle.nine_view.specs.Answers.{Answer, settled, sets, ViewOutcome, stays, sets_fid, first_file, is_small, told_next}
 use Rattle.nine_view.specs.Failures.{failure_words}
 use Rattle.nine_view.specs.Files.{stat_in}
-use Rattle.nine_view.specs.Known.{ViewState, IsRightView, fid_at, keeping, limit, with_fid}
+use Rattle.nine_view.specs.Known.{ViewState, IsRightView, along, fid_at, keeping, limit, with_fid}
 use Rattle.nine_view.specs.Refusals.{refusal_words}
 use Rattle.nine_view.specs.Replies.{IsViewReply, AsksFew, AsksForBytes, AsksNoBlock, NeverFails, failed, fails}
 
@@ -65,12 +65,13 @@ pub record Handles {S : Type 0} (does : S → Call → S → Type 0) (holds : S 
       → AllByRecursion (TellsOfMap score_of map) reads.calls → IsRightView map old
       → AsksFew (score_of []) map old.kept new.kept answer (archive_failure result)
       (length reads.calls)
-  pub bytes : AsksForBytes does holds score_of s s' answer
+  pub bytes : AsksForBytes does holds score_of s s' old.way new.way answer (archive_failure result)
+      reads.calls
   pub still : AsksNoBlock answer → (s' ≡ s) × ((map : BlockMap)
       → IsViewReply map old answer (archive_failure result) (record { reply = reply; known = new }))
   pub whole : NeverFails answer → archive_failure result ≡ None
   pub failed_so : IfSome (archive_failure result)
-      (λ bad. stays new reply ≡ fails (keeping new.kept old) bad)
+      (λ bad. stays new reply ≡ fails (along new.way (keeping new.kept old)) bad)
 
 -- an answer that reads no block was put out, and the view is as it says
 abbrev pub SettlesSo : (tag : ℕ) → (old new : ViewState) → (out : List ℕ) → Result ℕ AnswerError

@@ -4,24 +4,31 @@ use Rattle.std.specs.List.{AllByRecursion}
 use Rattle.std.specs.Option.{option_map}
 use Rattle.vt_tree.specs.Maps.{BlockMap}
 use Rattle.vac_read.specs.declared.kept.KeptFolder.{KeptFolder}
+use Rattle.vac_read.specs.declared.last_way.WayBlock.{WayBlock}
 use Rattle.vac_read.specs.declared.node.Node.{Node}
 use Rattle.vac_read.specs.Kept.{IsRightKept}
+use Rattle.vac_read.specs.LastWay.{IsRightWay}
 use Rattle.vac_read.specs.Nodes.{FindsNode, Lists}
 use Rattle.nine_view.specs.declared.TheConstants.{MAX_MESSAGE}
 use Rattle.nine_view.specs.declared.fid.Fid.{Fid}
 
 -- the top folder; the agreed size of messages, where a version is agreed; the fids that the client
--- has set, each with its file; and what is kept of the folders in which names were looked for, on
--- which no reply depends
+-- has set, each with its file; and what is kept of the folders in which names were looked for, and
+-- of the way of the last read of a file, on which no reply depends
 pub record ViewState : Type 0 where
   pub top : Node
   pub msize : Option ℕ
   pub fids : List (ℕ × Fid)
   pub kept : List KeptFolder
+  pub way : List WayBlock
 
 -- the same, where this is kept of folders
 abbrev pub keeping : List KeptFolder → ViewState → ViewState
 keeping kept known = record known { kept = kept }
+
+-- the same, where this is kept of the way of the last read
+abbrev pub along : List WayBlock → ViewState → ViewState
+along way known = record known { way = way }
 
 -- the most bytes that a message may have now
 abbrev pub limit : ViewState → ℕ
@@ -65,7 +72,8 @@ pub record IsRightFid (map : BlockMap) (top : Node) (f : Fid) : Type 0 where
   pub way : IsWay map top f.node f.above
   pub files : AreFiles map f.node f.files
 
--- what a view knows of the files of its fids, and what it keeps of folders, is what the archive has
+-- what a view knows of the files of its fids, and what it keeps of folders and of the last read, is what the archive has
 pub record IsRightView (map : BlockMap) (known : ViewState) : Type 0 where
   pub fids : AllByRecursion (λ e. IsRightFid map known.top e.1) known.fids
   pub kept : IsRightKept map known.kept
+  pub way : IsRightWay map known.way

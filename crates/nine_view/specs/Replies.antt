@@ -8,10 +8,12 @@ use Rattle.vt_tree.specs.Reading.{GivesBytes}
 use Rattle.vac_read.specs.declared.error.VacBad.{VacBad}
 use Rattle.vac_read.specs.declared.error.VacBad.TheVariants.{NoMemory}
 use Rattle.vac_read.specs.declared.kept.KeptFolder.{KeptFolder}
+use Rattle.vac_read.specs.declared.last_way.WayBlock.{WayBlock}
 use Rattle.vac_read.specs.declared.node.Node.{Node}
 use Rattle.vac_read.specs.Broken.{IsBroken, IsUnread}
+use Rattle.vac_read.specs.LastWay.{ReadsFileOnWay}
 use Rattle.vac_read.specs.Nodes.{Lists}
-use Rattle.vac_read.specs.Reading.{ReadsArchive, ReadsFile}
+use Rattle.vac_read.specs.Reading.{ReadsArchive}
 use Rattle.nine_wire.specs.Frames.{IsFrame, spelled_reply}
 use Rattle.nine_wire.specs.Messages.{TMessage, SpellsBody, is_request_type, FitsReply, RMessage, r_read, r_walk, r_error}
 use Rattle.nine_wire.specs.Messages.{Qid}
@@ -20,7 +22,7 @@ use Rattle.nine_view.specs.declared.request_error.RequestError.{RequestError}
 use Rattle.nine_view.specs.Answers.{Asked, unknown, misspelled, request, ViewOutcome, Answer, settled, sets, walks, reads_file, reads_folder, answer_to, stays, refuses, sets_fid, unopened, reads_files}
 use Rattle.nine_view.specs.Asking.{WalkAsks}
 use Rattle.nine_view.specs.Failures.{failure_words}
-use Rattle.nine_view.specs.Known.{ViewState, IsRightView, keeping, limit}
+use Rattle.nine_view.specs.Known.{ViewState, IsRightView, along, keeping, limit}
 use Rattle.nine_view.specs.Walks.{Walk, Walks, IsLost}
 
 -- ---- what is asked
@@ -56,7 +58,8 @@ walked known fid (qid ∷ qids) (Err why) = stays known (r_walk (qid ∷ qids))
 abbrev pub fails : ViewState → VacBad → ViewOutcome
 fails known bad = stays known (r_error (failure_words (limit known) bad))
 
--- the outcome of an answer by what the archive has; behind a walk other folders may be kept
+-- The outcome of an answer by what the archive has; behind a walk other folders may be kept, and behind a read of a file
+-- what was on its way.
 abbrev pub GivesOutcome : BlockMap → ViewState → Answer → ViewOutcome → Type 0
 GivesOutcome map known (settled outcome) o = o ≡ outcome
 GivesOutcome map known (sets fid f reply) o = o ≡ sets_fid known fid f reply
@@ -65,7 +68,7 @@ GivesOutcome map known (walks fid from names) o =
     × (o ≡ walked (keeping o.known.kept known) fid walk.qids walk.end)
 GivesOutcome map known (reads_file e at n) o =
     (bytes : List ℕ) × GivesBytes (byte_of map e) at (min n (size_of e - at)) (Ok bytes)
-    × (o ≡ stays known (r_read bytes))
+    × (o ≡ stays (along o.known.way known) (r_read bytes))
 GivesOutcome map known (reads_folder fid f reading offset count) o =
     (files : List Node) × Lists map f.node.stored files
     × (o ≡ reads_files known fid f reading offset count files)
@@ -104,13 +107,22 @@ abbrev pub failed : Option VacBad → Result (Unit {0}) VacBad
 failed None = Ok tt
 failed (Some bad) = Err bad
 
--- just the blocks on the way to the bytes of a file are asked for
+-- why bytes aren't told, if they aren't
+abbrev pub lost_bytes : Result (List ℕ) VacBad → Option VacBad
+lost_bytes (Ok bytes) = None
+lost_bytes (Err bad) = Some bad
+
+-- These calls are at most the blocks on the way to the bytes of a file, each once: but for want of memory, just those
+-- that weren't kept, where this was kept of the way of the last read, and this is behind it. Behind another answer that
+-- failed it is what it was.
 abbrev pub AsksForBytes : {S : Type 0} → (does : S → Call → S → Type 0)
-    → (holds : S → Maps → Type 0) → (score_of : List ℕ → List ℕ) → (s s' : S) → Answer → Type 0
-AsksForBytes does holds score_of s s' (reads_file e at n) =
-    (result : Result (List ℕ) VacBad)
-    × ReadsFile does holds score_of s s' e at (min n (size_of e - at)) result
-AsksForBytes does holds score_of s s' answer = ⊤
+    → (holds : S → Maps → Type 0) → (score_of : List ℕ → List ℕ) → (s s' : S)
+    → (old new : List WayBlock) → Answer → (failure : Option VacBad) → List Call → Type 0
+AsksForBytes does holds score_of s s' old new (reads_file e at n) failure calls =
+    (result : Result (List ℕ) VacBad) × (failure ≡ lost_bytes result)
+    × (it : ReadsFileOnWay does holds score_of s s' old new e at (min n (size_of e - at)) result)
+    × (calls ≡ it.reads.calls)
+AsksForBytes does holds score_of s s' old new answer failure calls = failure ≢ None → new ≡ old
 
 -- A walk asks for so many blocks at most, where this was kept of folders, and this is behind it. Behind another answer
 -- that failed it is what it was.
@@ -145,10 +157,11 @@ pub record AnswersMessage {S : Type 0} (does : S → Call → S → Type 0) (hol
   pub few : (map : BlockMap) → IsWriteOnce score_of map
       → AllByRecursion (TellsOfMap score_of map) reads.calls → IsRightView map old
       → AsksFew (score_of []) map old.kept new.kept (answer_to old asked) failure (length reads.calls)
-  pub bytes : AsksForBytes does holds score_of s s' (answer_to old asked)
+  pub bytes : AsksForBytes does holds score_of s s' old.way new.way (answer_to old asked) failure
+      reads.calls
   pub still : AsksNoBlock (answer_to old asked)
       → (s' ≡ s) × ((map : BlockMap)
       → IsViewReply map old (answer_to old asked) failure (record { reply = reply; known = new }))
   pub whole : NeverFails (answer_to old asked) → failure ≡ None
   pub failed_so : IfSome failure
-      (λ bad. stays new reply ≡ fails (keeping new.kept old) bad)
+      (λ bad. stays new reply ≡ fails (along new.way (keeping new.kept old)) bad)

@@ -18,7 +18,7 @@ use crate::stats::{put_files, stat_len, stat_of};
 use crate::{Reading, RequestError, View};
 use nine_wire::{Reply, encode};
 use std::alloc::Global;
-use vac_read::{Node, Stored, VacBad, list, read};
+use vac_read::{Node, Stored, VacBad, list, read_on_way};
 use vt_tree::Blocks;
 
 impl View {
@@ -45,10 +45,11 @@ impl View {
         let Some(reading) = f.reading else {
             return Err(RequestError::FidNotOpen.into());
         };
-        match f.node.stored {
+        let stored = f.node.stored;
+        match stored {
             Stored::File(_) => {
                 let room = count.min(self.most_data() as u32);
-                let bytes = read(alloc, blocks, &f.node, offset, room)?;
+                let bytes = read_on_way(alloc, blocks, &mut self.way, &stored, offset, room)?;
                 let told = first(bytes.as_slice(), room as usize);
                 Ok(encode(tag, &Reply::Read(told), out))
             }

@@ -9,7 +9,7 @@ use crate::MAX_MESSAGE;
 use crate::fids::Fids;
 use std::alloc::{AllocError, Global};
 use std::marker::Model;
-use vac_read::{Archive, Kept, Node};
+use vac_read::{Archive, Kept, LastWay, Node};
 
 /// An archive as a tree of files, and what its client has said so far: the size of messages that
 /// is agreed, and the fids that it has set.
@@ -22,6 +22,8 @@ pub struct View {
     pub(crate) fids: Fids,
     /// Of the folders in which names were looked for.
     pub(crate) kept: Kept,
+    /// Of the last read of a file.
+    pub(crate) way: LastWay,
     /// Room for what a folder tells of its files.
     pub(crate) stats: Vec<u8>,
 }
@@ -39,10 +41,17 @@ impl Model for View {
       msize = v.msize;
       fids = v.fids;
       kept = v.kept;
+      way = v.way;
     } };
 
     ghost invariant = { λ v. (length v.stats.items ≡ 65536)
-        × IsKeptView (record { top = v.top; msize = v.msize; fids = v.fids; kept = v.kept }) };
+        × IsKeptView (record {
+          top = v.top;
+          msize = v.msize;
+          fids = v.fids;
+          kept = v.kept;
+          way = v.way;
+        }) };
 }
 
 impl View {
@@ -50,13 +59,14 @@ impl View {
     pub fn new(alloc: Global, archive: Archive) -> Result<Self, AllocError>
         requires { FitsMessage archive.top }
         ensures { IfOk result (λ view.
-            view ≡ record { top = archive.top; msize = None; fids = []; kept = [] }) }
+            view ≡ record { top = archive.top; msize = None; fids = []; kept = []; way = [] }) }
     {
         Ok(View {
             top: archive.top,
             msize: None,
             fids: Fids::new(alloc),
             kept: Kept::new(alloc),
+            way: LastWay::new(alloc),
             stats: vec![in alloc; 0; MAX_MESSAGE]?,
         })
     }

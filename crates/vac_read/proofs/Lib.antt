@@ -4,9 +4,11 @@ pub mod Leaves
 pub mod Lists
 pub mod Moved
 pub mod Named
+pub mod OnWay
 pub mod Opening
 pub mod Readings
 pub mod Roots
 pub mod Sound
 pub mod Steps
 pub mod Walks
+pub mod WayBlocks

@@ -2,6 +2,8 @@ pub mod Asking
 pub mod Broken
 pub mod Folders
 pub mod Kept
+pub mod LastWay
+pub mod LastWayLaws
 pub mod Laws
 pub mod Nodes
 pub mod Reading

@@ -4,12 +4,14 @@ ghost use Rattle.std.specs.Prelude.{[], IfOk, IfSome, OnOk};
 ghost use Rattle.std.specs.List.{All};
 ghost use Rattle.vac_read.specs.Asking.{FindAsks, ListAsks, ReadsFew};
 ghost use Rattle.vac_read.specs.Kept.{IsRightKept, KeepsStored, StaysKept};
+ghost use Rattle.vac_read.specs.LastWay.{ReadsNodeOnWay};
 ghost use Rattle.vac_read.specs.Nodes.{AreNodeEntries, FitsToldItem};
 ghost use Rattle.vac_read.specs.Reading.{ReadsArchive, ListsFolder, FindsItem, WalksTo, ReadsNode};
 
 use crate::items::nodes_of;
+use crate::last_way::range_on_way;
 use crate::records::records_of;
-use crate::{Kept, Node, Nodes, Stored, VacBad};
+use crate::{Kept, LastWay, Node, Nodes, Stored, VacBad};
 use std::alloc::Global;
 use vt_base::{Bytes, Text};
 use vt_tree::{Blocks, read_range};
@@ -96,6 +98,26 @@ pub fn read<B: Blocks>(
 {
     match node.stored {
         Stored::File(entry) => Ok(read_range(alloc, blocks, &entry, at, n)?),
+        Stored::Folder { .. } => Ok(Bytes::from_vec(Vec::new(alloc))),
+    }
+}
+
+/// The same of what is stored so, by what is kept of the way of the last reading: of the blocks on the way, those that
+/// are kept aren't asked for again.
+pub fn read_on_way<B: Blocks>(
+    alloc: Global,
+    blocks: &mut B,
+    way: &mut LastWay,
+    stored: &Stored,
+    at: u64,
+    n: u32,
+) -> Result<Bytes, VacBad>
+    requires { AreNodeEntries stored.now }
+    ensures { ReadsNodeOnWay B.does B.holds B.score_of blocks.old blocks.new way.old way.new
+        stored.now at n result }
+{
+    match *stored {
+        Stored::File(entry) => Ok(range_on_way(alloc, blocks, way, &entry, at, n)?),
         Stored::Folder { .. } => Ok(Bytes::from_vec(Vec::new(alloc))),
     }
 }

@@ -8,14 +8,16 @@ mod error;
 mod folders;
 mod items;
 mod kept;
+mod last_way;
 pub mod laws;
 mod node;
 mod records;
 
 pub use archive::Archive;
 pub use error::{RootField, VacBad};
-pub use folders::{find_item, list, read, walk};
+pub use folders::{find_item, list, read, read_on_way, walk};
 pub use kept::Kept;
+pub use last_way::{LastWay, WayBlock};
 pub use node::{Node, Nodes, Stored};
 use vac_model::MAX_METADATA;
 
@@ -28,3 +30,8 @@ const _: () = prove!(KEPT_FOLDER == 65_536);
 pub const MAX_KEPT: u64 = 2 * (MAX_METADATA as u64 + KEPT_FOLDER);
 
 const _: () = prove!(MAX_KEPT == 33_685_504);
+
+/// How many blocks are kept of the way of the last reading at most: a leaf, and seven pointer blocks above it.
+pub const MAX_WAY: usize = 8;
+
+const _: () = prove!(MAX_WAY == 8);

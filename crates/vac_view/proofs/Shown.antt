@@ -43,6 +43,6 @@ module _ {S : Type 0} (does : S → Call → S → Type 0) (holds : S → Maps �
   view_shown score p (Ok served) s s' it hold =
       let top = it.opens.held m hold in
       let talk = talk_shown it.serves.turns it.opened s' (unasked it.archive.top) it.known
-      it.serves.talks top.0 (record { fids = tt; kept = tt }) in
+      it.serves.talks top.0 (record { fids = tt; kept = tt; way = tt }) in
       (talk.0, record { top_is = top.1; answered = talk.1 })
   view_shown score p (Err bad) s s' it hold = it.held m hold

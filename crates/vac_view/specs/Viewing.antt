@@ -22,7 +22,7 @@ use Rattle.vac_view.specs.Members.{LinkOf}
 
 -- what a view of this top folder knows before anything is asked
 abbrev pub unasked : Node → ViewState
-unasked top = record { top = top; msize = None; fids = []; kept = [] }
+unasked top = record { top = top; msize = None; fids = []; kept = []; way = [] }
 
 -- ---- over a link
 

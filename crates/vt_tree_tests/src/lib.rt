@@ -7,6 +7,8 @@ mod blocks;
 #[cfg(test)]
 mod meta;
 #[cfg(test)]
+mod parts;
+#[cfg(test)]
 mod reading;
 #[cfg(test)]
 mod streams;

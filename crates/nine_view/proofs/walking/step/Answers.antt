@@ -10,7 +10,7 @@ use Rattle.nine_view.specs.declared.request_error.RequestError.TheVariants.{NoDi
 use Rattle.nine_view.specs.Files.{is_folder}
 use Rattle.nine_view.specs.Walks.{StepsTo, dots, into}
 use Rattle.nine_view.proofs.Steps.{steps_from_file, steps_into, steps_up}
-use Rattle.nine_view.proofs.WalkAsking.{file_keeps, no_step, one_step, up_keeps}
+use Rattle.nine_view.proofs.WalkAsking.{file_keeps, no_step, one_step}
 use Rattle.nine_view.proofs.walking.step.Goals as goal
 
 pub returns-then-not-is_folder-clause-reads : goal.returns-then-not-is_folder-clause-reads

@@ -22,6 +22,7 @@ returns-in_err-copied c =
       msize = c.self.inside.msize;
       fids = c.self.inside.fids;
       kept = c.self.inside.kept;
+      way = c.self.inside.way;
     } in
     let new = sym c.contains.ensures ∙ c.if-contains.false in
     let few : length known.fids < 1024 =
@@ -40,6 +41,7 @@ returns-in_err-set c =
       msize = c.self.inside.msize;
       fids = c.self.inside.fids;
       kept = c.self.inside.kept;
+      way = c.self.inside.way;
     } in
     let new = sym c.contains.ensures ∙ c.if-contains.false in
     let few : length known.fids < 1024 =
@@ -60,6 +62,7 @@ invariant_of-self-2 c =
       msize = c.self.inside.msize;
       fids = c.self.inside.fids;
       kept = c.self.inside.kept;
+      way = c.self.inside.way;
     } in
     let set : c.set.new.self ≡ with_fid c.args.fid (at_top known) known.fids =
     c.in_ok-set.ensures.ok ∙ ap (λ (x : Fid). with_fid c.args.fid x known.fids)
@@ -80,6 +83,7 @@ returns c =
       msize = c.self.inside.msize;
       fids = c.self.inside.fids;
       kept = c.self.inside.kept;
+      way = c.self.inside.way;
     } in
     let new = sym c.contains.ensures ∙ c.if-contains.false in
     let few : length known.fids < 1024 =

@@ -14,6 +14,7 @@ returns c =
       msize = c.self.inside.msize;
       fids = c.self.inside.fids;
       kept = c.self.inside.kept;
+      way = c.self.inside.way;
     } in
     let least = least_limit known c.self.invariant.1 in
     subst (λ (k : ViewState). SettlesRequest c.args.tag k k c.encode.new.buf (Ok c.encode.result)

@@ -51,6 +51,7 @@ list-requires g c =
       msize = c.self.inside.msize;
       fids = c.self.inside.fids;
       kept = c.self.inside.kept;
+      way = c.self.inside.way;
     } in
     let f₀ : Fid = c.in-Some.f.now in
     let at₀ : fid_at c.args.fid known.fids ≡ Some f₀ = sym c.in-Some.ensures in
@@ -63,6 +64,7 @@ invariant_of-self g c =
       msize = c.self.inside.msize;
       fids = c.self.inside.fids;
       kept = c.self.inside.kept;
+      way = c.self.inside.way;
     } in
     let f₀ : Fid = c.in-Some.f.now in
     let at₀ : fid_at c.args.fid known.fids ≡ Some f₀ = sym c.in-Some.ensures in
@@ -89,6 +91,7 @@ returns-clause-keeps g c = λ f at.
       msize = c.self.inside.msize;
       fids = c.self.inside.fids;
       kept = c.self.inside.kept;
+      way = c.self.inside.way;
     } in
     let f₀ : Fid = c.in-Some.f.now in
     let at₀ : fid_at c.args.fid known.fids ≡ Some f₀ = sym c.in-Some.ensures in
@@ -101,7 +104,7 @@ returns-clause-keeps g c = λ f at.
     c.in-Some.ensures ∙ ap (λ (k : ViewState). fid_at c.args.fid k.fids) c.self.view_is ∙ at in
     let same : f₀ ≡ f = cc in
     let new : ViewState =
-    record { top = c.self.inside.top; msize = c.self.inside.msize; fids = fids; kept = c.self.inside.kept } in
+    record { top = c.self.inside.top; msize = c.self.inside.msize; fids = fids; kept = c.self.inside.kept; way = c.self.inside.way } in
     subst (λ (x : Fid). KeepsFiles g.B.Blocks.does g.B.Blocks.holds g.B.Scorer.score_of
     c.args.blocks.now c.list.new.blocks c.args.self.now new c.args.fid x (Ok tt) x.files) same
     (files_listed g.B.Blocks.does g.B.Blocks.holds g.B.Scorer.score_of c.args.blocks.now

@@ -22,6 +22,7 @@ returns-in_default c =
       msize = c.self.inside.msize;
       fids = c.self.inside.fids;
       kept = c.self.inside.kept;
+      way = c.self.inside.way;
     } in
     rw c.into.ensures (subst (λ (k : ViewState). SettlesSo c.args.tag k k c.args.out.now
     (Err (Refused UnknownFid)) (of_fid k c.args.fid
@@ -36,6 +37,7 @@ returns-then-is_some c =
       msize = c.self.inside.msize;
       fids = c.self.inside.fids;
       kept = c.self.inside.kept;
+      way = c.self.inside.way;
     } in
     let f : Fid = c.in-Some.f.now in
     let at : fid_at c.args.fid known.fids ≡ Some f = sym c.in-Some.ensures in
@@ -52,6 +54,7 @@ returns-then-not-may_open c =
       msize = c.self.inside.msize;
       fids = c.self.inside.fids;
       kept = c.self.inside.kept;
+      way = c.self.inside.way;
     } in
     let f : Fid = c.in-Some.f.now in
     let at : fid_at c.args.fid known.fids ≡ Some f = sym c.in-Some.ensures in
@@ -68,6 +71,7 @@ invariant_of-self c =
       msize = c.self.inside.msize;
       fids = c.self.inside.fids;
       kept = c.self.inside.kept;
+      way = c.self.inside.way;
     } in
     let f : Fid = c.in-Some.f.now in
     let at : fid_at c.args.fid known.fids ≡ Some f = sym c.in-Some.ensures in
@@ -92,6 +96,7 @@ overflow_sub-iounit c =
       msize = c.self.inside.msize;
       fids = c.self.inside.fids;
       kept = c.self.inside.kept;
+      way = c.self.inside.way;
     } in
     let least = least_agreed known c.args.msize c.self.invariant.1
     (ap (λ (k : ViewState). k.msize) c.self.view_is ∙ c.requires.agreed) in
@@ -104,6 +109,7 @@ returns c =
       msize = c.self.inside.msize;
       fids = c.self.inside.fids;
       kept = c.self.inside.kept;
+      way = c.self.inside.way;
     } in
     let f : Fid = c.in-Some.f.now in
     let at : fid_at c.args.fid known.fids ≡ Some f = sym c.in-Some.ensures in
@@ -119,7 +125,7 @@ returns c =
     let path : f.node.qid < 2 ^ 64 =
     let e = ap (λ (q : Qid). q.path) c.qid_of-qid.ensures in omega arith in
     subst (λ (k : ViewState). SettlesSo c.args.tag k
-    (record { top = c.self.inside.top; msize = c.self.inside.msize; fids = fids'; kept = c.self.inside.kept })
+    (record { top = c.self.inside.top; msize = c.self.inside.msize; fids = fids'; kept = c.self.inside.kept; way = c.self.inside.way })
     c.encode.new.buf (Ok c.encode.result) (of_fid k c.args.fid
     (λ f. settled (to_open k c.args.msize c.args.fid c.args.mode f)))) c.self.view_is
     (opened c.args.tag known c.encode.new.buf c.args.msize c.args.fid c.args.mode f fids'

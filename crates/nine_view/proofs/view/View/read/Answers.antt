@@ -3,7 +3,8 @@ use Rattle.std.proofs.lemmas.Result.{err_from_is_err_and}
 use Rattle.vt_tree.specs.declared.entry.Entry.{Entry}
 use Rattle.vac_read.specs.declared.node.Stored.{Stored}
 use Rattle.vac_read.specs.declared.node.Stored.TheVariants as stored
-use Rattle.vac_read.specs.Reading.{ReadsNode}
+use Rattle.vac_read.specs.declared.last_way.WayBlock.{WayBlock}
+use Rattle.vac_read.specs.LastWay.{ReadsNodeOnWay}
 use Rattle.nine_wire.specs.Frames.{spelled_reply}
 use Rattle.nine_wire.specs.Messages.{r_read}
 use Rattle.nine_view.specs.declared.error.AnswerError.TheVariants.{Refused, Failed}
@@ -12,7 +13,7 @@ use Rattle.nine_view.specs.declared.fid.Reading.{Reading}
 use Rattle.nine_view.specs.declared.request_error.RequestError.TheVariants.{BadOffset, FidNotOpen, UnknownFid}
 use Rattle.nine_view.specs.Answers.{most_data, of_fid, reads_file, to_read}
 use Rattle.nine_view.specs.Handling.{Handles}
-use Rattle.nine_view.specs.Known.{ViewState, fid_at, limit}
+use Rattle.nine_view.specs.Known.{ViewState, along, fid_at, limit}
 use Rattle.nine_view.proofs.FileRead.{file_failed, file_told}
 use Rattle.nine_view.proofs.Keeping.{kept_fid}
 use Rattle.nine_view.proofs.Limits.{most_limit}
@@ -26,6 +27,7 @@ returns-in_default g c =
       msize = c.self.inside.msize;
       fids = c.self.inside.fids;
       kept = c.self.inside.kept;
+      way = c.self.inside.way;
     } in
     rw c.into.ensures (
     subst (λ (k : ViewState). Handles g.B.Blocks.does g.B.Blocks.holds g.B.Scorer.score_of
@@ -42,6 +44,7 @@ returns-in_default-reading g c =
       msize = c.self.inside.msize;
       fids = c.self.inside.fids;
       kept = c.self.inside.kept;
+      way = c.self.inside.way;
     } in
     let f : Fid = c.in-Some.f.now in
     let at : fid_at c.args.fid known.fids ≡ Some f = sym c.in-Some.ensures in
@@ -53,13 +56,14 @@ returns-in_default-reading g c =
     (read_closed g.B.Blocks.does g.B.Blocks.holds g.B.Scorer.score_of c.args.tag known c.args.out.now c.args.fid c.args.offset c.args.count c.args.blocks.now f at
     c.in_default-reading.is))
 
-pub read-requires : goal.read-requires
-read-requires g c =
+pub read_on_way-requires : goal.read_on_way-requires
+read_on_way-requires g c =
     let known : ViewState = record {
       top = c.self.inside.top;
       msize = c.self.inside.msize;
       fids = c.self.inside.fids;
       kept = c.self.inside.kept;
+      way = c.self.inside.way;
     } in
     let f : Fid = c.in-Some.f.now in
     (kept_fid known c.args.fid f c.self.invariant.1 (sym c.in-Some.ensures)).node.entries
@@ -73,7 +77,10 @@ returns-in_err-bytes-in-File g c =
       msize = c.self.inside.msize;
       fids = c.self.inside.fids;
       kept = c.self.inside.kept;
+      way = c.self.inside.way;
     } in
+    let way : List WayBlock = c.read_on_way.new.way in
+    let new : ViewState = along way known in
     let f : Fid = c.in-Some.f.now in
     let at : fid_at c.args.fid known.fids ≡ Some f = sym c.in-Some.ensures in
     let r : Reading = c.in-Some-reading.reading in
@@ -85,19 +92,19 @@ returns-in_err-bytes-in-File g c =
     (c.most_data.ensures.is ∙ ap (λ (k : ViewState). most_data k) (sym c.self.view_is)) in
     rw (p.1, p.2) (
     subst (λ (k : ViewState). Handles g.B.Blocks.does g.B.Blocks.holds g.B.Scorer.score_of
-    c.args.blocks.now c.read.new.blocks c.args.tag k k c.args.out.now (Err (Failed bad))
+    c.args.blocks.now c.read_on_way.new.blocks c.args.tag k new c.args.out.now (Err (Failed bad))
     (of_fid k c.args.fid (λ h. to_read k c.args.fid c.args.offset c.args.count h h.reading)))
     c.self.view_is
     (read_of g.B.Blocks.does g.B.Blocks.holds g.B.Scorer.score_of c.args.tag known c.args.out.now
-    c.args.fid c.args.offset c.args.count c.args.blocks.now c.read.new.blocks known
+    c.args.fid c.args.offset c.args.count c.args.blocks.now c.read_on_way.new.blocks new
     (Err (Failed bad)) f r (stored.File e) at now c.in-File.is
     (subst (λ (n : ℕ). Handles g.B.Blocks.does g.B.Blocks.holds g.B.Scorer.score_of
-    c.args.blocks.now c.read.new.blocks c.args.tag known known c.args.out.now (Err (Failed bad))
+    c.args.blocks.now c.read_on_way.new.blocks c.args.tag known new c.args.out.now (Err (Failed bad))
     (reads_file e c.args.offset n)) room_is
     (file_failed g.B.Blocks.does g.B.Blocks.holds g.B.Scorer.score_of c.args.blocks.now
-    c.read.new.blocks c.args.tag known c.args.out.now e c.args.offset room bad
-    (subst (λ (s : Stored). ReadsNode g.B.Blocks.does g.B.Blocks.holds g.B.Scorer.score_of
-    c.args.blocks.now c.read.new.blocks s c.args.offset room (Err bad)) c.in-File.is
+    c.read_on_way.new.blocks c.args.tag known way c.args.out.now e c.args.offset room bad
+    (subst (λ (s : Stored). ReadsNodeOnWay g.B.Blocks.does g.B.Blocks.holds g.B.Scorer.score_of
+    c.args.blocks.now c.read_on_way.new.blocks known.way way s c.args.offset room (Err bad)) c.in-File.is
     c.in_err-bytes-in-File.ensures)))))
 
 pub returns-in_ok-bytes-in-File : goal.returns-in_ok-bytes-in-File
@@ -107,7 +114,10 @@ returns-in_ok-bytes-in-File g c =
       msize = c.self.inside.msize;
       fids = c.self.inside.fids;
       kept = c.self.inside.kept;
+      way = c.self.inside.way;
     } in
+    let way : List WayBlock = c.read_on_way.new.way in
+    let new : ViewState = along way known in
     let f : Fid = c.in-Some.f.now in
     let at : fid_at c.args.fid known.fids ≡ Some f = sym c.in-Some.ensures in
     let r : Reading = c.in-Some-reading.reading in
@@ -129,19 +139,19 @@ returns-in_ok-bytes-in-File g c =
     c.encode.ensures.len in
     let small = c.min-room.ensures in
     subst (λ (k : ViewState). Handles g.B.Blocks.does g.B.Blocks.holds g.B.Scorer.score_of
-    c.args.blocks.now c.read.new.blocks c.args.tag k k c.encode.new.buf (Ok c.encode.result)
+    c.args.blocks.now c.read_on_way.new.blocks c.args.tag k new c.encode.new.buf (Ok c.encode.result)
     (of_fid k c.args.fid (λ h. to_read k c.args.fid c.args.offset c.args.count h h.reading)))
     c.self.view_is
     (read_of g.B.Blocks.does g.B.Blocks.holds g.B.Scorer.score_of c.args.tag known
     c.encode.new.buf c.args.fid c.args.offset c.args.count c.args.blocks.now
-    c.read.new.blocks known (Ok c.encode.result) f r (stored.File e) at now c.in-File.is
+    c.read_on_way.new.blocks new (Ok c.encode.result) f r (stored.File e) at now c.in-File.is
     (subst (λ (n : ℕ). Handles g.B.Blocks.does g.B.Blocks.holds g.B.Scorer.score_of
-    c.args.blocks.now c.read.new.blocks c.args.tag known known c.encode.new.buf
+    c.args.blocks.now c.read_on_way.new.blocks c.args.tag known new c.encode.new.buf
     (Ok c.encode.result) (reads_file e c.args.offset n)) room_is
     (file_told g.B.Blocks.does g.B.Blocks.holds g.B.Scorer.score_of c.args.blocks.now
-    c.read.new.blocks c.args.tag known c.encode.new.buf e c.args.offset room bytes c.encode.result
-    (subst (λ (s : Stored). ReadsNode g.B.Blocks.does g.B.Blocks.holds g.B.Scorer.score_of
-    c.args.blocks.now c.read.new.blocks s c.args.offset room (Ok bytes)) c.in-File.is
+    c.read_on_way.new.blocks c.args.tag known way c.encode.new.buf e c.args.offset room bytes c.encode.result
+    (subst (λ (s : Stored). ReadsNodeOnWay g.B.Blocks.does g.B.Blocks.holds g.B.Scorer.score_of
+    c.args.blocks.now c.read_on_way.new.blocks known.way way s c.args.offset room (Ok bytes)) c.in-File.is
     c.in_ok-bytes-in-File.ensures)
     (record {
       fits = omega arith;
@@ -158,6 +168,7 @@ returns-then-is_bad_offset g c =
       msize = c.self.inside.msize;
       fids = c.self.inside.fids;
       kept = c.self.inside.kept;
+      way = c.self.inside.way;
     } in
     let f : Fid = c.in-Some.f.now in
     let at : fid_at c.args.fid known.fids ≡ Some f = sym c.in-Some.ensures in

@@ -16,13 +16,14 @@ pub invariant_of-self : goal.invariant_of-self
 invariant_of-self c = (
   c.self.invariant.0,
   subst (λ (l : List (ℕ × Fid)). IsKeptView
-      (record { top = c.self.inside.top; msize = c.self.inside.msize; fids = l; kept = c.self.inside.kept }))
+      (record { top = c.self.inside.top; msize = c.self.inside.msize; fids = l; kept = c.self.inside.kept; way = c.self.inside.way }))
       (sym c.remove.ensures)
       (kept_without (record {
         top = c.self.inside.top;
         msize = c.self.inside.msize;
         fids = c.self.inside.fids;
         kept = c.self.inside.kept;
+        way = c.self.inside.way;
       }) c.args.fid c.self.invariant.1),
 )
 
@@ -33,9 +34,10 @@ returns c = λ tag out.
       msize = c.self.inside.msize;
       fids = c.self.inside.fids;
       kept = c.self.inside.kept;
+      way = c.self.inside.way;
     } in
     rw c.into-2.ensures (subst (λ (k : ViewState). SettlesSo tag k
-    (record { top = c.self.inside.top; msize = c.self.inside.msize; fids = c.remove.new.self; kept = c.self.inside.kept })
+    (record { top = c.self.inside.top; msize = c.self.inside.msize; fids = c.remove.new.self; kept = c.self.inside.kept; way = c.self.inside.way })
     out (Err (Refused ReadOnly)) (of_fid k c.args.fid (λ f. settled
     (with_known k (without_fid c.args.fid k.fids) (r_error (refusal_words ReadOnly))))))
     c.self.view_is

@@ -32,6 +32,7 @@ invariant_of-self-2 c =
       msize = c.self.inside.msize;
       fids = c.self.inside.fids;
       kept = c.self.inside.kept;
+      way = c.self.inside.way;
     } in
     let set : c.set.new.self ≡ with_fid c.args.fid (unopened c.args.at) known.fids =
     c.in_ok-set.ensures.ok ∙ ap (λ (x : Fid). with_fid c.args.fid x known.fids) c.unopened.ensures in
@@ -49,6 +50,7 @@ returns-clause-says c =
       msize = c.self.inside.msize;
       fids = c.self.inside.fids;
       kept = c.self.inside.kept;
+      way = c.self.inside.way;
     } in
     let least = least_limit known c.self.invariant.1 in
     let len = length-map c.args.qids.now wire_qid in

@@ -21,6 +21,7 @@ returns-in_default c =
       msize = c.self.inside.msize;
       fids = c.self.inside.fids;
       kept = c.self.inside.kept;
+      way = c.self.inside.way;
     } in
     rw c.into.ensures (subst (λ (k : ViewState). SettlesSo c.args.tag k k c.args.out.now
     (Err (Refused UnknownFid)) (of_fid k c.args.fid (λ f. settled (to_stat k c.args.msize f))))
@@ -35,6 +36,7 @@ stat_of-stat-requires c =
       msize = c.self.inside.msize;
       fids = c.self.inside.fids;
       kept = c.self.inside.kept;
+      way = c.self.inside.way;
     } in
     let f : Fid = c.in-Some.f.now in
     let at : fid_at c.args.fid known.fids ≡ Some f = sym c.in-Some.ensures in
@@ -51,6 +53,7 @@ returns-then-stat_len-msize c =
       msize = c.self.inside.msize;
       fids = c.self.inside.fids;
       kept = c.self.inside.kept;
+      way = c.self.inside.way;
     } in
     let f : Fid = c.in-Some.f.now in
     let at : fid_at c.args.fid known.fids ≡ Some f = sym c.in-Some.ensures in
@@ -70,6 +73,7 @@ returns c =
       msize = c.self.inside.msize;
       fids = c.self.inside.fids;
       kept = c.self.inside.kept;
+      way = c.self.inside.way;
     } in
     let f : Fid = c.in-Some.f.now in
     let at : fid_at c.args.fid known.fids ≡ Some f = sym c.in-Some.ensures in

@@ -76,7 +76,7 @@ returns c = λ f r files at now kept.
     subst (λ (x : List ℕ). c.encode.result ≡ length (spelled_reply c.args.tag (r_read x))) part
     c.encode.ensures.len in
     let known : ViewState =
-    record { top = c.self.inside.top; msize = c.self.inside.msize; fids = c.self.inside.fids; kept = c.self.inside.kept } in
+    record { top = c.self.inside.top; msize = c.self.inside.msize; fids = c.self.inside.fids; kept = c.self.inside.kept; way = c.self.inside.way } in
     let most = most_limit known c.self.invariant.1 in
     let room : c.most_data-most.result + 24 ≡ limit known =
     c.most_data-most.ensures.fits ∙ ap (λ (k : ViewState). limit k) (sym c.self.view_is) in

@@ -35,6 +35,7 @@ returns c =
       msize = c.self.inside.msize;
       fids = c.self.inside.fids;
       kept = c.self.inside.kept;
+      way = c.self.inside.way;
     } in
     let least = least_limit known c.self.invariant.1 in
     let len = length-map c.args.qids.now wire_qid in

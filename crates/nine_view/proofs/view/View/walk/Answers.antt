@@ -1,4 +1,4 @@
-use Rattle.std.proofs.Common.{◌≡◌, ℕ, Option, Result, Ok, Err, List, [], map, sym, ◌∙◌, subst}
+use Rattle.std.proofs.Common.{◌≡◌, ℕ, Result, Ok, Err, List, [], map, sym, ◌∙◌, subst}
 use Rattle.std.specs.Prelude.{IfOk}
 use Rattle.std.proofs.lemmas.Result.{err_from_is_err_and}
 use Rattle.vt_tree.specs.Maps.{BlockMap}
@@ -57,6 +57,7 @@ returns-in_err-walked g c =
       msize = c.self.inside.msize;
       fids = c.self.inside.fids;
       kept = c.self.inside.kept;
+      way = c.self.inside.way;
     } in
     let new : ViewState = keeping c.walk_names.new.kept known in
     let some = some_names words (sym c.is_empty.ensures ∙ c.if-is_empty.false) in
@@ -83,6 +84,7 @@ returns-in-Ok g c =
       msize = c.self.inside.msize;
       fids = c.self.inside.fids;
       kept = c.self.inside.kept;
+      way = c.self.inside.way;
     } in
     let kept : List KeptFolder = c.walk_names.new.kept in
     let new : ViewState = c.set_walked-in-Ok.new.self in
@@ -124,6 +126,7 @@ returns g c =
       msize = c.self.inside.msize;
       fids = c.self.inside.fids;
       kept = c.self.inside.kept;
+      way = c.self.inside.way;
     } in
     let kept : List KeptFolder = c.walk_names.new.kept in
     let out : List ℕ = c.tell_short.new.out in

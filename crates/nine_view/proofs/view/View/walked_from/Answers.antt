@@ -22,6 +22,7 @@ returns-in_default-clause-may c =
       msize = c.self.inside.msize;
       fids = c.self.inside.fids;
       kept = c.self.inside.kept;
+      way = c.self.inside.way;
     } in
     let none : fid_at c.args.fid known.fids ≡ None = sym c.in_default.ensures in
     rw c.into.ensures (subst (λ (k : ViewState). MayWalk k c.args.fid c.args.newfid c.args.names (Err (Refused UnknownFid)))
@@ -34,6 +35,7 @@ returns-then-names-gt-MAX_NAMES-clause-may c =
       msize = c.self.inside.msize;
       fids = c.self.inside.fids;
       kept = c.self.inside.kept;
+      way = c.self.inside.way;
     } in
     let at : fid_at c.args.fid known.fids ≡ Some c.in-Some.f.now = sym c.in-Some.ensures in
     rw c.into-then-names-gt-MAX_NAMES.ensures (subst (λ (k : ViewState). MayWalk k c.args.fid c.args.newfid c.args.names (Err (Refused TooManyNames)))
@@ -46,6 +48,7 @@ returns-then-is_some-clause-may c =
       msize = c.self.inside.msize;
       fids = c.self.inside.fids;
       kept = c.self.inside.kept;
+      way = c.self.inside.way;
     } in
     let at : fid_at c.args.fid known.fids ≡ Some c.in-Some.f.now = sym c.in-Some.ensures in
     let few : c.args.names ≤ 16 = c.if-names-gt-MAX_NAMES.false in
@@ -59,6 +62,7 @@ returns-then-newfid-eq-NO_FID-clause-may c =
       msize = c.self.inside.msize;
       fids = c.self.inside.fids;
       kept = c.self.inside.kept;
+      way = c.self.inside.way;
     } in
     let at : fid_at c.args.fid known.fids ≡ Some c.in-Some.f.now = sym c.in-Some.ensures in
     let few : c.args.names ≤ 16 = c.if-names-gt-MAX_NAMES.false in
@@ -73,6 +77,7 @@ returns-then-contains-clause-may c =
       msize = c.self.inside.msize;
       fids = c.self.inside.fids;
       kept = c.self.inside.kept;
+      way = c.self.inside.way;
     } in
     let at : fid_at c.args.fid known.fids ≡ Some c.in-Some.f.now = sym c.in-Some.ensures in
     let few : c.args.names ≤ 16 = c.if-names-gt-MAX_NAMES.false in
@@ -89,6 +94,7 @@ returns-then-len-ge-MAX_FIDS-clause-may c =
       msize = c.self.inside.msize;
       fids = c.self.inside.fids;
       kept = c.self.inside.kept;
+      way = c.self.inside.way;
     } in
     let at : fid_at c.args.fid known.fids ≡ Some c.in-Some.f.now = sym c.in-Some.ensures in
     let few : c.args.names ≤ 16 = c.if-names-gt-MAX_NAMES.false in
@@ -107,6 +113,7 @@ returns-in_err-place-clause-may c =
       msize = c.self.inside.msize;
       fids = c.self.inside.fids;
       kept = c.self.inside.kept;
+      way = c.self.inside.way;
     } in
     let f : Fid = c.in-Some.f.now in
     let at : fid_at c.args.fid known.fids ≡ Some f = sym c.in-Some.ensures in
@@ -125,6 +132,7 @@ returns-in_err-place-2-clause-may c =
       msize = c.self.inside.msize;
       fids = c.self.inside.fids;
       kept = c.self.inside.kept;
+      way = c.self.inside.way;
     } in
     let f : Fid = c.in-Some.f.now in
     let at : fid_at c.args.fid known.fids ≡ Some f = sym c.in-Some.ensures in
@@ -145,6 +153,7 @@ returns-then-newfid-fid-clause-told c =
       msize = c.self.inside.msize;
       fids = c.self.inside.fids;
       kept = c.self.inside.kept;
+      way = c.self.inside.way;
     } in
     let f : Fid = c.in-Some.f.now in
     let at : fid_at c.args.fid known.fids ≡ Some f = sym c.in-Some.ensures in
@@ -161,6 +170,7 @@ returns-then-newfid-fid-clause-way c =
       msize = c.self.inside.msize;
       fids = c.self.inside.fids;
       kept = c.self.inside.kept;
+      way = c.self.inside.way;
     } in
     let f : Fid = c.in-Some.f.now in
     let at : fid_at c.args.fid known.fids ≡ Some f = sym c.in-Some.ensures in
@@ -179,6 +189,7 @@ returns-clause-told c =
       msize = c.self.inside.msize;
       fids = c.self.inside.fids;
       kept = c.self.inside.kept;
+      way = c.self.inside.way;
     } in
     let f : Fid = c.in-Some.f.now in
     let at : fid_at c.args.fid known.fids ≡ Some f = sym c.in-Some.ensures in
@@ -195,6 +206,7 @@ returns-clause-way c =
       msize = c.self.inside.msize;
       fids = c.self.inside.fids;
       kept = c.self.inside.kept;
+      way = c.self.inside.way;
     } in
     let f : Fid = c.in-Some.f.now in
     let at : fid_at c.args.fid known.fids ≡ Some f = sym c.in-Some.ensures in
