@@ -6,7 +6,8 @@ What it does and how far it is comes on standard error, and nothing on standard 
 in crates/vt_prog/out/build.log. A run that is cut off loses only the crates that it was at. It needs Python 3.8.
 
 Each crate is a job of its own, done by the calls of the script rt itself, so that those with the longest chain of
-others behind them come first. Where the script lacks these calls, `rt all check` does the same: it begins with a pass
+others behind them come first. Its library keeps what it states and not how that is proved, which takes less memory and
+time to read for those above. Where the script lacks these calls, `rt all check` does the same: it begins with a pass
 over all sources in one process, and takes the crates in their order.
 """
 import importlib.machinery
@@ -27,20 +28,22 @@ TOP = os.path.dirname(os.path.realpath(__file__))
 PROGRAM = "vt_prog"
 FOLDER = os.path.join(TOP, "crates", PROGRAM)
 LOG = os.path.join(FOLDER, "out", "build.log")
-# GiB of memory: what the checks that go on at a time may take by the peaks of each, what one takes at most, and what the
-# large ones do. Peaks hardly come at one time: of 6.6 GiB by these peaks 4.9 were seen, and of 9.2 7.3.
-MEMORY, PEAK = 7.2, 1.4
+# GiB of memory: what the checks that go on at a time may take by the peaks of each, what one takes at most, what each
+# process more on the same crate adds, since it shares what is read, and what the large ones take. Peaks hardly come at
+# one time: of 6.2 GiB by these peaks 5.1 were seen.
+MEMORY, PEAK, MORE = 6.4, 1.3, 0.5
 PEAKS = {
-    "run_archives": 2.7, "run_base": 2.6, "vt_core": 2.6, "run_sessions": 2.5, "vt_rehearse": 2.4, "vt_use": 2.3,
-    "vt_shard": 2.2, "vt_format": 2.2, "run_stores": 2.0, "vt_host": 2.0, "vt_empty": 2.0, "vt_recover": 1.8,
-    "vt_rebuild": 1.8, "vt_partitions": 1.8, "nine_view": 1.8, "vt_maintain": 1.7, "vac_read": 1.7, "vt_cli": 1.7,
-    "vt_isect": 1.7, "vt_log": 1.6, "vt_requests": 1.6, "vt_open": 1.6, "vt_tree": 1.6, "vt_arena": 1.6, "vt_bloom": 1.5,
+    "run_archives": 2.3, "run_base": 2.3, "vt_rehearse": 2.3, "vt_shard": 2.2, "vt_core": 2.2, "run_stores": 2.0,
+    "vt_use": 1.9, "vt_format": 1.9, "vt_empty": 1.9, "vt_host": 1.8, "nine_view": 1.8, "vt_recover": 1.8,
+    "vt_requests": 1.7, "vt_open": 1.7, "vt_lookup": 1.7, "vt_rebuild": 1.7, "vt_isect": 1.6, "vt_cli": 1.6,
+    "vt_log": 1.6, "vt_tree": 1.5, "vt_arena": 1.5, "vt_bloom": 1.5, "vac_read": 1.4, "vt_maintain": 1.4,
+    "run_sessions": 1.4, "vt_handler": 1.4, "vt_check": 1.3,
 }
 # What is called of the script rt, with arguments as they are given here; `share_work` only where there is one.
 CALLS = [
     ("rtlib.guarded", []), ("rtlib.lock", [[]]), ("rtlib.stop_on_links", [""]),
     ("rtlib.files_of", [""]), ("rtlib.text_of", [""]), ("rtlib.Crate", ["", "", {}]), ("rtlib.Crate.below", [None]),
-    ("rtlib.Crate.is_built", [None]), ("rtlib.Crate.build_rlib", [None, [], False]), ("rtlib.Crate.stamp", [None]),
+    ("rtlib.Crate.is_built", [None]), ("rtlib.Crate.build_rlib", [None, [], True]), ("rtlib.Crate.stamp", [None]),
 ]
 
 
@@ -95,7 +98,7 @@ def ask_once(rt):
 
 def peak(crate, jobs):
     """GiB of memory that proving a crate by so many processes may take."""
-    return PEAKS.get(crate.name, PEAK) * jobs
+    return PEAKS.get(crate.name, PEAK) + MORE * (jobs - 1)
 
 
 def lines_of(rt, crate):
@@ -104,8 +107,8 @@ def lines_of(rt, crate):
 
 class Jobs:
     """The crates below the program: which are left, under way and proved. Those come first that have the most lines in
-    the longest chain of crates that wait for them, their own among these. A crate that little else can be proved beside
-    is given processors that would idle."""
+    the longest chain of crates that wait for them, their own among these. A large crate is given two processors where
+    there is room, so that what waits for it waits less, and each crate those that would idle."""
 
     def __init__(self, rt, crates, log):
         self.log, self.lanes, self.memory, self.count = log, at_once(), memory(), len(crates) + 1
@@ -116,10 +119,14 @@ class Jobs:
         self.left = sorted({*crates} - self.done, key=lambda it: -behind[it])
 
     def prove(self, crate, jobs):
-        """Proves one crate, in a thread of its own, and keeps its library for those above."""
+        """Proves one crate from nothing, in a thread of its own, and keeps its library for those above."""
         status, crate.out = 1, io.StringIO()
         try:
-            status = crate.build_rlib(["--jobs", str(jobs)], False)
+            stamp = crate.stamp()
+            status = crate.build_rlib(["--jobs", str(jobs)], True)
+            if status == 0 and crate.stamp() == stamp:
+                with open(os.path.join(os.path.dirname(crate.rlib), "stamp"), "w", encoding="utf-8") as file:
+                    file.write(stamp)
         finally:
             self.ended.put((crate, status))
 
@@ -136,7 +143,8 @@ class Jobs:
                 # (those behind it wait too: it would never find room beside them)
                 break
             idle = (self.lanes - sum(self.running.values())) // (len(ready) - at)
-            jobs = next((it for it in range(idle, 1, -1) if self.has_room(crate, it)), 1)
+            most = max(idle, 2 if crate.name in PEAKS else 1)
+            jobs = next((it for it in range(most, 1, -1) if self.has_room(crate, it)), 1)
             self.left.remove(crate)
             self.running[crate] = jobs
             say(f"proving {crate.name}, {len(self.done) + len(self.running)} of {self.count}")
@@ -172,6 +180,8 @@ def prove_each(rt, log):
     """Whether each crate below the program is proved, as a job of its own."""
     getattr(rt, "share_work", lambda _: None)(True)
     ask_once(rt)
+    # (a library then keeps its statements, without the proofs)
+    rt.rtlib.Crate.cuts_libraries = True
     # (what it starts ends with this process; the first call has to come from the main thread)
     rt.rtlib.guarded()
     program = rt.rtlib.Crate(FOLDER, TOP, {})
