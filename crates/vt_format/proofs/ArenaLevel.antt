@@ -22,7 +22,7 @@ use Rattle.vt_format.specs.declared.index.IndexError.TheVariants.{Fault, Refused
 use Rattle.vt_format.specs.Index.{AreArenasLeft, ArePutToUse, IndexFails, FindsFault, IndexesArenas, IsPartLeft, HasNoFault, StopsIndex, LeavesThere, files_behind}
 use Rattle.vt_format.specs.Opening.{FindsArenas, IsOpenedAs, RefusesArenaPart, RefusesDisk}
 use Rattle.vt_format.proofs.ArenaLevels.{as_many, disks_more, finds_among, front_left, last_left, left_part, stays_part}
-use Rattle.vt_format.proofs.Failing.{failed_here, later}
+use Rattle.vt_format.proofs.Failing.{failed_here, later, missing_here}
 use Rattle.vt_format.proofs.Finding.{finds_arenas}
 use Rattle.vt_format.proofs.Levels.{answers, leaves_becomes, put_rest, stays_read, stopped_still}
 use Rattle.vt_format.proofs.Rounds.{Round, again, new_is, old_is, round}
@@ -52,7 +52,7 @@ module _ {D : Type 0} (disk : DiskOf D) (told : Type 0) (conf : Conf) (file : Pa
     sections = tt;
     found = λ yes tells. tt;
     differs = tt;
-    cause = inr (inl (rose, omega (arith, number_is), omega (arith, number_is)));
+    cause = inr (inl (rose, missing_here told (length ps) file (rest ++ files_behind conf) s0 s1 others number number_is));
     none = tt;
     back = λ yes n. leaves_failed disk (Some number) (s0 n) (s1 n) (all_stay disk file.name s0 s1 (here yes) (others yes) n);
     stays = λ yes n no. all_stay disk file.name s0 s1 (here yes) (others yes) n;
@@ -235,6 +235,6 @@ module _ {D : Type 0} (disk : DiskOf D) (told : Type 0) (conf : Conf) (file : Pa
             as_many_parts bad
             (subst (λ (ds : List D). FindsFault disk ds (disks_of qs ++ disk_of q ∷ []) bad) (disks_more ps p)
             (subst (λ (ds : List D). FindsFault disk (disks_of (ps ++ p ∷ [])) ds bad) (disks_more qs q) here.1))))
-            (λ behind. inr (later disk told (length ps) file (rest ++ files_behind conf) s0 s1 s2 s3 was_there becomes_there bad f0 f1 f2 f3 first last
+            (λ behind. inr (later disk told (length ps) file (rest ++ files_behind conf) s0 s1 s2 s3 d e it bad f0 f1 f2 f3 first last
             (subst (λ (k : ℕ). IndexFails disk told k (rest ++ files_behind conf) s1 s2 f1 f2 bad) many behind)))
             why

@@ -16,7 +16,7 @@ use Rattle.vt_format.specs.declared.index.IndexError.TheVariants.{Fault, Refused
 use Rattle.vt_format.specs.Index.{AnswersFor, IndexFails, IndexesSections, IsStoppedAmong, LeavesOpened, StopsIndex, listed}
 use Rattle.vt_format.specs.Opening.{FindsFilter, NamesCause, RefusesDisk, RefusesFilter}
 use Rattle.vt_format.specs.Usage.{total_buckets}
-use Rattle.vt_format.proofs.Failing.{failed_here}
+use Rattle.vt_format.proofs.Failing.{failed_here, missing_here}
 use Rattle.vt_format.proofs.Levels.{stays_read}
 use Rattle.vt_format.proofs.Rounds.{Round}
 use Rattle.vt_format.proofs.SectionLevel.{all_stay, leaves_failed, leaves_same, read_leaves, read_stays, stays_same}
@@ -118,7 +118,9 @@ module _ {D : Type 0} (disk : DiskOf D) (told : Type 0) (conf : Conf) (number : 
     sections = tt;
     found = λ yes tells. tt;
     differs = tt;
-    cause = inr (inl (rose, omega (arith, number_is), (let one : length (listed conf.filter) ≡ 1 = ap (λ (o : Option PartFile). length (listed o)) is in omega (arith, number_is, one))));
+    cause = inr (subst (λ (o : Option PartFile). IndexFails disk told (length conf.arenas.items + length os) (listed o) s0 s1 f0 f1 (Fault (Some number)))
+        (sym is)
+        (inl (rose, missing_here told (length conf.arenas.items + length os) file [] s0 s1 others number number_is)));
     none = tt;
     back = λ yes n. leaves_failed disk (Some number) (s0 n) (s1 n) (all_stay disk file.name s0 s1 (here yes) (others yes) n);
     stays = λ yes n no. all_stay disk file.name s0 s1 (here yes) (others yes) n;

@@ -17,7 +17,7 @@ use Rattle.vt_format.specs.declared.index.IndexError.TheVariants.{Fault, Refused
 use Rattle.vt_format.specs.Index.{ArePutToUse, IndexFails, IndexesSections, IsPartLeft, HasNoFault, IsStoppedAmong, LeavesOpened, StopsSection, StopsSections, StopsIndex, LeavesThere, PutsSectionToUse, listed}
 use Rattle.vt_format.specs.Opening.{FindsSections, IsOpenedSection, RefusesDisk, RefusesSection}
 use Rattle.vt_format.specs.Usage.{total_buckets}
-use Rattle.vt_format.proofs.Failing.{failed_here, later}
+use Rattle.vt_format.proofs.Failing.{failed_here, later, missing_here}
 use Rattle.vt_format.proofs.Finding.{finds_sections}
 use Rattle.vt_format.proofs.Levels.{answers, leaves_becomes, leaves_section, left_one, put, put_rest, stays_read, stopped_among, stopped_here, stopped_rest}
 use Rattle.vt_format.proofs.Opened.{LeavesOne, split}
@@ -89,7 +89,7 @@ module _ {D : Type 0} (disk : DiskOf D) (told : Type 0) (conf : Conf) (file : Pa
     sections = tt;
     found = λ yes tells. tt;
     differs = tt;
-    cause = inr (inl (rose, omega (arith, number_is), omega (arith, number_is)));
+    cause = inr (inl (rose, missing_here told (length conf.arenas.items + length os) file (rest ++ listed conf.filter) s0 s1 others number number_is));
     none = tt;
     back = λ yes n. leaves_failed disk (Some number) (s0 n) (s1 n) (all_stay disk file.name s0 s1 (here yes) (others yes) n);
     stays = λ yes n no. all_stay disk file.name s0 s1 (here yes) (others yes) n;
@@ -282,6 +282,6 @@ module _ {D : Type 0} (disk : DiskOf D) (told : Type 0) (conf : Conf) (file : Pa
             (stopped_among (length conf.arenas.items) (length os) bad
             (subst (λ (k : ℕ). IsStoppedAmong (length conf.arenas.items) k bad) (length-append os (o ∷ [])) here.1)))
             (λ behind. inr (later disk told (length conf.arenas.items + length os) file (rest ++ listed conf.filter) s0 s1 s2 s3
-            was_there becomes_there bad f0 f1 f2 f3 first last
+            d e it bad f0 f1 f2 f3 first last
             (subst (λ (k : ℕ). IndexFails disk told k (rest ++ listed conf.filter) s1 s2 f1 f2 bad) many behind)))
             why

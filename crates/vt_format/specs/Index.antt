@@ -1,6 +1,6 @@
 -- What formatting an index does to the partitions that a configuration names (venti(8), fmtindex).
-use Rattle.std.specs.Prelude.{ℕ, ◌≡◌, ◌⊎◌, ⊤, ◌+◌, ◌*◌, ◌<◌, ◌≤◌, IsTrue, Option, Some, None, Result, Ok, Err, List, [], ◌∷◌, ◌++◌, length, map, slice_get, IfErr, IfOk, OnOk}
-use Rattle.std.specs.List.{Contains}
+use Rattle.std.specs.Prelude.{ℕ, ◌≡◌, ◌≢◌, ◌⊎◌, ⊤, ◌+◌, ◌*◌, ◌<◌, ◌≤◌, IsTrue, Option, Some, None, Result, Ok, Err, List, [], ◌∷◌, ◌++◌, length, map, slice_get, IfErr, IfOk, OnOk}
+use Rattle.std.specs.List.{All, AllPairs, Contains}
 use Rattle.vt_base.specs.Faults.{HasRisen}
 use Rattle.vt_base.specs.declared.mount.MountBad.{MountBad}
 use Rattle.vt_base.specs.declared.mount.MountBad.TheVariants.{NoMemory}
@@ -157,14 +157,29 @@ pub record FailsAt {D : Type 0} (disk : DiskOf D) (told : Type 0) (number : ℕ)
   pub was : told → old file.name ≡ there before
   pub is : told → new file.name ≡ there after
 
--- What failed: the partition with this number wasn't handed out, and the count of that rose, or a
--- call of it did.
+-- The partition with this number is the first of these files that wasn't handed out, where they are
+-- counted from `number` on. Those in front of it were: each stood there, under a name of its own.
+-- Those behind it weren't asked for: under all other names stands what stood there.
+pub record IsFirstMissing {D : Type 0} (told : Type 0) (number : ℕ) (files : List PartFile)
+    (old new : List ℕ → Standing D) (part : ℕ) : Type 0 where
+  pub front : List PartFile
+  pub file : PartFile
+  pub behind : List PartFile
+  pub files_are : files ≡ front ++ file ∷ behind
+  pub part_is : part ≡ number + length front
+  pub handed : told → All (λ one. (device : D) × (old one.name ≡ there device)) front
+  pub apart : told → AllPairs (λ a b. a.name ≢ b.name) front
+  pub others : told → (name : List ℕ)
+      → ¬ Contains (map (λ one. one.name) (front ++ file ∷ [])) name → new name ≡ old name
+
+-- What failed: the partition with this number is the first that wasn't handed out, and the count of
+-- that rose, or a call of it did.
 abbrev pub IndexFails : {D : Type 0} → DiskOf D → (told : Type 0) → (number : ℕ) → List PartFile
     → (old new : List ℕ → Standing D) → (faults faults' : ℕ) → IndexError → Type 0
 IndexFails disk told number files old new faults faults' (Fault None) =
     (faults' ≡ faults) × (part : ℕ) × FailsAt disk told number files old new part
 IndexFails disk told number files old new faults faults' (Fault (Some part)) =
-    (HasRisen faults faults' × (number ≤ part) × (part < number + length files))
+    (HasRisen faults faults' × IsFirstMissing told number files old new part)
     ⊎ ((faults' ≡ faults) × FailsAt disk told number files old new part)
 IndexFails disk told number files old new faults faults' (Refused bad) = faults' ≡ faults
 IndexFails disk told number files old new faults faults' (Stopped part) =

@@ -224,7 +224,7 @@ const MADE: [Making<'static>; 5] = [
 ];
 
 /// A configuration, and what its index then is, or what it is refused for, which is found first.
-const CASES: [(&[u8], Result<Index, IndexError>); 10] = [
+const CASES: [(&[u8], Result<Index, IndexError>); 11] = [
     (
         b"arenas a\nisect i\nisect j\nbloom b\n",
         Ok(Index {
@@ -242,6 +242,11 @@ const CASES: [(&[u8], Result<Index, IndexError>); 10] = [
     (
         b"arenas a\nisect x\n",
         Err(IndexError::Fault { part: Some(1) }),
+    ),
+    // (behind a healthy one, and in front of two)
+    (
+        b"arenas a\nisect i\nisect x\nisect j\nbloom b\n",
+        Err(IndexError::Fault { part: Some(2) }),
     ),
     (
         b"arenas a\narenas a\nisect i\n",
