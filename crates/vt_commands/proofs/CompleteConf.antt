@@ -3,13 +3,11 @@ use Rattle.std.proofs.Common.{◌≡◌, ◌⊎◌, ⊎_elim, ℕ, List, Option,
 use Rattle.std.specs.Prelude.{IsTrue}
 use Rattle.std.specs.Option.{option_to_list}
 use Rattle.vt_base.specs.declared.mount.MountBad.{MountBad}
-use Rattle.vt_base.specs.declared.mount.MountBad.TheVariants as mount_bad
 use Rattle.vt_conf.specs.declared.conf.Conf.{Conf}
 use Rattle.vt_conf.specs.declared.conf.PartFile.{PartFile}
 use Rattle.vt_conf.specs.declared.error.ConfCause.{ConfCause}
 use Rattle.vt_conf.specs.Configuration.{Configures, IsFirstCause, SameConf}
 use Rattle.vt_disk.specs.Members.{DiskOf}
-use Rattle.vt_format.specs.Index.{files_in_order}
 use Rattle.vt_core.specs.Files.{PerDevice, all_of}
 use Rattle.vt_open.specs.declared.error.OpenError.{OpenError}
 use Rattle.vt_open.specs.declared.error.OpenError.TheVariants.{Missing, Refused}
@@ -20,7 +18,7 @@ use Rattle.run_base.specs.declared.error.CommandError.{CommandError}
 use Rattle.run_base.specs.declared.error.CommandError.TheVariants.{BadConf, DiskFault, FileFault, NoMemory}
 use Rattle.run_base.specs.Change.{FilesChange}
 use Rattle.run_base.specs.Unopened.{IsOpenRefusal}
-use Rattle.run_base.specs.Configurations.{IsRefusalAmong, IsWrong, ReadsNone}
+use Rattle.run_base.specs.Configurations.{IsWrong, ReadsNone}
 use Rattle.run_base.specs.Errors.{HasCauseIn}
 use Rattle.vt_commands.specs.HandedIn.{NoneFails}
 use Rattle.vt_commands.specs.Work.{Work, causes_of}
@@ -87,21 +85,14 @@ module _ {R K I P D N L : Type 0} (disk : DiskOf D) (work : Work R K I P D N L)
   no_disk_fault failure is cause = ⊎_elim fails.parts fails.disks
       (subst (λ (f : CommandError). HasCauseIn (causes_of disk work) (Err f)) is cause)
 
-  among_well : (file : List ℕ) (files : List PartFile) (bad : MountBad) (failure : CommandError)
-      → (bad ≡ mount_bad.Fault) ⊎ (bad ≡ mount_bad.NoMemory)
-      → IsRefusalAmong file files bad failure → HasCauseIn (causes_of disk work) (Err failure)
-      → failure ≡ NoMemory
-  among_well file files bad failure found told cause = ⊎_elim
-      (λ fault. absurd (no_disk_fault failure
-      (subst (λ (b : MountBad). IsRefusalAmong file files b failure) fault told) cause))
-      (λ memory. subst (λ (b : MountBad). IsRefusalAmong file files b failure) memory told)
-      found
-
   pub none_opened_well : (file : List ℕ) (conf : Conf) (bad : OpenError) (failure : CommandError)
       → IsFaultOrMemory bad → IsOpenRefusal file conf bad failure
       → HasCauseIn (causes_of disk work) (Err failure) → failure ≡ NoMemory
   none_opened_well file conf (Missing part) failure found told cause =
       absurd (no_disk_fault failure told cause)
   none_opened_well file conf (Refused bad) failure found told cause = ⊎_elim
-      (λ among. among_well file (files_in_order conf) bad failure found among cause)
-      (λ memory. memory) told
+      (λ fault. ⊎_elim (λ among. absurd (no_disk_fault failure among cause)) (λ memory. memory)
+      (subst (λ (b : MountBad). IsOpenRefusal file conf (Refused b) failure) fault told))
+      (λ short. ⊎_elim (λ among. among) (λ memory. memory)
+      (subst (λ (b : MountBad). IsOpenRefusal file conf (Refused b) failure) short told))
+      found

@@ -4,3 +4,4 @@ pub mod Answered
 pub mod Complete
 pub mod DidTells
 pub mod Only
+pub mod Seen

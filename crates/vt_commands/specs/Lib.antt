@@ -1,4 +1,5 @@
 pub mod Answers
 pub mod HandedIn
 pub mod Run
+pub mod Seen
 pub mod Work

@@ -7,13 +7,14 @@ use Rattle.vt_cli.specs.declared.asked.Asked.TheVariants.{Do, Help, Version, Fau
 use Rattle.vt_cli.specs.declared.command.Command.{Command}
 use Rattle.vt_cli.specs.declared.command.Command.TheVariants.{Session, FormatArenas, FormatSection, FormatFilter, FormatIndex, RebuildIndex, CheckArenas, Read, Write, Rehearse, Vac, View}
 use Rattle.vt_cli.specs.Words.{Asks}
-use Rattle.run_base.specs.Change.{AreUnused, StreamChange, FoldersChange, Attempts}
+use Rattle.run_base.specs.Change.{AreUnused, StreamChange, FoldersChange, Attempts, sink_change}
 use Rattle.run_base.specs.Errors.{CommandOutcome, status_of, outcome_line, HasCauseIn}
 use Rattle.run_base.specs.Formatting.{Prints}
-use Rattle.run_base.specs.Members.{LinkOf}
+use Rattle.run_base.specs.Members.{SourceOf, SinkOf, FilesOf, PartsOf, FoldersOf, DialerOf, LinkOf}
 use Rattle.run_base.specs.Places.{EndsIdle}
 use Rattle.run_base.specs.Said.{Said}
 use Rattle.run_base.specs.declared.error.CommandError.TheVariants.{BadWords, NoMemory}
+use Rattle.run_base.specs.declared.host.Outside.{Outside}
 use Rattle.run_stores.specs.Buildindex.{DoesBuildindex}
 use Rattle.run_stores.specs.Checkarenas.{DoesCheckarenas}
 use Rattle.run_stores.specs.Fmtarenas.{DoesFmtarenas}
@@ -26,7 +27,7 @@ use Rattle.run_sessions.specs.SessionAt.{DoesSessionAt}
 use Rattle.run_archives.specs.Vac.{DoesVac}
 use Rattle.run_archives.specs.Vacfs.{DoesVacfs}
 use Rattle.run_sessions.specs.Write.{DoesWrite}
-use Rattle.vt_commands.specs.Work.{IsIdle, NoFolder, NoSource, OnlyParts, OnlyReading, OnlyServing, OnlySink, OnlyStore, Work, causes_of}
+use Rattle.vt_commands.specs.Work.{IsIdle, NoFolder, NoSource, OnlyParts, OnlyReading, OnlyServing, OnlySink, OnlyStore, Work, causes_of, work_of}
 
 -- What a command did with what it is lent, and that nothing else was touched. The time at which a folder
 -- is archived is tied to no clock.
@@ -127,3 +128,12 @@ pub record Did {R K F I P D N L : Type 0} (disk : DiskOf D) (link : LinkOf L)
   pub does : DoesWords disk link score words preface outcome work
   pub folders : OnlyForArchives words work.folders
   pub complained : Attempts complaint (preface ++ outcome_line outcome)
+
+-- The same of what a run is lent, but for the clock and the terminal, from before it to behind it, by the
+-- members of that.
+abbrev pub Ran : {R K F I P D G E N L C T : Type 0} → SourceOf R → SinkOf K → SinkOf F → FilesOf I
+    → PartsOf P D → FoldersOf G E → DialerOf N L → DiskOf D → LinkOf L → (score : List ℕ → List ℕ)
+    → (words : List (List ℕ)) → (status : ℕ) → (before after : Outside R K F I P N G C T) → Type 0
+Ran source sink fault_sink files parts folders dialer disk link score words status before after =
+    Did disk link score words status (work_of source sink files parts folders dialer link before after)
+    (sink_change fault_sink before.fault_sink after.fault_sink)

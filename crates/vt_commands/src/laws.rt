@@ -1,6 +1,7 @@
 //! What a run tells, word by word and status by status.
 
-ghost use Rattle.std.specs.Prelude.{◌≡◌, ◌≢◌, ◌⊎◌, ◌++◌, ◌&&◌, ℕ, List, [], ◌∷◌, IsTrue, Err, Result, codes};
+ghost use Rattle.sha1.specs.Sha1.{sha1};
+ghost use Rattle.std.specs.Prelude.{◌≡◌, ◌≢◌, ◌⊎◌, ◌++◌, ◌&&◌, ℕ, List, [], ◌∷◌, IsTrue, Option, Err, Result, codes};
 ghost use Rattle.vt_base.specs.Faults.{HasRisen};
 ghost use Rattle.vt_cli.specs.declared.command.Command.{Command};
 ghost use Rattle.vt_base.specs.Protocol.{read, write};
@@ -35,15 +36,17 @@ ghost use Rattle.run_base.specs.Formatting.{RefusesWord};
 ghost use Rattle.run_base.specs.Errors.{CommandOutcome, HaveFailed, PartHasFailed, HasLinkFailed, status_of, line};
 ghost use Rattle.run_base.specs.Places.{EndsIdle, NamesFile, in_memory};
 ghost use Rattle.vt_commands.specs.HandedIn.{IsWellHandedIn, NoneFails};
-ghost use Rattle.vt_commands.specs.Run.{Did, DoesCommand};
+ghost use Rattle.vt_commands.specs.Run.{Did, DoesCommand, Ran};
+ghost use Rattle.vt_commands.specs.Seen.{RunTells, seen_of};
 ghost use Rattle.vt_commands.specs.Work.{IsIdle, Work};
+ghost use Rattle.run_base.specs.declared.host.Outside.{Outside};
 ghost use Rattle.run_base.specs.Served.{InputEndsWell};
 
 use vac_store::stores_keep_archives;
 use vt_conf::laws::configurations_have_one_meaning;
 use vt_dial::Dialer;
 use vt_open::{devices_have_names, opened_stores_recall, refused_stores_stand, shapes_are_kept};
-use vt_out::{Files, Sink, Source};
+use vt_out::{Files, Folders, Sink, Source};
 use vt_partitions::Parts;
 use vt_use::{
     local_refusals_have_causes, sessions_end_well, sessions_leave_all, sound_stores_need_memory,
@@ -110,6 +113,20 @@ pub fn did_tells<R: Source, K: Sink, F: Sink, I: Files, P: Parts, N: Dialer>()
         → ¬ HasRisen work.sink.faults work.sink.faults'
         → (status ≡ 0) ⊎ (status ≡ 8) }
 {}
+
+/// What follows from `did`, the clause of `run`, of the bytes that what is lent tells: of those that came in and
+/// went out, of what stands under names, and of what became of a link.
+pub fn runs_are_seen<R: Source, K: Sink, F: Sink, I: Files, P: Parts, N: Dialer, G: Folders, C, T>()
+    ensures { (words : List (List ℕ)) (status : ℕ) (before after : Outside R K F I P N G C T)
+        (holds : List ℕ → Option (List ℕ))
+        → Ran R.Source K.Sink F.Sink I.Files P.Parts G.Folders N.Dialer P.Disk.Disk N.Link.Link sha1
+        words status before after
+        → ((name : List ℕ) → IsTrue I.tells → I.content before.files name ≡ holds name)
+        → RunTells N.Link.Link words status (seen_of R.Source K.Sink F.Sink I.Files N.Dialer holds
+        before after) }
+{
+    did_tells::<R, K, F, I, P, N>();
+}
 
 /// What a session over the store of a configuration promises, where all that is handed in tells what
 /// it holds, and every combination of the partitions' images stands for a prefix of one legal

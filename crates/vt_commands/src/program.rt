@@ -5,7 +5,7 @@ ghost use Rattle.std.specs.Prelude.{◌≡◌, ℕ, List, map, OnErr, OnOk};
 ghost use Rattle.run_base.specs.Change.{Attempts, sink_change};
 ghost use Rattle.run_base.specs.Errors.{status_of, outcome_line};
 ghost use Rattle.run_base.specs.Said.{Said};
-ghost use Rattle.vt_commands.specs.Run.{Did, DoesWords, SaysAndDoes};
+ghost use Rattle.vt_commands.specs.Run.{DoesWords, Ran, SaysAndDoes};
 ghost use Rattle.vt_commands.specs.Work.{work_of};
 
 use run_archives::{vac, vacfs};
@@ -52,10 +52,8 @@ pub fn run<
     words: &[W],
     host: &mut Outside<R, K, F, I, P, N, G, C, T>,
 ) -> u8
-    ensures did { Did P.Disk.Disk N.Link.Link sha1 (map W.text words.now) result
-        (work_of R.Source K.Sink I.Files P.Parts G.Folders N.Dialer
-        N.Link.Link host.old host.new)
-        (sink_change F.Sink host.old.fault_sink host.new.fault_sink) }
+    ensures did { Ran R.Source K.Sink F.Sink I.Files P.Parts G.Folders N.Dialer P.Disk.Disk
+        N.Link.Link sha1 (map W.text words.now) result host.old host.new }
 {
     run_with(rt, alloc, words, host, &Sha1Scorer)
 }
@@ -80,10 +78,8 @@ pub fn run_with<
     host: &mut Outside<R, K, F, I, P, N, G, C, T>,
     scorer: &S,
 ) -> u8
-    ensures did { Did P.Disk.Disk N.Link.Link S.score_of (map W.text words.now) result
-        (work_of R.Source K.Sink I.Files P.Parts G.Folders N.Dialer
-        N.Link.Link host.old host.new)
-        (sink_change F.Sink host.old.fault_sink host.new.fault_sink) }
+    ensures did { Ran R.Source K.Sink F.Sink I.Files P.Parts G.Folders N.Dialer P.Disk.Disk
+        N.Link.Link S.score_of (map W.text words.now) result host.old host.new }
 {
     let (said, outcome) = do_words(rt, alloc, words, host, scorer);
     end(&mut host.fault_sink, said, &outcome)

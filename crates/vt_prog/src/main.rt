@@ -1,15 +1,16 @@
 //! The program: a Venti server and its tools (venti(8)).
 #![tactic(auto)]
 
-ghost use Rattle.std.specs.Prelude.{◌≡◌, drop};
+pub mod laws;
+mod program;
 
+use crate::program::program;
 use run_base::{CommandError, Outside};
 use std::alloc::Global;
 use std::env;
 use std::io::{ErrorKind, IsTerminal, Stderr};
 use std::process::ExitCode;
 use std::rt::Env;
-use vt_commands::{end, run};
 use vt_handler::Streams;
 use vt_host::{
     Erasing, FileParts, StdClock, StdDialer, StdFiles, StdFolders, StdSink, StdSource, System,
@@ -17,10 +18,10 @@ use vt_host::{
 };
 use vt_told::{ErrorLines, Told, ToldAs, ToldNet};
 
-/// Hands the system's streams, files, folders, connections and clock to `run` of `vt_commands`, and
-/// ends by the status that it tells. Each call of theirs that fails is told on standard error, but
-/// for those of standard error itself, of the clock by which a terminal is shown lines, and of the
-/// files that name users and groups, which a system may lack.
+/// Hands the system's streams, files, folders, connections and clock to `program`, and ends by the
+/// status that it tells. Each call of theirs that fails is told on standard error, but for those of
+/// standard error itself, of the clock by which a terminal is shown lines, and of the files that name
+/// users and groups, which a system may lack.
 fn main(rt: HostRuntime) -> ExitCode {
     let alloc = rt.alloc();
     let errors = Erasing::new(System(rt.stderr()), rt.stderr().is_terminal());
@@ -38,10 +39,7 @@ fn main(rt: HostRuntime) -> ExitCode {
         clock: StdClock(ToldAs::new(System(rt), alloc, "the clock", lines)),
         terminal: terminal(rt),
     };
-    ExitCode::from(match arguments(&rt) {
-        Ok(args) => run(&rt, rt.alloc(), words_of(&args), &mut host),
-        Err(failure) => end(&mut host.fault_sink, Ok(()), &Err(failure)),
-    })
+    ExitCode::from(program(&rt, alloc, arguments(&rt), &mut host))
 }
 
 /// Standard error, if it is a terminal.
@@ -60,15 +58,5 @@ fn arguments(rt: &(impl Env + AllocGlobal)) -> Result<Vec<String>, CommandError>
         Ok(args) => args.collect(rt.alloc()).map_err(|_| CommandError::NoMemory),
         Err(error) if error.kind() == ErrorKind::OutOfMemory => Err(CommandError::NoMemory),
         Err(_) => Err(CommandError::BadWords),
-    }
-}
-
-/// The words behind the program's name.
-fn words_of(args: &[String]) -> &[String]
-    ensures { result.now ≡ drop 1 args.now }
-{
-    match args {
-        [_, behind @ ..] => behind,
-        [] => args,
     }
 }
